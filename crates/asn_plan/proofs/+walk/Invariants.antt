@@ -1,0 +1,69 @@
+use Rattle.std.proofs.Common.{◌≡◌, ◌+◌, ◌*◌, length, drop}
+use Rattle.asn_values.specs.Profile.{InProfile}
+use Rattle.asn_values.specs.Shape.{Shape}
+use Rattle.asn_rules.specs.Languages.{Row}
+use Rattle.asn_walk.specs.Reading.{ValuesOf}
+use Rattle.asn_plan.specs.Plans.{IsPlan, BuildsRow}
+use Rattle.asn_plan.proofs.Rows.{ListedUpTo}
+use Rattle.asn_plan.proofs.Additions.{AddedUpTo}
+use Rattle.asn_plan.proofs.Building.{BuiltUpTo}
+use Rattle.asn_plan.proofs.+walk.Given as goal
+
+abbrev pub decreases-walk::build_at : goal.decreases-walk::build_at
+decreases-walk::build_at g l = 8 * length l.nodes.now + 1
+
+abbrev pub decreases-components::build_component : goal.decreases-components::build_component
+decreases-components::build_component g l = 8 * length l.nodes.now + 2
+
+abbrev pub decreases-components::build_components : goal.decreases-components::build_components
+decreases-components::build_components g l = 8 * length l.nodes.now + 3
+
+abbrev pub decreases-components::build_sequence : goal.decreases-components::build_sequence
+decreases-components::build_sequence g l = 8 * length l.nodes.now
+
+abbrev pub invariant-components::build_components-loop-part : goal.invariant-components::build_components-loop-part
+invariant-components::build_components-loop-part g l =
+    BuiltUpTo g.R.ReadLeaves.rules (g.B.Build.listed l.entries) l.nodes l.parts (drop l.part-index l.parts) l.fn.presence.left l.fn.presence.bitmap l.presence.left (g.R.ReadLeaves.rules.to_units l.fn.units) (g.R.ReadLeaves.rules.to_units l.units)
+    × (l.presence.bitmap ≡ l.fn.presence.bitmap) × g.R.ReadLeaves.rules.at_unit l.units
+
+abbrev pub decreases-lists::build_list : goal.decreases-lists::build_list
+decreases-lists::build_list g l = 8 * length l.nodes.now
+
+abbrev pub decreases-lists::build_fragments : goal.decreases-lists::build_fragments
+decreases-lists::build_fragments g l = 8 * length l.nodes.now + 3
+
+abbrev pub decreases-lists::build_elements : goal.decreases-lists::build_elements
+decreases-lists::build_elements g l = 8 * length l.nodes.now + 2
+
+abbrev pub invariant-lists::build_elements-loop-i : goal.invariant-lists::build_elements-loop-i
+invariant-lists::build_elements-loop-i g l =
+    ((t : Shape) → InProfile t → IsPlan l.nodes t l.kind → BuildsRow g.R.ReadLeaves.rules (g.B.Build.rowed l.fn.row) (g.B.Build.rowed l.row) (Row (ValuesOf g.R.ReadLeaves.rules t) l.i) (g.R.ReadLeaves.rules.to_units l.fn.units) (g.R.ReadLeaves.rules.to_units l.units))
+    × g.R.ReadLeaves.rules.at_unit l.units
+
+abbrev pub invariant-lists::build_fragments-loop-i : goal.invariant-lists::build_fragments-loop-i
+invariant-lists::build_fragments-loop-i g l =
+    ((t : Shape) → InProfile t → IsPlan l.nodes t l.kind → ListedUpTo g.R.ReadLeaves.rules (g.B.Build.rowed l.row) t (g.R.ReadLeaves.ahead l.fn.fragments) (g.R.ReadLeaves.rules.to_units l.fn.units) (g.R.ReadLeaves.ahead l.fragments) (g.R.ReadLeaves.rules.to_units l.units))
+    × g.R.ReadLeaves.is_between l.fragments × g.R.ReadLeaves.rules.at_unit l.units
+
+abbrev pub decreases-choices::build_choice : goal.decreases-choices::build_choice
+decreases-choices::build_choice g l = 8 * length l.nodes.now
+
+abbrev pub decreases-open::build_complete : goal.decreases-open::build_complete
+decreases-open::build_complete g l = 8 * length l.nodes.now + 2
+
+abbrev pub decreases-open::build_open : goal.decreases-open::build_open
+decreases-open::build_open g l = 8 * length l.nodes.now + 3
+
+abbrev pub decreases-components::build_addition : goal.decreases-components::build_addition
+decreases-components::build_addition g l = 8 * length l.nodes.now + 4
+
+abbrev pub decreases-components::build_open_fields : goal.decreases-components::build_open_fields
+decreases-components::build_open_fields g l = 8 * length l.nodes.now + 5
+
+abbrev pub decreases-components::build_additions : goal.decreases-components::build_additions
+decreases-components::build_additions g l = 8 * length l.nodes.now + 6
+
+abbrev pub invariant-components::build_open_fields-loop-part : goal.invariant-components::build_open_fields-loop-part
+invariant-components::build_open_fields-loop-part g l =
+    AddedUpTo g.R.ReadLeaves.rules (g.B.Build.listed l.fn.entries) (g.B.Build.listed l.entries) l.nodes l.parts (drop l.part-index l.parts) l.fn.presence.left l.fn.presence.bitmap l.presence.left (g.R.ReadLeaves.rules.to_units l.fn.units) (g.R.ReadLeaves.rules.to_units l.units)
+    × (l.presence.bitmap ≡ l.fn.presence.bitmap) × g.R.ReadLeaves.rules.at_unit l.units

@@ -1,0 +1,9 @@
+pub mod Additions
+pub mod Alternatives
+pub mod Building
+pub mod Entries
+pub mod Growing
+pub mod LeafTypes
+pub mod Messages
+pub mod NodeKinds
+pub mod Rows

@@ -1,0 +1,65 @@
+//! The walk of a plan in the alternatives of a CHOICE.
+ghost use Rattle.std.specs.Prelude.{◌≡◌, IfSome, IsSome};
+ghost use Rattle.asn_values.specs.Profile.{InProfile};
+ghost use Rattle.asn_values.specs.Shape.{Shape};
+ghost use Rattle.asn_plan.specs.declared.plan.Kind.TheVariants as kind;
+ghost use Rattle.asn_plan.specs.Plans.{IsPlan, Builds};
+
+use crate::build::Build;
+use crate::leaves::are_few;
+use crate::open::build_open;
+use crate::plan::{AlternativeRows, Node};
+use crate::walk::build_at;
+use asn_bits::BitCursor;
+use asn_walk::{Index, ReadLeaves};
+use std::alloc::Global;
+
+/// What is built of the CHOICE with which the units begin, and which is taken.
+#[inline(never)]
+#[cycle(walk)]
+pub(crate) fn build_choice<R: ReadLeaves, B: Build>(
+    alloc: Global,
+    nodes: &[Node],
+    parts: &AlternativeRows,
+    units: &mut BitCursor<'_>,
+) -> Option<B::Part>
+    requires at_unit { R.rules.at_unit units.old }
+    ensures at_unit { IsSome result → R.rules.at_unit units.new }
+    ensures some { IfSome result (λ p. (t : Shape) → InProfile t → IsPlan nodes.now t (kind.Choice parts.now)
+        → Builds R.rules B.built t p units.old units.new) }
+{
+    R::keep_laws();
+    if parts.begin >= parts.end || parts.end > nodes.len() {
+        return None;
+    }
+    if parts.begin > parts.middle || parts.middle > parts.end {
+        return None;
+    }
+    let before = &nodes[..parts.begin];
+    let root = &nodes[parts.begin..parts.middle];
+    let added = &nodes[parts.middle..parts.end];
+    if !are_few(root.len(), parts.additions) {
+        return None;
+    }
+    let Ok(index) = R::read_index(root.len(), parts.additions, units) else {
+        return None;
+    };
+    match index {
+        Index::Root(place) => {
+            if place >= root.len() {
+                return None;
+            }
+            let part = build_at::<R, B>(alloc, before, &root[place].kind, units)?;
+            let chosen = B::choice(alloc, place, part)?;
+            Some(chosen)
+        }
+        Index::Added(place) => {
+            if place >= added.len() || place > 63 {
+                return None;
+            }
+            let part = build_open::<R, B>(alloc, before, &added[place].kind, units)?;
+            let chosen = B::choice(alloc, root.len() + place, part)?;
+            Some(chosen)
+        }
+    }
+}

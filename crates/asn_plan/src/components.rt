@@ -1,0 +1,239 @@
+//! The walk of a plan in the components of a SEQUENCE.
+ghost use Rattle.std.specs.Prelude.{◌≡◌, ◌≤◌, ◌++◌, IfSome, IsSome, List, Option, length};
+ghost use Rattle.asn_values.specs.Datum.{Datum};
+ghost use Rattle.asn_values.specs.Parts.{AreOfProfile};
+ghost use Rattle.asn_values.specs.Profile.{InProfile};
+ghost use Rattle.asn_values.specs.Shape.{Shape, Fields, demands};
+ghost use Rattle.asn_bits.specs.Numbers.{bits};
+ghost use Rattle.asn_rules.specs.Listed.{bitmap_length};
+ghost use Rattle.asn_walk.specs.Coding.{OpenListed, AdditionsOf};
+ghost use Rattle.asn_plan.specs.declared.plan.Kind.TheVariants as kind;
+ghost use Rattle.asn_plan.specs.Plans.{IsPlan, ArePlans, Builds, BuildsEntry, BuildsComponents, BuildsMore, BuildsAddition, absents};
+
+use crate::build::Build;
+use crate::copies::copy_default;
+use crate::leaves::read_other;
+use crate::open::build_open;
+use crate::plan::{ComponentRows, Node, Presence};
+use crate::walk::build_at;
+use asn_bits::BitCursor;
+use asn_walk::{PresenceBits, ReadLeaves};
+use std::alloc::Global;
+
+/// What is built of the SEQUENCE with which the units begin, and which is taken.
+#[inline(never)]
+#[cycle(walk)]
+pub(crate) fn build_sequence<R: ReadLeaves, B: Build>(
+    alloc: Global,
+    nodes: &[Node],
+    parts: &ComponentRows,
+    units: &mut BitCursor<'_>,
+) -> Option<B::Part>
+    requires at_unit { R.rules.at_unit units.old }
+    ensures at_unit { IsSome result → R.rules.at_unit units.new }
+    ensures some { IfSome result (λ p. (t : Shape) → InProfile t → IsPlan nodes.now t (kind.Sequence parts.now)
+        → Builds R.rules B.built t p units.old units.new) }
+{
+    R::keep_laws();
+    if parts.begin >= parts.end || parts.end > nodes.len() {
+        return None;
+    }
+    if parts.begin > parts.middle || parts.middle > parts.end || parts.width > 64 {
+        return None;
+    }
+    let before = &nodes[..parts.begin];
+    let root = &nodes[parts.begin..parts.middle];
+    let added = &nodes[parts.middle..parts.end];
+    let Ok(preamble) = R::read_preamble(parts.width, parts.additions, units) else {
+        return None;
+    };
+    let presence = PresenceBits {
+        bitmap: preamble.bitmap,
+        left: parts.width,
+    };
+    let room = parts.end - parts.begin;
+    let mut entries = build_components::<R, B>(alloc, before, root, presence, room, units)?;
+    if !preamble.extended {
+        add_absent::<B>(added, &mut entries)?;
+        return Some(B::sequence(entries));
+    }
+    build_additions::<R, B>(alloc, before, added, &mut entries, units)?;
+    Some(B::sequence(entries))
+}
+
+/// What is built of the components that the presence bits tell, with which the units begin, and which are taken, with
+/// room for this many entries.
+#[inline(always)]
+#[cycle(walk)]
+fn build_components<R: ReadLeaves, B: Build>(
+    alloc: Global,
+    nodes: &[Node],
+    parts: &[Node],
+    presence: PresenceBits,
+    room: usize,
+    units: &mut BitCursor<'_>,
+) -> Option<B::Entries>
+    requires at_unit { R.rules.at_unit units.old }
+    requires few { presence.left ≤ 64 }
+    ensures at_unit { IsSome result → R.rules.at_unit units.new }
+    ensures some { IfSome result (λ p. (root : Fields) → AreOfProfile root → ArePlans nodes.now parts.now root
+        → presence.left ≡ bitmap_length root
+        → BuildsComponents R.rules B.listed root presence.bitmap presence.left p units.old units.new) }
+{
+    let mut presence = presence;
+    let mut entries = B::entries(alloc, room)?;
+    for part in parts {
+        build_component::<R, B>(alloc, nodes, part, &mut presence, &mut entries, units)?;
+    }
+    Some(entries)
+}
+
+/// Adds the entry of a component, which is taken where the presence bits tell that it is there.
+#[inline(always)]
+#[cycle(walk)]
+fn build_component<R: ReadLeaves, B: Build>(
+    alloc: Global,
+    nodes: &[Node],
+    part: &Node,
+    presence: &mut PresenceBits,
+    entries: &mut B::Entries,
+    units: &mut BitCursor<'_>,
+) -> Option<()>
+    requires at_unit { R.rules.at_unit units.old }
+    requires few { presence.old.left ≤ 64 }
+    ensures at_unit { IsSome result → R.rules.at_unit units.new }
+    ensures bitmap { IsSome result → presence.new.bitmap ≡ presence.old.bitmap }
+    ensures some { IsSome result → BuildsEntry R.rules (B.listed entries.old) (B.listed entries.new) nodes.now part.now
+        presence.old.bitmap presence.old.left presence.new.left
+        (R.rules.to_units units.old) (R.rules.to_units units.new) }
+{
+    match &part.presence {
+        Presence::Must => {
+            let value = build_at::<R, B>(alloc, nodes, &part.kind, units)?;
+            B::present(entries, value)
+        }
+        Presence::Optional => {
+            if presence.left == 0 {
+                return None;
+            }
+            if !presence.next() {
+                return B::absent(entries);
+            }
+            let value = build_at::<R, B>(alloc, nodes, &part.kind, units)?;
+            B::present(entries, value)
+        }
+        Presence::Default(with_default) => {
+            if presence.left == 0 {
+                return None;
+            }
+            if !presence.next() {
+                let default = copy_default(&with_default.default)?;
+                return B::present(entries, B::value(default));
+            }
+            let value = read_other::<R>(with_default, units)?;
+            B::present(entries, B::value(value))
+        }
+    }
+}
+
+/// Adds the entries of extension additions, of which one at least is present, with whose presence bitmap the units
+/// begin, and which are taken.
+#[inline(always)]
+#[cycle(walk)]
+fn build_additions<R: ReadLeaves, B: Build>(
+    alloc: Global,
+    nodes: &[Node],
+    parts: &[Node],
+    entries: &mut B::Entries,
+    units: &mut BitCursor<'_>,
+) -> Option<()>
+    requires at_unit { R.rules.at_unit units.old }
+    ensures at_unit { IsSome result → R.rules.at_unit units.new }
+    ensures some { IsSome result → (fs : Fields) → AreOfProfile fs → ArePlans nodes.now parts.now fs
+        → BuildsMore R.rules (B.listed entries.old) (B.listed entries.new) (AdditionsOf R.rules fs)
+        (R.rules.to_units units.old) (R.rules.to_units units.new) }
+{
+    if parts.is_empty() || parts.len() > 64 {
+        return None;
+    }
+    let count = parts.len() as u32;
+    let Ok(bitmap) = R::read_addition_bitmap(count, units) else {
+        return None;
+    };
+    let presence = PresenceBits {
+        bitmap,
+        left: count,
+    };
+    build_open_fields::<R, B>(alloc, nodes, parts, presence, entries, units)
+}
+
+/// Adds the entries of extension additions that the presence bits tell, in whose open type fields the units begin, and
+/// which are taken.
+#[inline(always)]
+#[cycle(walk)]
+fn build_open_fields<R: ReadLeaves, B: Build>(
+    alloc: Global,
+    nodes: &[Node],
+    parts: &[Node],
+    presence: PresenceBits,
+    entries: &mut B::Entries,
+    units: &mut BitCursor<'_>,
+) -> Option<()>
+    requires at_unit { R.rules.at_unit units.old }
+    requires few { presence.left ≤ 64 }
+    ensures at_unit { IsSome result → R.rules.at_unit units.new }
+    ensures some { IsSome result → (fs : Fields) → AreOfProfile fs → ArePlans nodes.now parts.now fs
+        → presence.left ≡ length (demands fs)
+        → BuildsMore R.rules (B.listed entries.old) (B.listed entries.new)
+        (OpenListed R.rules fs (bits presence.left presence.bitmap))
+        (R.rules.to_units units.old) (R.rules.to_units units.new) }
+{
+    let mut presence = presence;
+    for part in parts {
+        build_addition::<R, B>(alloc, nodes, part, &mut presence, entries, units)?;
+    }
+    Some(())
+}
+
+/// Adds the entry of an extension addition, whose open type field is taken where its presence bit tells that it is
+/// there.
+#[inline(always)]
+#[cycle(walk)]
+fn build_addition<R: ReadLeaves, B: Build>(
+    alloc: Global,
+    nodes: &[Node],
+    part: &Node,
+    presence: &mut PresenceBits,
+    entries: &mut B::Entries,
+    units: &mut BitCursor<'_>,
+) -> Option<()>
+    requires at_unit { R.rules.at_unit units.old }
+    requires few { presence.old.left ≤ 64 }
+    ensures at_unit { IsSome result → R.rules.at_unit units.new }
+    ensures bitmap { IsSome result → presence.new.bitmap ≡ presence.old.bitmap }
+    ensures some { IsSome result → BuildsAddition R.rules
+        (B.listed entries.old) (B.listed entries.new) nodes.now part.now
+        presence.old.bitmap presence.old.left presence.new.left
+        (R.rules.to_units units.old) (R.rules.to_units units.new) }
+{
+    if presence.left == 0 {
+        return None;
+    }
+    if !presence.next() {
+        return B::absent(entries);
+    }
+    let value = build_open::<R, B>(alloc, nodes, &part.kind, units)?;
+    B::present(entries, value)
+}
+
+/// Adds the entry of an absent component for each of these.
+#[inline(always)]
+fn add_absent<B: Build>(parts: &[Node], entries: &mut B::Entries) -> Option<()>
+    ensures { IsSome result → (es : List (Option Datum)) → B.listed entries.old es
+        → B.listed entries.new (es ++ absents (length parts.now)) }
+{
+    for _ in parts {
+        B::absent(entries)?;
+    }
+    Some(())
+}

@@ -1,0 +1,25 @@
+//! A plan of a type: what its values' spelling is made of, worked out once, and the walk of the plan alone.
+#![tactic(auto)]
+
+mod build;
+mod choices;
+mod components;
+mod copies;
+mod leaves;
+mod lists;
+mod message;
+mod of;
+mod open;
+mod plan;
+mod planned;
+mod walk;
+
+pub use build::{Build, Nothing, Values};
+pub use message::build_octets;
+pub use of::plan_of;
+pub use plan::{
+    AlternativeRows, Between, ComponentRows, ElementRow, Kind, Leaf, Node, Plan, Presence,
+    WithDefault,
+};
+pub use planned::Planned;
+pub use walk::build_at;

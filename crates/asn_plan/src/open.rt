@@ -1,0 +1,66 @@
+//! The walk of a plan in complete encodings, and in the open type fields that hold them.
+ghost use Rattle.std.specs.Prelude.{◌≡◌, IfSome, IsSome};
+ghost use Rattle.asn_values.specs.Profile.{InProfile};
+ghost use Rattle.asn_values.specs.Shape.{Shape};
+ghost use Rattle.asn_plan.specs.Plans.{IsPlan, BuildsMessage, BuildsOpen};
+
+use crate::build::Build;
+use crate::plan::{Kind, Node};
+use crate::walk::build_at;
+use asn_bits::BitCursor;
+use asn_rules::laws::are_octets;
+use asn_walk::ReadLeaves;
+use asn_walk_read::{SHORT_OPEN_FIELD, read_open_octets};
+use std::alloc::Global;
+
+/// What is built of the value whose complete encoding the octets are.
+#[inline(always)]
+#[cycle(walk)]
+pub(crate) fn build_complete<R: ReadLeaves, B: Build>(
+    alloc: Global,
+    nodes: &[Node],
+    kind: &Kind,
+    octets: &[u8],
+) -> Option<B::Part>
+    ensures { IfSome result (λ p. (t : Shape) → InProfile t → IsPlan nodes.now t kind.now
+        → BuildsMessage R.rules.ruling B.built t p octets.now) }
+{
+    R::keep_laws();
+    are_octets(octets);
+    let mut units = BitCursor::over(octets);
+    let given = R::units_left(&units);
+    let part = build_at::<R, B>(alloc, nodes, kind, &mut units)?;
+    if R::units_left(&units) > given {
+        return None;
+    }
+    let Ok(()) = R::read_padding(given, &mut units) else {
+        return None;
+    };
+    if R::units_left(&units) > 0 {
+        return None;
+    }
+    Some(part)
+}
+
+/// What is built of the value in the open type field with which the units begin, and which is taken.
+#[inline(never)]
+#[cycle(walk)]
+pub(crate) fn build_open<R: ReadLeaves, B: Build>(
+    alloc: Global,
+    nodes: &[Node],
+    kind: &Kind,
+    units: &mut BitCursor<'_>,
+) -> Option<B::Part>
+    requires at_unit { R.rules.at_unit units.old }
+    ensures at_unit { IsSome result → R.rules.at_unit units.new }
+    ensures some { IfSome result (λ p. (t : Shape) → InProfile t → IsPlan nodes.now t kind.now
+        → BuildsOpen R.rules B.built t p units.old units.new) }
+{
+    let mut short = [0; SHORT_OPEN_FIELD];
+    let mut long = Vec::new(alloc);
+    let Ok(octets) = read_open_octets::<R>(alloc, units, &mut short, &mut long) else {
+        return None;
+    };
+    let part = build_complete::<R, B>(alloc, nodes, kind, octets)?;
+    Some(part)
+}

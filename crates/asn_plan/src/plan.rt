@@ -1,0 +1,108 @@
+//! The nodes of a plan.
+ghost use Rattle.std.specs.Prelude.{◌≡◌, true};
+ghost use Rattle.asn_values.specs.Profile.{InProfile, good_default};
+ghost use Rattle.asn_values.specs.View.{shape_of, datum_of, size_range_of};
+ghost use Rattle.asn_walk.specs.Integers.{between};
+ghost use Rattle.asn_walk.specs.Laws.{IsSizeOfProfile};
+ghost use Rattle.asn_plan.specs.SimpleTypes.{is_simple};
+
+use asn_values::{AsnType, Size, Value};
+
+/// The bounds of an INTEGER that has two and no extension mark, both counted in.
+#[derive(Debug, Clone, Copy)]
+pub struct Between {
+    pub low: i128,
+    pub high: i128,
+    ghost of_profile: { InProfile (between low high) },
+}
+
+/// A type that is neither SEQUENCE, SEQUENCE OF nor CHOICE.
+#[derive(Debug, Drop)]
+pub struct Leaf {
+    pub ty: AsnType,
+    ghost of_profile: { InProfile (shape_of ty) },
+    ghost simple: { is_simple (shape_of ty) ≡ true },
+}
+
+/// The type of a component, and its DEFAULT.
+#[derive(Debug, Drop)]
+pub struct WithDefault {
+    pub ty: AsnType,
+    pub default: Value,
+    ghost of_profile: { InProfile (shape_of ty) },
+    ghost good: { good_default (shape_of ty) (datum_of default) ≡ true },
+}
+
+/// Where the nodes of the components of a SEQUENCE stand among those of the plan, counted from 0: those of the root
+/// from `begin` up to `middle`, those of the extension additions from there up to `end`. All that they need stands
+/// before `begin`.
+#[derive(Debug, Clone, Copy)]
+pub struct ComponentRows {
+    pub begin: usize,
+    pub middle: usize,
+    pub end: usize,
+    /// How many extension additions there are, where there is an extension mark.
+    pub additions: Option<usize>,
+    /// How many presence bits the root has.
+    pub width: u32,
+}
+
+/// How many elements a SEQUENCE OF has, and where the node of their type stands among those of the plan, counted from
+/// 0. All that it needs stands before it.
+#[derive(Debug, Clone, Copy)]
+pub struct ElementRow {
+    pub size: Size,
+    pub element: usize,
+    ghost of_profile: { IsSizeOfProfile (size_range_of size) },
+}
+
+/// Where the nodes of the alternatives of a CHOICE stand among those of the plan, counted from 0: those of the root
+/// from `begin` up to `middle`, those of the extension additions from there up to `end`. All that they need stands
+/// before `begin`.
+#[derive(Debug, Clone, Copy)]
+pub struct AlternativeRows {
+    pub begin: usize,
+    pub middle: usize,
+    pub end: usize,
+    /// How many extension additions there are, where there is an extension mark.
+    pub additions: Option<usize>,
+}
+
+/// What is to be read.
+#[derive(Debug, Drop)]
+pub enum Kind {
+    /// An INTEGER with two bounds and no extension mark.
+    Number(Between),
+    /// A value of a type that the rules read by themselves.
+    Leaf(Leaf),
+    /// A SEQUENCE.
+    Sequence(ComponentRows),
+    /// A SEQUENCE OF.
+    List(ElementRow),
+    /// A CHOICE.
+    Choice(AlternativeRows),
+    /// A type that the plan does not read.
+    Other,
+}
+
+/// Whether a component has to be there.
+#[derive(Debug, Drop)]
+pub enum Presence {
+    Must,
+    Optional,
+    Default(WithDefault),
+}
+
+/// A node of a plan: a component, an alternative, or the type of elements.
+#[derive(Debug, Drop)]
+pub struct Node {
+    pub presence: Presence,
+    pub kind: Kind,
+}
+
+/// A plan of a type: the nodes of its parts, and what is to be read of the type, before which all of these stand.
+#[derive(Debug, Drop)]
+pub struct Plan {
+    pub nodes: Vec<Node>,
+    pub root: Kind,
+}

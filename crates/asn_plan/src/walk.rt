@@ -1,0 +1,52 @@
+//! The walk of a plan: it reads by the nodes alone, without the type.
+//!
+//! Where it gives a part, the units taken are the spelling of the value that the part was built of, of each type that
+//! the nodes are a plan of. Where it gives none, nothing is said, neither of the units nor of why: the caller asks the
+//! reader of types, which tells the fault and its place.
+ghost use Rattle.std.specs.Prelude.{◌≡◌, IfSome, IsSome};
+ghost use Rattle.asn_values.specs.Profile.{InProfile};
+ghost use Rattle.asn_values.specs.Shape.{Shape};
+ghost use Rattle.asn_plan.specs.Plans.{IsPlan, Builds};
+
+use crate::build::Build;
+use crate::choices::build_choice;
+use crate::components::build_sequence;
+use crate::leaves::{read_between, read_leaf};
+use crate::lists::build_list;
+use crate::plan::{Kind, Node};
+use asn_bits::BitCursor;
+use asn_walk::ReadLeaves;
+use std::alloc::Global;
+
+/// What is built of the value of the type with which the units begin, and which is taken.
+#[inline(always)]
+#[cycle(walk)]
+pub fn build_at<R: ReadLeaves, B: Build>(
+    alloc: Global,
+    nodes: &[Node],
+    kind: &Kind,
+    units: &mut BitCursor<'_>,
+) -> Option<B::Part>
+    requires at_unit { R.rules.at_unit units.old }
+    ensures at_unit { IsSome result → R.rules.at_unit units.new }
+    ensures some { IfSome result (λ p. (t : Shape) → InProfile t → IsPlan nodes.now t kind.now
+        → Builds R.rules B.built t p units.old units.new) }
+{
+    match kind {
+        Kind::Number(range) => {
+            if let Some(integer) = R::try_between(range.low, range.high, units) {
+                return Some(B::number(integer));
+            }
+            let value = read_between::<R>(alloc, range, units)?;
+            Some(B::value(value))
+        }
+        Kind::Leaf(leaf) => {
+            let value = read_leaf::<R>(alloc, leaf, units)?;
+            Some(B::value(value))
+        }
+        Kind::Sequence(parts) => build_sequence::<R, B>(alloc, nodes, parts, units),
+        Kind::List(list) => build_list::<R, B>(alloc, nodes, list, units),
+        Kind::Choice(parts) => build_choice::<R, B>(alloc, nodes, parts, units),
+        Kind::Other => None,
+    }
+}

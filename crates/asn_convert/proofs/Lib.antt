@@ -1,3 +1,4 @@
+pub mod Answered
 pub mod Converting
 pub mod HexDigits
 pub mod Lines

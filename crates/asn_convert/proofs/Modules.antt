@@ -1,8 +1,8 @@
 -- The line for a text that is no module.
-use Rattle.std.proofs.Common.{◌≡◌, ℕ, List, [], ◌∷◌, ◌++◌, refl, sym, ◌∙◌, ap, append_assoc, inl, inr}
+use Rattle.std.proofs.Common.{◌≡◌, ℕ, List, [], ◌∷◌, ◌++◌, refl, sym, ◌∙◌, append_assoc, inl, inr}
 use Rattle.std.specs.Prelude.{codes, IsUtf8}
 use Rattle.asn_module.specs.Accepted.{ModuleTypes, Accepted}
-use Rattle.asn_convert.specs.Text.{IsModule, IsOneLine, IsRefusal, not_text, ended}
+use Rattle.asn_convert.specs.Text.{IsOneLine, IsRefusal, not_text, ended}
 
 -- it is no text
 pub no_text : (text line : List ℕ) → (IsUtf8 text → ⊥) → line ≡ ended not_text → IsRefusal text line

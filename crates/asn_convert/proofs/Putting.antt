@@ -1,18 +1,16 @@
 -- What is written of an answer, put together.
-use Rattle.std.proofs.Common.{◌≡◌, ◌<◌, ◌++◌, ◌^◌, ◌-◌, ◌==◌, ◌&&◌, ℕ, zero, suc, Bool, true, false, List, [], ◌∷◌, refl, sym, ap, ◌∙◌, subst, append_assoc, append-nil, arith, Option, None, Some, true≢false}
+use Rattle.std.proofs.Common.{◌≡◌, ◌<◌, ◌++◌, ◌^◌, ◌-◌, ℕ, zero, suc, Bool, true, false, List, [], ◌∷◌, refl, sym, ap, ◌∙◌, subst, append_assoc, append-nil, arith, Option, None, Some, true≢false}
 use Rattle.std.specs.Prelude.{codes, is_some, not}
 use Rattle.std.specs.List.{AllByRecursion}
 use Rattle.std.specs.Borrow.{GName}
-use Rattle.std.specs.Io.KnownBytes.{Appends}
 use Rattle.hex.specs.Hex.{encode_lower, IsBytes}
 use Rattle.asn_values.specs.Datum.{Datum}
 use Rattle.asn_values.specs.Shape.{Shape}
 use Rattle.asn_rules.specs.Answer.{Ruling}
-use Rattle.asn_rules.specs.Faults.{State, Rose, inner_of, faults_of, state_of}
+use Rattle.asn_rules.specs.Faults.{State, inner_of, state_of}
 use Rattle.asn_rules.specs.Held.{state_held}
 use Rattle.asn_rules.specs.Delivered.{Interrupted, NotDelivered}
 use Rattle.asn_rules.specs.Delivered as delivered
-use Rattle.asn_rules.specs.CodecLaws.{Encoded}
 use Rattle.asn_rules.specs.declared.counting.Counted.{Counted}
 use Rattle.asn_rules.proofs.Known.{appends_twice}
 use Rattle.asn_convert.specs.HexHeld.{held_as_digits}

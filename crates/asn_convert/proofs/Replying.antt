@@ -1,5 +1,5 @@
 -- What is answered to a line, from what is answered to its octets or its JSON.
-use Rattle.std.proofs.Common.{◌≡◌, ◌∙◌, ℕ, Bool, true, false, List, refl, sym, subst, inl, inr, Result, Ok, Err}
+use Rattle.std.proofs.Common.{◌≡◌, ◌∙◌, ℕ, true, false, List, refl, sym, subst, inl, inr, Result, Ok, Err}
 use Rattle.std.specs.Prelude.{string_bytes, codes, IfErr}
 use Rattle.hex.specs.Hex.{decode_of, encode_lower}
 use Rattle.asn_values.specs.Datum.{Datum}

@@ -17,9 +17,10 @@ use Rattle.asn_convert.specs.declared.job.RuleName.{RuleName}
 use Rattle.asn_convert.specs.declared.job.Status.{Status}
 use Rattle.asn_convert.specs.declared.job.Status.TheVariants as status
 use Rattle.asn_convert.specs.Lines.{lines_of, module_text, begun}
-use Rattle.asn_convert.specs.Text.{Told, IsBegun, Writes, Stops, Tells, TellsBegun, IsFront, IsModule, IsRefusal, ended, status_of, terms}
+use Rattle.asn_convert.specs.Text.{Told, IsBegun, HasAnswer, Writes, Stops, Tells, TellsBegun, IsFront, IsModule, IsRefusal, ended, status_of, terms}
 use Rattle.asn_convert.specs.declared.job.RunFault.{RunFault}
 use Rattle.asn_convert.specs.declared.job.RunFault.TheVariants as fault
+use Rattle.asn_convert.proofs.Answered.{have_answers}
 use Rattle.asn_convert.proofs.Told.{and_assoc, append_none, consumes_twice, given_some, read_whole, tells_begun, told_begun, writes_so}
 
 -- ---- lines of whole lines and more
@@ -75,15 +76,15 @@ begun_append_told o (line ∷ ls) ms a b good (text, rest, here, next, answer, t
     inr (text, rest ++ b, here, answer, begun_append_told o ls ms rest b next told q, ap (λ xs. xs ++ b) is ∙ append_assoc (ended text) rest b)
 
 -- nothing is a beginning of any answers
-pub nothing_begun : (o : Terms) (ls : List (List ℕ)) → IsBegun o ls []
-nothing_begun o [] = refl
-nothing_begun o (line ∷ ls) = inl (inl refl)
+pub nothing_begun : (o : Terms) → ((left : List ℕ) → HasAnswer o left) → (ls : List (List ℕ)) → IsBegun o ls []
+nothing_begun o each [] = refl
+nothing_begun o each (line ∷ ls) = inl (inl refl, have_answers o each (line ∷ ls))
 
 -- a beginning of answers to lines is one of answers to these and more
-begun_more : (o : Terms) (ls ms : List (List ℕ)) (out : List ℕ) → IsBegun o ls out → IsBegun o (ls ++ ms) out
-begun_more o [] ms out e = rw e (nothing_begun o ms)
-begun_more o (line ∷ ls) ms out (inl here) = inl here
-begun_more o (line ∷ ls) ms out (inr (text, rest, good, answer, later, is)) = inr (text, rest, good, answer, begun_more o ls ms rest later, is)
+begun_more : (o : Terms) → ((left : List ℕ) → HasAnswer o left) → (ls ms : List (List ℕ)) (out : List ℕ) → IsBegun o ls out → IsBegun o (ls ++ ms) out
+begun_more o each [] ms out e = rw e (nothing_begun o each ms)
+begun_more o each (line ∷ ls) ms out (inl here) = inl (here.0, have_answers o each (line ∷ (ls ++ ms)))
+begun_more o each (line ∷ ls) ms out (inr (text, rest, good, answer, later, is)) = inr (text, rest, good, answer, begun_more o each ls ms rest later, is)
 
 -- ---- what was read and written so far
 
@@ -189,9 +190,9 @@ all_come o from mid after held piece good here old now new (read, written, come)
 )
 
 -- a part that stopped stops the whole
-pub stopped_by : (o : Terms) (from after : State) (front back : List ℕ) (good : Bool) (old mid new : State) (why : RunFault) → AreWholeLines front ⊎ (back ≡ []) → HasCome o from after (front ++ back) good old mid
+pub stopped_by : (o : Terms) → ((left : List ℕ) → HasAnswer o left) → (from after : State) (front back : List ℕ) (good : Bool) (old mid new : State) (why : RunFault) → AreWholeLines front ⊎ (back ≡ []) → HasCome o from after (front ++ back) good old mid
     → Stops why (λ out. IsBegun o (lines_of front) out) mid new → StopsWithin why (λ lines out. IsBegun o (lines_of lines) out) from after old new
-stopped_by o from after front back good old mid new why whole (read, written, come) stops = (read, come.taken, by_fault why stops)
+stopped_by o each from after front back good old mid new why whole (read, written, come) stops = (read, come.taken, by_fault why stops)
   where
     here : (out : List ℕ) → IsBegun o (lines_of front) out → IsBegun o (lines_of read) (written ++ out)
     here out h =
@@ -199,7 +200,7 @@ stopped_by o from after front back good old mid new why whole (read, written, co
         (come.coming.begun [] out (subst (λ xs. IsBegun o (lines_of xs) out) (sym (append-nil (front ++ back))) (with_back whole out h)))
       where
         with_back : AreWholeLines front ⊎ (back ≡ []) → (out : List ℕ) → IsBegun o (lines_of front) out → IsBegun o (lines_of (front ++ back)) out
-        with_back (inl are) out h = subst (λ ls. IsBegun o ls out) (sym (whole_lines front back are)) (begun_more o (lines_of front) (lines_of back) out h)
+        with_back (inl are) out h = subst (λ ls. IsBegun o ls out) (sym (whole_lines front back are)) (begun_more o each (lines_of front) (lines_of back) out h)
         with_back (inr none) out h = subst (λ xs. IsBegun o (lines_of xs) out) (sym (ap (λ ys. front ++ ys) none ∙ append-nil front)) h
 
     by_fault : (w : RunFault) → Stops w (λ out. IsBegun o (lines_of front) out) mid new → StopsBy w (λ out. IsBegun o (lines_of read) out) from after old new
@@ -207,24 +208,24 @@ stopped_by o from after front back good old mid new why whole (read, written, co
     by_fault fault.Write (out, h, grown, rose) = (written ++ out, here out h, appends_twice old.octets mid.octets new.octets written out come.coming.grown grown, rose_since old.faults mid.faults new.faults come.coming.same rose)
     by_fault fault.Memory (out, h, grown) = (written ++ out, here out h, appends_twice old.octets mid.octets new.octets written out come.coming.grown grown)
 
-begun_here : (o : Terms) (held : List ℕ) (good : Bool) (old new : State) (read written : List ℕ) → Coming o read held good old new written → IsBegun o (lines_of read) written
-begun_here o held good old new read written c =
+begun_here : (o : Terms) → ((left : List ℕ) → HasAnswer o left) → (held : List ℕ) (good : Bool) (old new : State) (read written : List ℕ) → Coming o read held good old new written → IsBegun o (lines_of read) written
+begun_here o each held good old new read written c =
     subst (λ xs. IsBegun o (lines_of read) xs) (append-nil written)
-    (subst (λ xs. IsBegun o (lines_of xs) (written ++ [])) (append-nil read) (c.begun [] [] (nothing_begun o (lines_of (held ++ [])))))
+    (subst (λ xs. IsBegun o (lines_of xs) (written ++ [])) (append-nil read) (c.begun [] [] (nothing_begun o each (lines_of (held ++ [])))))
 
 -- nothing more was written where an allocation failed
-pub out_of_memory : (o : Terms) (from after : State) (held : List ℕ) (good : Bool) (old new : State) (why : RunFault) → why ≡ fault.Memory → HasCome o from after held good old new
+pub out_of_memory : (o : Terms) → ((left : List ℕ) → HasAnswer o left) → (from after : State) (held : List ℕ) (good : Bool) (old new : State) (why : RunFault) → why ≡ fault.Memory → HasCome o from after held good old new
     → StopsWithin why (λ lines out. IsBegun o (lines_of lines) out) from after old new
-out_of_memory o from after held good old new why is (read, written, come) =
-    rw is (read, come.taken, (written, begun_here o held good old new read written come.coming, come.coming.grown))
+out_of_memory o each from after held good old new why is (read, written, come) =
+    rw is (read, come.taken, (written, begun_here o each held good old new read written come.coming, come.coming.grown))
 
 -- the reader answered a fault
-pub reading_failed : (o : Terms) (from mid after : State) (held : List ℕ) (good : Bool) (old new : State) → HasCome o from mid held good old new → Keeps mid.octets after.octets → Rose mid.faults after.faults
+pub reading_failed : (o : Terms) → ((left : List ℕ) → HasAnswer o left) → (from mid after : State) (held : List ℕ) (good : Bool) (old new : State) → HasCome o from mid held good old new → Keeps mid.octets after.octets → Rose mid.faults after.faults
     → StopsWithin fault.Read (λ lines out. IsBegun o (lines_of lines) out) from after old new
-reading_failed o from mid after held good old new (read, written, come) keeps rose = (
+reading_failed o each from mid after held good old new (read, written, come) keeps rose = (
   read,
   consumes_kept from.octets mid.octets after.octets read come.taken keeps,
-  ((written, begun_here o held good old new read written come.coming, come.coming.grown, come.coming.same), rose_since from.faults mid.faults after.faults come.quiet rose),
+  ((written, begun_here o each held good old new read written come.coming, come.coming.grown, come.coming.same), rose_since from.faults mid.faults after.faults come.quiet rose),
 )
   where
     consumes_kept : (a b c : Option (List ℕ)) (x : List ℕ) → Consumes a b x → Keeps b c → Consumes a c x
@@ -241,16 +242,16 @@ pub piece_taken : (o : Terms) (from mid after : State) (held piece front kept : 
 piece_taken o from mid after held piece front kept good here old now new come taken same whole is wrote =
     lines_answered o from after front kept good here old now new whole (subst (λ xs. HasCome o from after xs good old now) is (more_held o from mid after held piece good old now come taken same)) wrote
 
-pub piece_stopped : (o : Terms) (from mid after : State) (held piece front back : List ℕ) (good : Bool) (old now new : State) (why : RunFault) → HasCome o from mid held good old now → Consumes mid.octets after.octets piece → after.faults ≡ mid.faults
+pub piece_stopped : (o : Terms) → ((left : List ℕ) → HasAnswer o left) → (from mid after : State) (held piece front back : List ℕ) (good : Bool) (old now new : State) (why : RunFault) → HasCome o from mid held good old now → Consumes mid.octets after.octets piece → after.faults ≡ mid.faults
     → AreWholeLines front → held ++ piece ≡ front ++ back → Stops why (λ out. IsBegun o (lines_of front) out) now new → StopsWithin why (λ lines out. IsBegun o (lines_of lines) out) from after old new
-piece_stopped o from mid after held piece front back good old now new why come taken same whole is stops =
-    stopped_by o from after front back good old now new why (inl whole) (subst (λ xs. HasCome o from after xs good old now) is (more_held o from mid after held piece good old now come taken same)) stops
+piece_stopped o each from mid after held piece front back good old now new why come taken same whole is stops =
+    stopped_by o each from after front back good old now new why (inl whole) (subst (λ xs. HasCome o from after xs good old now) is (more_held o from mid after held piece good old now come taken same)) stops
 
 -- the last line stopped
-pub last_stopped : (o : Terms) (from mid after : State) (held piece : List ℕ) (good : Bool) (old now new : State) (why : RunFault) → HasCome o from mid held good old now → Consumes mid.octets after.octets piece → after.faults ≡ mid.faults → piece ≡ []
+pub last_stopped : (o : Terms) → ((left : List ℕ) → HasAnswer o left) → (from mid after : State) (held piece : List ℕ) (good : Bool) (old now new : State) (why : RunFault) → HasCome o from mid held good old now → Consumes mid.octets after.octets piece → after.faults ≡ mid.faults → piece ≡ []
     → Stops why (λ out. IsBegun o (lines_of held) out) now new → StopsWithin why (λ lines out. IsBegun o (lines_of lines) out) from after old new
-last_stopped o from mid after held piece good old now new why come taken same none stops =
-    stopped_by o from after held piece good old now new why (inr none) (more_held o from mid after held piece good old now come taken same) stops
+last_stopped o each from mid after held piece good old now new why come taken same none stops =
+    stopped_by o each from after held piece good old now new why (inr none) (more_held o from mid after held piece good old now come taken same) stops
 
 -- ---- parts of a run
 

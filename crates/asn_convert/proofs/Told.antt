@@ -15,10 +15,11 @@ use Rattle.asn_convert.specs.declared.job.Job.TheVariants as job
 use Rattle.asn_convert.specs.declared.job.RunFault.{RunFault}
 use Rattle.asn_convert.specs.declared.job.RunFault.TheVariants as fault
 use Rattle.asn_convert.specs.Lines.{lines_of, IsFirstLine, module_text, job_lines}
-use Rattle.asn_convert.specs.Text.{Told, IsBegun, IsAnswered, IsAnswerBegun, IsFront, ended, Writes, Stops, Fails, Text, Tells, TellsBegun, Begun, IsGiven, IsReadFault, IsModule, IsRefusal, no_type, terms}
+use Rattle.asn_convert.specs.Text.{Told, IsBegun, HasAnswer, IsAnswered, IsAnswerBegun, IsFront, ended, Writes, Stops, Fails, Text, Tells, TellsBegun, Begun, IsGiven, IsReadFault, IsModule, IsRefusal, no_type, terms}
 use Rattle.asn_convert.specs.declared.job.Status.{Status}
 use Rattle.asn_convert.specs.declared.job.Status.TheVariants as status
 use Rattle.std.specs.Prelude.{Result, Ok, Err, IfErr, String, string_bytes, min}
+use Rattle.asn_convert.proofs.Answered.{have_answers}
 use Rattle.std.specs.Global.{Global}
 
 -- these octets were written for the lines before `left`, with no fault: with answers to the lines left they are answers to all
@@ -74,14 +75,14 @@ all_told o all rest good old new none before =
     (before.0, subst (λ b. Told o all before.0 b) (and_true good) (subst (λ xs. Told o all xs (good && true)) (append_none before.0) told), before.1.grown, before.1.same)
 
 -- the run stopped within a line
-pub stopped : (o : Terms) (all : List (List ℕ)) (rest line after : List ℕ) (good : Bool) (old mid new : State) (why : RunFault) → IsFirstLine rest line after → IsSoFar o all (lines_of rest) good old mid
+pub stopped : (o : Terms) → ((left : List ℕ) → HasAnswer o left) → (all : List (List ℕ)) (rest line after : List ℕ) (good : Bool) (old mid new : State) (why : RunFault) → IsFirstLine rest line after → IsSoFar o all (lines_of rest) good old mid
     → Stops why (λ out. IsAnswerBegun o line out) mid new → Stops why (λ out. IsBegun o all out) old new
-stopped o all rest line after good old mid new fault.Read first before s = s
-stopped o all rest line after good old mid new fault.Write first before s =
-    let here : IsBegun o (lines_of rest) s.0 = subst (λ ls. IsBegun o ls s.0) (sym first.lines) (inl s.1) in
+stopped o each all rest line after good old mid new fault.Read first before s = s
+stopped o each all rest line after good old mid new fault.Write first before s =
+    let here : IsBegun o (lines_of rest) s.0 = subst (λ ls. IsBegun o ls s.0) (sym first.lines) (inl (s.1, have_answers o each (line ∷ lines_of after))) in
     (before.0 ++ s.0, before.1.begun s.0 here, appends_twice old.octets mid.octets new.octets before.0 s.0 before.1.grown s.2, λ below. subst (λ n. n < new.faults) before.1.same (s.3 (subst (λ n. n < 2 ^ 64 - 1) (sym before.1.same) below)))
-stopped o all rest line after good old mid new fault.Memory first before s =
-    let here : IsBegun o (lines_of rest) s.0 = subst (λ ls. IsBegun o ls s.0) (sym first.lines) (inl s.1) in
+stopped o each all rest line after good old mid new fault.Memory first before s =
+    let here : IsBegun o (lines_of rest) s.0 = subst (λ ls. IsBegun o ls s.0) (sym first.lines) (inl (s.1, have_answers o each (line ∷ lines_of after))) in
     (before.0 ++ s.0, before.1.begun s.0 here, appends_twice old.octets mid.octets new.octets before.0 s.0 before.1.grown s.2)
 
 -- what is written of one kind is of another

@@ -1,5 +1,5 @@
 -- What is answered to one line.
-use Rattle.std.specs.Prelude.{◌≡◌, ◌≢◌, ◌≤◌, ◌⊎◌, ℕ, Bool, true, false, List, [], ◌∷◌, ◌++◌, length, codes, string_bytes, Some, Ok, Err, IsUtf8}
+use Rattle.std.specs.Prelude.{◌≡◌, ◌≢◌, ◌≤◌, ◌⊎◌, ℕ, Bool, true, false, List, [], ◌∷◌, ◌++◌, length, codes, string_bytes, slice_get, Some, Ok, Err, IsUtf8}
 use Rattle.std.specs.Fmt.{decimal}
 use Rattle.hex.specs.Hex.{decode_of, encode_lower}
 use Rattle.serde_json.specs.Data.{Data}
@@ -22,7 +22,7 @@ use Rattle.asn_newer.specs.Reading.{NotNewer}
 use Rattle.asn_newer.specs.Skipped.{Skipped}
 use Rattle.asn_newer.specs.Loose.{LooseCoding, IsLoose}
 use Rattle.asn_json.specs.Written.{json_of}
-use Rattle.asn_json.specs.Errors.{Shown, Refused}
+use Rattle.asn_json.specs.Errors.{bad, Shown}
 use Rattle.asn_json.specs.declared.fault.JsonFault.{JsonFault}
 use Rattle.asn_json.specs.declared.fault.JsonFault.TheVariants as json
 use Rattle.asn_convert.specs.declared.job.RuleName.{RuleName}
@@ -159,10 +159,13 @@ IsJson line j = IsUtf8 line × (read line ≡ Some j)
 abbrev pub IsNoJson : List ℕ → Type 0
 IsNoJson line = (j : Data) → IsJson line j → ⊥
 
--- why it shows no value, and that the value that it shows is too long
+-- why it shows no value: the first error of its shape, or that it shows none of the type
 abbrev pub IsNotShown : Shape → Data → List ℕ → Type 0
-IsNotShown t j text = (fault : JsonFault) × Refused t j fault × TellsJsonFault fault text
+IsNotShown t j text =
+    ((path : List ℕ) × (slice_get (bad t j) 0 ≡ Some path) × (text ≡ codes "! shape " ++ path))
+    ⊎ ((bad t j ≡ []) × ((v : Datum) → Shown t j v → ¬ Fits t v) × (text ≡ codes "! not of type"))
 
+-- that the value that it shows is too long
 abbrev pub IsNotWritten : Ruling → Shape → Data → List ℕ → Type 0
 IsNotWritten r t j text = (v : Datum) × Shown t j v × Fits t v × IsTooLong r t v × (text ≡ codes "! too long")
 

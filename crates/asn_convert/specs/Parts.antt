@@ -15,7 +15,7 @@ use Rattle.asn_convert.specs.declared.job.RunFault.{RunFault}
 use Rattle.asn_convert.specs.declared.job.Status.{Status}
 use Rattle.asn_convert.specs.Answers.{Rulings, Terms, Answers, rulings}
 use Rattle.asn_convert.specs.Lines.{lines_of}
-use Rattle.asn_convert.specs.Text.{Text, Begun, Tells, TellsBegun, Told, IsBegun, IsAnswered, IsAnswerBegun, Writes, Stops, Runs, Fails, terms}
+use Rattle.asn_convert.specs.Text.{Text, Begun, Tells, TellsBegun, Told, HasAnswer, IsBegun, IsAnswered, IsAnswerBegun, Writes, Stops, Runs, Fails, terms}
 
 -- what a reader has left, or a writer holds, where it is known
 abbrev pub Known : Type 0 → Type 0
@@ -66,6 +66,10 @@ LineBegun a b l name by t line out = IsAnswerBegun (terms_of a b l name by t) li
 
 abbrev pub LineAnswer : Ruling → Ruling → LooseCoding → RuleName → Order → AsnType → List ℕ → Bool → List ℕ → Type 0
 LineAnswer a b l name by t line good text = Answers (terms_of a b l name by t) line text good
+
+-- the line has an answer
+abbrev pub LineHasAnswer : Ruling → Ruling → LooseCoding → RuleName → Order → AsnType → List ℕ → Type 0
+LineHasAnswer a b l name by t line = HasAnswer (terms_of a b l name by t) line
 
 -- ---- a run
 

@@ -1,6 +1,6 @@
 -- The text of a job, and what of it is written before a fault.
 use Rattle.std.specs.Prelude.{◌≡◌, ◌⊎◌, ◌&&◌, ◌==◌, ℕ, Bool, true, false, List, [], ◌∷◌, ◌++◌, codes, string_bytes, Option, Some, None, IfSome, IsFalse, IsUtf8, ⊤}
-use Rattle.std.specs.List.{list_any}
+use Rattle.std.specs.List.{AllByRecursion, list_any}
 use Rattle.std.specs.Io.KnownBytes.{Appends, Keeps}
 use Rattle.asn_values.specs.Shape.{Shape}
 use Rattle.asn_rules.specs.Faults.{Rose, State}
@@ -43,11 +43,15 @@ Told w (line ∷ lines) out all_good =
     (text rest : List ℕ) × (good later : Bool) × Answers w line text good × Told w lines rest later
     × (out ≡ ended text ++ rest) × (all_good ≡ (good && later))
 
--- a beginning of such answers: some whole ones, and then nothing or a front of one more
+-- a line has an answer: it cannot be that no text is one
+abbrev pub HasAnswer : Terms → List ℕ → Type 0
+HasAnswer w line = ((text : List ℕ) (good : Bool) → Answers w line text good → ⊥) → ⊥
+
+-- a beginning of such answers: some whole ones, and then nothing or a front of one more; each line that is left has one
 abbrev pub IsBegun : Terms → List (List ℕ) → List ℕ → Type 0
 IsBegun w [] out = out ≡ []
 IsBegun w (line ∷ lines) out =
-    IsAnswerBegun w line out
+    (IsAnswerBegun w line out × AllByRecursion (λ left. HasAnswer w left) (line ∷ lines))
     ⊎ ((text rest : List ℕ) × (good : Bool) × Answers w line text good × IsBegun w lines rest
     × (out ≡ ended text ++ rest))
 

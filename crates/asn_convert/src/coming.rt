@@ -6,6 +6,7 @@ ghost use Rattle.asn_convert.specs.Parts.{Wrote, Broke, LinesTold, LinesBegun};
 
 use crate::cut::cut_input;
 use crate::job::{Job, Order, RuleName, RunFault, Status};
+use crate::laws::lines_have_answers;
 use crate::put::put;
 use crate::running::{answer_lines, answer_module, module_in};
 use asn_module::Module;
@@ -105,6 +106,7 @@ fn answer_stream<A: ReadNewer, B: Rules, R: Read, W: Write>(
     ensures begun { Stopped result R.remaining input.old input.new W.contents output.old output.new
         (LinesBegunBy A.ruling B.ruling A.loose rules order ty.now) }
 {
+    lines_have_answers::<A, B>(ty);
     let mut held = Vec::new(alloc);
     let mut all_good = true;
     let mut piece = [0; PIECE];

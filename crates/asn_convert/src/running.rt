@@ -8,6 +8,7 @@ ghost use Rattle.asn_convert.specs.Text.{IsModule, IsOneLine, IsRefusal};
 use crate::answers::answer_to;
 use crate::cut::{cut_input, next_line};
 use crate::job::{Job, Order, RuleName, RunFault, Status};
+use crate::laws::lines_have_answers;
 use crate::put::{put, put_answer, put_octets};
 use crate::reading::read_all;
 use crate::texts::Reply;
@@ -167,6 +168,7 @@ pub(crate) fn answer_lines<A: ReadNewer, B: Rules, W: Write>(
     ensures begun { Broke result W.contents output.old output.new
         (LinesBegun A.ruling B.ruling A.loose rules order ty.now lines.now) }
 {
+    lines_have_answers::<A, B>(ty);
     let mut rest = lines;
     let mut all_good = true;
     while let Some((line, later)) = next_line(rest) {

@@ -1,4 +1,4 @@
-use Rattle.std.proofs.Common.{◌≡◌, Ok, rules, ap, sym, ◌∙◌}
+use Rattle.std.proofs.Common.{◌≡◌, Ok, rules}
 use Rattle.std.proofs.lemmas.Result.{IfOk-weaker}
 use Rattle.hex.specs.Hex.{decode_of}
 use Rattle.asn_convert.proofs.Replying.{json_reply, convert_reply}

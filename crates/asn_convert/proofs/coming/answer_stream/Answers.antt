@@ -18,15 +18,17 @@ loop-init g c =
 pub returns-in-Err-clause-begun : goal.returns-in-Err-clause-begun
 returns-in-Err-clause-begun g c =
     let w = terms (rulings g.A.Rules.ruling g.B.Rules.ruling g.A.OtherVersions.loose) c.args.rules c.args.order (shape_of c.args.ty.now) in
-    reading_failed w (state_of g.R.Read.remaining c.args.input.now) (state_of g.R.Read.remaining c.loop.input) (state_of g.R.Read.remaining c.read.new.self) c.loop.held.items c.loop.all_good (state_of g.W.Write.contents c.args.output.now) (state_of g.W.Write.contents c.loop.output) c.loop.invariant c.in-Err.ensures.bytes (flush_rose _ _ c.in-Err.ensures.faults)
+    let each = c.lines_have_answers.ensures c.args.order c.args.rules in
+    reading_failed w each (state_of g.R.Read.remaining c.args.input.now) (state_of g.R.Read.remaining c.loop.input) (state_of g.R.Read.remaining c.read.new.self) c.loop.held.items c.loop.all_good (state_of g.W.Write.contents c.args.output.now) (state_of g.W.Write.contents c.loop.output) c.loop.invariant c.in-Err.ensures.bytes (flush_rose _ _ c.in-Err.ensures.faults)
 
 pub returns-in_err-is_good-clause-begun : goal.returns-in_err-is_good-clause-begun
 returns-in_err-is_good-clause-begun g c =
     let w = terms (rulings g.A.Rules.ruling g.B.Rules.ruling g.A.OtherVersions.loose) c.args.rules c.args.order (shape_of c.args.ty.now) in
+    let each = c.lines_have_answers.ensures c.args.order c.args.rules in
     let new = state_of g.W.Write.contents c.answer_held.new.output in
     let p = err_from_is_err_and c.from_residual.result c.from_residual.ensures.1 in
     let value : c.as_slice.result.now ≡ c.loop.held.items = search rules in
-    rw (p.1, p.2) (last_stopped w (state_of g.R.Read.remaining c.args.input.now) (state_of g.R.Read.remaining c.loop.input) (state_of g.R.Read.remaining c.read.new.self) c.loop.held.items (take c.in-Ok.count c.read.new.buf) c.loop.all_good (state_of g.W.Write.contents c.args.output.now) (state_of g.W.Write.contents c.loop.output) new _
+    rw (p.1, p.2) (last_stopped w each (state_of g.R.Read.remaining c.args.input.now) (state_of g.R.Read.remaining c.loop.input) (state_of g.R.Read.remaining c.read.new.self) c.loop.held.items (take c.in-Ok.count c.read.new.buf) c.loop.all_good (state_of g.W.Write.contents c.args.output.now) (state_of g.W.Write.contents c.loop.output) new _
     c.loop.invariant c.in-Ok.ensures.bytes.0 c.in-Ok.ensures.faults (rw c.if-count-eq0.true refl)
     (subst (λ xs. Stops c.in_err-is_good.field-0.0 (λ out. IsBegun w (lines_of xs) out) (state_of g.W.Write.contents c.loop.output) new) value c.in_err-is_good.ensures.begun))
 
@@ -42,9 +44,10 @@ returns-then-count-eq0-clause-told g c =
 pub returns-in_err-is_good-2-clause-begun : goal.returns-in_err-is_good-2-clause-begun
 returns-in_err-is_good-2-clause-begun g c =
     let w = terms (rulings g.A.Rules.ruling g.B.Rules.ruling g.A.OtherVersions.loose) c.args.rules c.args.order (shape_of c.args.ty.now) in
+    let each = c.lines_have_answers.ensures c.args.order c.args.rules in
     let p = err_from_is_err_and c.from_residual-in_err-is_good-2.result c.from_residual-in_err-is_good-2.ensures.1 in
     let t = c.in_err-is_good-2.ensures.begun in
-    rw (p.1, p.2) (piece_stopped w (state_of g.R.Read.remaining c.args.input.now) (state_of g.R.Read.remaining c.loop.input) (state_of g.R.Read.remaining c.read.new.self) c.loop.held.items (take c.in-Ok.count c.read.new.buf) t.0 t.1 c.loop.all_good (state_of g.W.Write.contents c.args.output.now) (state_of g.W.Write.contents c.loop.output) (state_of g.W.Write.contents c.answer_piece.new.output) _
+    rw (p.1, p.2) (piece_stopped w each (state_of g.R.Read.remaining c.args.input.now) (state_of g.R.Read.remaining c.loop.input) (state_of g.R.Read.remaining c.read.new.self) c.loop.held.items (take c.in-Ok.count c.read.new.buf) t.0 t.1 c.loop.all_good (state_of g.W.Write.contents c.args.output.now) (state_of g.W.Write.contents c.loop.output) (state_of g.W.Write.contents c.answer_piece.new.output) _
     c.loop.invariant c.in-Ok.ensures.bytes.0 c.in-Ok.ensures.faults t.2 t.3 t.4)
 
 pub loop-preserved : goal.loop-preserved
@@ -57,4 +60,5 @@ loop-preserved g c =
 pub returns-clause-begun : goal.returns-clause-begun
 returns-clause-begun g c =
     let w = terms (rulings g.A.Rules.ruling g.B.Rules.ruling g.A.OtherVersions.loose) c.args.rules c.args.order (shape_of c.args.ty.now) in
-    out_of_memory w (state_of g.R.Read.remaining c.args.input.now) (state_of g.R.Read.remaining c.loop.input) c.loop.held.items c.loop.all_good (state_of g.W.Write.contents c.args.output.now) (state_of g.W.Write.contents c.loop.output) fault.Memory refl c.loop.invariant
+    let each = c.lines_have_answers.ensures c.args.order c.args.rules in
+    out_of_memory w each (state_of g.R.Read.remaining c.args.input.now) (state_of g.R.Read.remaining c.loop.input) c.loop.held.items c.loop.all_good (state_of g.W.Write.contents c.args.output.now) (state_of g.W.Write.contents c.loop.output) fault.Memory refl c.loop.invariant

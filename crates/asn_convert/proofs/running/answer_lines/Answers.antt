@@ -14,9 +14,10 @@ loop-line-init g c = none_yet _ _ _
 pub returns-in_err-is_good-clause-begun : goal.returns-in_err-is_good-clause-begun
 returns-in_err-is_good-clause-begun g c =
     let w = terms (rulings g.A.Rules.ruling g.B.Rules.ruling g.A.OtherVersions.loose) c.args.rules c.args.order (shape_of c.args.ty.now) in
+    let each = c.lines_have_answers.ensures c.args.order c.args.rules in
     let first : IsFirstLine c.loop-line.rest.now c.in-Some.line.now c.in-Some.later.now = search rules in
     let p = err_from_is_err_and c.from_residual.result c.from_residual.ensures.1 in
-    rw (p.1, p.2) (stopped w (lines_of c.args.lines.now) c.loop-line.rest.now c.in-Some.line.now c.in-Some.later.now c.loop-line.all_good _ (state_of g.W.Write.contents c.loop-line.output) _ _ first c.loop-line.invariant c.in_err-is_good.ensures.begun)
+    rw (p.1, p.2) (stopped w each (lines_of c.args.lines.now) c.loop-line.rest.now c.in-Some.line.now c.in-Some.later.now c.loop-line.all_good _ (state_of g.W.Write.contents c.loop-line.output) _ _ first c.loop-line.invariant c.in_err-is_good.ensures.begun)
 
 pub loop-line-preserved : goal.loop-line-preserved
 loop-line-preserved g c =

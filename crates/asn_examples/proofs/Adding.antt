@@ -1,6 +1,6 @@
 -- Parts that are made one after the other: entries of a SEQUENCE, elements of a SEQUENCE OF, an alternative.
 use Rattle.std.specs.Global.{Box}
-use Rattle.std.proofs.Common.{◌≡◌, ◌≤◌, ◌<◌, ◌+◌, ◌-◌, ◌++◌, ℕ, zero, suc, true, false, List, [], ◌∷◌, map, length, take, drop, get_or, nat_lt, Option, Some, None, option_map, MatchBool, Vec, Global, refl, sym, ap, ◌∙◌, subst, append_assoc, add-one, arith}
+use Rattle.std.proofs.Common.{◌≡◌, ◌<◌, ◌+◌, ◌-◌, ◌++◌, ℕ, suc, true, false, List, [], ◌∷◌, map, length, take, drop, get_or, nat_lt, Option, Some, None, option_map, MatchBool, Vec, Global, refl, sym, ap, ◌∙◌, subst, append_assoc, add-one, arith}
 use Rattle.std.specs.List.{AllByRecursion}
 use Rattle.std.proofs.lemmas.Bool.{lt-ltb, le-ltb}
 use Rattle.std.proofs.lemmas.List.{map-append, map_more}
@@ -12,9 +12,9 @@ use Rattle.asn_values.specs.declared.types.Field.{Field}
 use Rattle.asn_values.specs.declared.types.Size.{Size}
 use Rattle.asn_values.specs.declared.value.Value.{Value}
 use Rattle.asn_values.specs.declared.value.Value.TheVariants as value
-use Rattle.asn_values.specs.Datum.{Datum, components, components_of, component_list, elements_of, element_list, alternative}
-use Rattle.asn_values.specs.Shape.{Shape, Fields, sequence, marked, demands, Alternatives, MoreAlternatives, count, marked_choice, choice}
-use Rattle.asn_values.specs.Fits.{Fits, FitsEach, FitsDemand, FitsLength, FitsSequence, FitsChoice, FitsAlternative, FitsMoreAlternatives}
+use Rattle.asn_values.specs.Datum.{Datum, components_of, component_list, alternative}
+use Rattle.asn_values.specs.Shape.{marked, Alternatives, MoreAlternatives, count, marked_choice, choice}
+use Rattle.asn_values.specs.Fits.{Fits, FitsEach, FitsDemand, FitsLength, FitsSequence, FitsAlternative, FitsMoreAlternatives}
 use Rattle.asn_values.specs.Parts.{AreOfProfile}
 use Rattle.asn_values.specs.View.{Part, shape_of, datum_of, size_range_of, fields_of, part_of_field, branch_of, alternatives_of, more_alternatives_of}
 use Rattle.asn_values.proofs.Alternatives.{count-of, fits_at}

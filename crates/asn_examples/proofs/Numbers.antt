@@ -1,11 +1,11 @@
 -- Numbers and lengths of the profile that fit: a bound of a range, 0, and the low bound of a size.
-use Rattle.std.proofs.Common.{◌≡◌, ◌<◌, ◌+◌, ◌==◌, ℕ, zero, suc, ℤ, pos, negsuc, ◌≤ℤ◌, Bool, true, false, not, ◌||◌, ◌&&◌, length, replicate, List, Option, Some, None, refl, sym, subst, arith, T}
+use Rattle.std.proofs.Common.{◌≡◌, ◌<◌, ◌==◌, ℕ, zero, suc, ℤ, pos, negsuc, ◌≤ℤ◌, Bool, true, false, not, ◌||◌, length, List, Option, Some, None, refl, sym, subst, arith, T}
 use Rattle.std.proofs.lemmas.Bool.{true≢false, le-leb, or_parts, not-false}
 use Rattle.std.proofs.lemmas.List.{length-replicate}
 use Rattle.std.specs.Int.RustNames.{int_le, int_lt}
 use Rattle.std.specs.Int.Signed.{lt_z_no}
-use Rattle.asn_values.specs.Shape.{Alphabet, Range, SizeRange, Shape, integer, enumerated, bit_string, octet_string, restricted, sequence_of, Label, MoreLabels}
-use Rattle.asn_values.specs.Fits.{FitsNumber, FitsLength, at_least, at_most, lowest_integer, highest_integer}
+use Rattle.asn_values.specs.Shape.{Alphabet, SizeRange, Shape, integer, enumerated, bit_string, octet_string, restricted, sequence_of, Label, MoreLabels}
+use Rattle.asn_values.specs.Fits.{FitsNumber, FitsLength, at_most, lowest_integer, highest_integer}
 use Rattle.asn_values.specs.Profile.{InProfile, EmptyRange, SizeTooLarge, empty_range, size_too_large, somewhere, is_outside, low_above_high, size_above, large_size}
 use Rattle.asn_values.proofs.Parts.{left_false}
 use Rattle.asn_rules.proofs.Law.SomeValue.{shortest_fits}

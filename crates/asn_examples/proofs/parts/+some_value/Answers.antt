@@ -1,4 +1,4 @@
-use Rattle.std.proofs.Common.{◌≡◌, ◌<◌, ◌∙◌, ◌+◌, rules, ap, sym, subst, map, option_map, vec_len, refl, arith}
+use Rattle.std.proofs.Common.{◌∙◌, ◌+◌, rules, ap, sym, subst, map, option_map, vec_len, refl, arith}
 use Rattle.std.proofs.lemmas.Grind.{common_steps}
 use Rattle.asn_values.specs.declared.types.Alt.{Alt}
 use Rattle.asn_values.specs.declared.types.AsnType.{the_lemmas}

@@ -37,7 +37,7 @@ TOP = os.path.dirname(os.path.dirname(os.path.abspath(__file__)))
 sys.path.insert(0, f"{TOP}/tests")
 from room import files_of
 
-PROGRAMS = ("rows", "hostile", "texts", "types", "names", "published", "memory", "memory_texts")
+PROGRAMS = ("rows", "hostile", "texts", "types", "names", "fields", "published", "memory", "memory_texts")
 FIRST, TOOL = "crates/asn_first/out/asn_first", "crates/asn_tool/out/asn_tool"
 
 

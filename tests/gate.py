@@ -38,7 +38,7 @@ sys.path.insert(0, f"{TOP}/tests")
 from room import files_of
 
 # the test programs that are parts of one (tests/programs/checks), and those that stand alone
-PARTS_OF_ONE = ("rows", "hostile", "texts", "types", "names", "published")
+PARTS_OF_ONE = ("rows", "hostile", "texts", "types", "names", "fields", "published")
 ALONE = ("memory", "memory_texts")
 FIRST, TOOL = "crates/asn_first/out/asn_first", "crates/asn_tool/out/asn_tool"
 

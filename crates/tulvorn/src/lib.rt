@@ -4,7 +4,11 @@
 mod calls;
 
 pub use asn_convert::{ConvertFault, convert};
+pub use asn_examples::{least_value, seeded_value};
 pub use asn_explain::{Explanation, explain, explain_fault};
+pub use asn_fields::{
+    Extent, FieldKind, MessageField, MessageFields, TypeSizes, fields, outline, sizes,
+};
 pub use asn_json::{JsonFault, from_json, to_json};
 pub use asn_module::{
     BoundFault, Module, ModuleFault, RefusedText, TypeNames, read, read_explained, read_within,

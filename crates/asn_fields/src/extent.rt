@@ -1,0 +1,95 @@
+//! How many units the encodings of the values of a type have, least and most.
+
+/// A least and a greatest number of units.
+#[derive(Clone, Copy, Debug, PartialEq, Eq)]
+pub struct Extent {
+    pub least: u64,
+    /// `None` where there is no bound but that of a message.
+    pub greatest: Option<u64>,
+}
+
+impl Extent {
+    /// So many units, whatever the value is.
+    pub(crate) fn fixed(units: u64) -> Extent {
+        Extent {
+            least: units,
+            greatest: Some(units),
+        }
+    }
+
+    /// From so many units on, without a bound.
+    pub(crate) fn from(least: u64) -> Extent {
+        Extent {
+            least,
+            greatest: None,
+        }
+    }
+
+    /// The units of both, one after the other.
+    pub(crate) fn and(self, other: Extent) -> Extent {
+        Extent {
+            least: self.least.saturating_add(other.least),
+            greatest: match (self.greatest, other.greatest) {
+                (Some(first), Some(second)) => Some(first.saturating_add(second)),
+                _ => None,
+            },
+        }
+    }
+
+    /// The units of one of both.
+    pub(crate) fn or(self, other: Extent) -> Extent {
+        Extent {
+            least: self.least.min(other.least),
+            greatest: match (self.greatest, other.greatest) {
+                (Some(first), Some(second)) => Some(first.max(second)),
+                _ => None,
+            },
+        }
+    }
+
+    /// These units, or none.
+    pub(crate) fn maybe(self) -> Extent {
+        Extent {
+            least: 0,
+            greatest: self.greatest,
+        }
+    }
+
+    /// The units of so many parts: from `low` of them to `high`.
+    pub(crate) fn times(self, low: u64, high: Option<u64>) -> Extent {
+        Extent {
+            least: self.least.saturating_mul(low),
+            greatest: match (self.greatest, high) {
+                (Some(0), _) | (_, Some(0)) => Some(0),
+                (Some(units), Some(high)) => Some(units.saturating_mul(high)),
+                _ => None,
+            },
+        }
+    }
+
+    /// Octets that so many bits fill, one at least.
+    pub fn in_octets(self) -> Extent {
+        Extent {
+            least: filled(self.least),
+            greatest: match self.greatest {
+                Some(bits) => Some(filled(bits)),
+                None => None,
+            },
+        }
+    }
+}
+
+/// How many octets so many bits fill, one at least: those of a complete encoding of PER.
+fn filled(bits: u64) -> u64 {
+    bits.div_ceil(8).max(1)
+}
+
+/// The fewest bits that a number has.
+pub(crate) fn width_of(number: u64) -> u64 {
+    u64::from(64 - number.leading_zeros())
+}
+
+/// The fewest octets that a number has, one at least.
+pub(crate) fn octets_in(number: u64) -> u64 {
+    filled(width_of(number))
+}

@@ -1,0 +1,239 @@
+//! How many octets values have in OER (X.696).
+
+use crate::extent::{Extent, octets_in};
+use crate::per_widths::one_more;
+use asn_values::{Alt, AsnType, Bounds, Field, Item, Need, Size};
+
+/// How many octets the values of the type have in OER.
+#[cycle(octets)]
+pub(crate) fn octets_of(ty: &AsnType) -> Extent {
+    match ty {
+        AsnType::Bool => Extent::fixed(1),
+        AsnType::Null => Extent::fixed(0),
+        AsnType::Int(bounds) => number_octets(bounds),
+        AsnType::Enum { root, ext } => {
+            let known = items_octets(None, root);
+            let all = match ext {
+                None => known,
+                Some(additions) => items_octets(known, additions),
+            };
+            all.unwrap_or(Extent::fixed(1))
+        }
+        AsnType::Bits(size) => bit_string_octets(size),
+        AsnType::Octets(size) | AsnType::Text(_, size) => string_octets(size),
+        AsnType::Utf8 => Extent::from(1),
+        AsnType::Seq { root, ext } => {
+            let (bits, all) = components_octets(root);
+            match ext {
+                None => with_preamble(bits, all),
+                Some(additions) => {
+                    let known = with_preamble(bits.saturating_add(1), all);
+                    known.or(known.and(additions_octets(additions)))
+                }
+            }
+        }
+        AsnType::SeqOf(element, size) => {
+            let (low, high) = counts_of(size);
+            let quantity = Extent {
+                least: octets_in(low).saturating_add(1),
+                greatest: match high {
+                    Some(high) => Some(octets_in(high).saturating_add(1)),
+                    None => None,
+                },
+            };
+            quantity.and(octets_of(element).times(low, high))
+        }
+        AsnType::Choice { root, ext } => {
+            let known = alternatives_octets(root);
+            let all = match ext {
+                None => known,
+                Some(additions) => open_alternatives_octets(known, additions),
+            };
+            Extent::fixed(1).and(all.unwrap_or(Extent::fixed(0)))
+        }
+    }
+}
+
+/// The least and the greatest count of a size, whatever its extension marker adds.
+fn counts_of(size: &Size) -> (u64, Option<u64>) {
+    if size.ext {
+        return (0, None);
+    }
+    let high = match size.high {
+        Some(high) => Some(u64::from(high)),
+        None => None,
+    };
+    (u64::from(size.low), high)
+}
+
+/// Of an INTEGER with these bounds: 1, 2, 4 or 8 octets where both bounds are there, else a length and at most eight.
+fn number_octets(bounds: &Bounds) -> Extent {
+    let counted = Extent {
+        least: 2,
+        greatest: Some(9),
+    };
+    match (bounds.low, bounds.high) {
+        (Some(low), Some(high)) if !bounds.ext => Extent::fixed(if low >= 0 {
+            width_from_zero(high)
+        } else {
+            width_signed(low, high)
+        }),
+        _ => counted,
+    }
+}
+
+/// The octets of numbers from 0 to this one.
+fn width_from_zero(high: i128) -> u64 {
+    if high < 0x100 {
+        1
+    } else if high < 0x1_0000 {
+        2
+    } else if high < 0x1_0000_0000 {
+        4
+    } else {
+        8
+    }
+}
+
+/// The octets of numbers from this one, which is below 0, to that one.
+fn width_signed(low: i128, high: i128) -> u64 {
+    if low >= -0x80 && high < 0x80 {
+        1
+    } else if low >= -0x8000 && high < 0x8000 {
+        2
+    } else if low >= -0x8000_0000 && high < 0x8000_0000 {
+        4
+    } else {
+        8
+    }
+}
+
+/// Of one of some, where there is one, or of the number of one of these items.
+fn items_octets(any: Option<Extent>, items: &[Item]) -> Option<Extent> {
+    let mut any = any;
+    for item in items {
+        any = one_more(any, Extent::fixed(item_octets(item.number)));
+    }
+    any
+}
+
+/// The octets of the number of an item: one, or a length and the fewest in two's complement.
+fn item_octets(number: i64) -> u64 {
+    if number >= 0 && number < 0x80 {
+        1
+    } else if number >= -0x80 && number < 0x80 {
+        2
+    } else if number >= -0x8000 && number < 0x8000 {
+        3
+    } else if number >= -0x80_0000 && number < 0x80_0000 {
+        4
+    } else {
+        5
+    }
+}
+
+/// Of a BIT STRING: the bits, filled up, and, unless their count is fixed, a length and the number of unused bits.
+fn bit_string_octets(size: &Size) -> Extent {
+    let (low, high) = counts_of(size);
+    let least = low.div_ceil(8);
+    if high == Some(low) {
+        return Extent::fixed(least);
+    }
+    Extent {
+        least: with_length(least.saturating_add(1)),
+        greatest: match high {
+            Some(high) => Some(with_length(high.div_ceil(8).saturating_add(1))),
+            None => None,
+        },
+    }
+}
+
+/// Of octets, or characters of an octet each, with their length, unless that is fixed.
+fn string_octets(size: &Size) -> Extent {
+    let (low, high) = counts_of(size);
+    if high == Some(low) {
+        return Extent::fixed(low);
+    }
+    Extent {
+        least: with_length(low),
+        greatest: match high {
+            Some(high) => Some(with_length(high)),
+            None => None,
+        },
+    }
+}
+
+/// So many octets and their length determinant.
+fn with_length(octets: u64) -> u64 {
+    let length = if octets < 128 {
+        1
+    } else {
+        octets_in(octets).saturating_add(1)
+    };
+    octets.saturating_add(length)
+}
+
+/// Of the components of a root, after how many bits of their presence bitmap there are.
+#[cycle(octets)]
+fn components_octets(fields: &[Field]) -> (u64, Extent) {
+    let mut bits = 0u64;
+    let mut all = Extent::fixed(0);
+    for field in fields {
+        let value = octets_of(&field.ty);
+        match field.need {
+            Need::Must => all = all.and(value),
+            Need::Optional | Need::Default(_) => {
+                bits = bits.saturating_add(1);
+                all = all.and(value.maybe());
+            }
+        }
+    }
+    (bits, all)
+}
+
+/// Of components after a preamble of so many bits.
+fn with_preamble(bits: u64, components: Extent) -> Extent {
+    Extent::fixed(bits.div_ceil(8)).and(components)
+}
+
+/// Of the presence bitmap of extension additions, and of each that may be there, in an open type field.
+#[cycle(octets)]
+fn additions_octets(fields: &[Field]) -> Extent {
+    let bitmap = (fields.len() as u64).div_ceil(8).saturating_add(2);
+    let mut all = Extent::fixed(bitmap);
+    for field in fields {
+        all = all.and(open_octets(octets_of(&field.ty)).maybe());
+    }
+    all
+}
+
+/// Of one of these alternatives.
+#[cycle(octets)]
+fn alternatives_octets(alternatives: &[Alt]) -> Option<Extent> {
+    let mut any = None;
+    for alternative in alternatives {
+        any = one_more(any, octets_of(&alternative.ty));
+    }
+    any
+}
+
+/// Of one of some, where there is one, or of one of these, in an open type field.
+#[cycle(octets)]
+fn open_alternatives_octets(any: Option<Extent>, alternatives: &[Alt]) -> Option<Extent> {
+    let mut any = any;
+    for alternative in alternatives {
+        any = one_more(any, open_octets(octets_of(&alternative.ty)));
+    }
+    any
+}
+
+/// Of an open type field around so many octets.
+fn open_octets(content: Extent) -> Extent {
+    Extent {
+        least: with_length(content.least),
+        greatest: match content.greatest {
+            Some(most) => Some(with_length(most)),
+            None => None,
+        },
+    }
+}

@@ -15,7 +15,7 @@ mod reading;
 mod running;
 mod texts;
 
-pub use by_name::{run, run_on_lines};
+pub use by_name::{answer_line, run, run_on_lines};
 pub use conversion::{ConvertFault, convert};
 pub use cut::cut_input;
 pub use job::{Job, Order, RuleName, RunFault, Status};

@@ -3,13 +3,17 @@
 #![tactic(auto)]
 
 mod ending;
+mod explaining;
 mod flattening;
 mod help;
+mod refused;
 mod request;
 mod running;
 mod sources;
 mod stop;
+mod telling;
 mod texts;
+mod typed;
 mod words;
 
 use ending::refusal_ending;
@@ -63,7 +67,8 @@ fn do_request<'a>(rt: &HostRuntime, request: &Request<'a>) -> Result<u8, Stop<'a
             job,
             files,
             options,
-        } => run_job(rt, job, files.as_slice(), *options),
+            is_explained,
+        } => run_job(rt, job, files.as_slice(), *options, *is_explained),
     }
 }
 

@@ -1,15 +1,17 @@
 //! Jobs on standard input and output.
 use crate::ending::ending;
+use crate::piped::Piped;
 use crate::refused::{imports_told, line_told, text_told};
 use crate::sources::{Instead, input_with, instead_of, module_of};
 use crate::stop::Stop;
 use crate::telling::{Telling, answer_explained};
 use crate::texts::{texts_of, views_of};
 use asn_convert::{Job, RunFault, Status, cut_input, read_all, run, run_on_lines};
+use asn_module::Module;
 use asn_published::{Options, PublishedFault};
 use asn_rules::Counted;
 use std::io;
-use std::io::BufReader;
+use std::io::{BufRead, BufReader};
 
 /// Does the job on standard input and output, its module being that of the files, or of standard input where there are
 /// none. Gives the exit status.
@@ -88,10 +90,7 @@ fn run_explained<'a>(
         return Ok(None);
     };
     let mut lines = lines;
-    match answer_explained(rt, job, &module, &mut lines) {
-        Some(answer) => Ok(Some(ended(rt, &answer))),
-        None => Ok(None),
-    }
+    Ok(explained(rt, job, &module, &mut lines))
 }
 
 /// Does the job, its module being that of the files. The lines of standard input are answered as they come; where the
@@ -161,28 +160,42 @@ fn run_coming<'a>(
             let Ok(mut lines) = BufReader::new(rt.alloc(), rt.reader()) else {
                 return Err(Stop::Memory);
             };
-            if let Some(answer) = answer_explained(rt, job, &module, &mut lines) {
-                return Ok(ended(rt, &answer));
+            if let Some(status) = explained(rt, job, &module, &mut lines) {
+                return Ok(status);
             }
         }
     }
     let mut input = Counted::new(rt.reader());
-    let mut output = Counted::new(io::writer(rt));
+    let mut output = Counted::new(Piped::new(io::writer(rt)));
     let answer = run_on_lines(rt.alloc(), head, &mut input, &mut output, job);
-    Ok(ended(rt, &answer))
+    Ok(ended(rt, &answer, output.into_inner().is_closed()))
 }
 
 /// The exit status of the job on these octets, after the line on standard error, if there is one.
 fn run_on(rt: &HostRuntime, job: &Job, octets: &[u8]) -> u8 {
     let mut input = Counted::new(octets);
-    let mut output = Counted::new(io::writer(rt));
+    let mut output = Counted::new(Piped::new(io::writer(rt)));
     let answer = run(rt.alloc(), &mut input, &mut output, job);
-    ended(rt, &answer)
+    ended(rt, &answer, output.into_inner().is_closed())
 }
 
-/// The exit status of a job that was answered so, after the line on standard error, if there is one.
-fn ended(rt: &HostRuntime, answer: &Result<Status, RunFault>) -> u8 {
-    let (status, line) = ending(answer);
+/// The exit status of the job on these lines, each of which is told why it is refused. `None`, and nothing is done, where
+/// the module is to be printed or has no type of the name.
+fn explained<R: BufRead>(
+    rt: &HostRuntime,
+    job: &Job,
+    module: &Module,
+    lines: &mut R,
+) -> Option<u8> {
+    let mut output = Counted::new(Piped::new(io::writer(rt)));
+    let answer = answer_explained(rt, job, module, lines, &mut output)?;
+    Some(ended(rt, &answer, output.into_inner().is_closed()))
+}
+
+/// The exit status of a job that was answered so, after the line on standard error, if there is one; `is_closed` says
+/// whether the reader of standard output has gone.
+fn ended(rt: &HostRuntime, answer: &Result<Status, RunFault>, is_closed: bool) -> u8 {
+    let (status, line) = ending(answer, is_closed);
     if !line.is_empty() {
         let _ = rt.eprintln(line);
     }

@@ -5,7 +5,6 @@ use asn_module::Module;
 use asn_rules::Counted;
 use asn_values::Checked;
 use std::alloc::AllocError;
-use std::io;
 use std::io::{BufRead, IsTerminal, Write};
 
 /// What standard error tells beside the remarks on published types.
@@ -32,11 +31,12 @@ impl Telling {
 ///
 /// # Errors
 /// `Read`, `Write` and `Memory` as of `run_on_lines`.
-pub fn answer_explained<R: BufRead>(
+pub fn answer_explained<R: BufRead, W: Write>(
     rt: &HostRuntime,
     job: &Job,
     module: &Module,
     lines: &mut R,
+    output: &mut Counted<W>,
 ) -> Option<Result<Status, RunFault>> {
     let Job::Lines {
         order,
@@ -47,26 +47,26 @@ pub fn answer_explained<R: BufRead>(
         return None;
     };
     let ty = module.type_named(type_name.as_str())?;
-    Some(answer_lines(rt, lines, ty, *order, *rules))
+    Some(answer_lines(rt, lines, output, ty, *order, *rules))
 }
 
 /// Answers the lines.
-fn answer_lines<R: BufRead>(
+fn answer_lines<R: BufRead, W: Write>(
     rt: &HostRuntime,
     lines: &mut R,
+    output: &mut Counted<W>,
     ty: &Checked,
     order: Order,
     rules: RuleName,
 ) -> Result<Status, RunFault> {
     let alloc = rt.alloc();
-    let mut output = Counted::new(io::writer(rt));
     let mut line = Vec::new(alloc);
     let mut status = Status::Good;
     for number in 1..u64::MAX {
         if !read_line(lines, &mut line)? {
-            return flushed(&mut output, status);
+            return flushed(output, status);
         }
-        if !answer_line(alloc, &mut output, ty, order, rules, line.as_slice())? {
+        if !answer_line(alloc, output, ty, order, rules, line.as_slice())? {
             status = Status::Marked;
             tell(rt, number, ty, order, rules, line.as_slice())?;
         }

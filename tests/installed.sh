@@ -33,9 +33,10 @@ completes 'oer' convert --type Msg --rules o
 completes 'summary text json' flatten --report ''
 completes 'at' show --module a
 completes '--strict' flatten --s
+completes '--explain' show --type Msg --exp
 
 page=$folder/at/share/man/man1/asn_tool.1
-for word in flatten module show check encode convert newer '\-\-type' '\-\-rules' '\-\-module' '\-\-report' '\-\-levels'; do
+for word in flatten module show check encode convert newer '\-\-type' '\-\-rules' '\-\-module' '\-\-report' '\-\-levels' '\-\-explain'; do
     if grep -qF -- "$word" "$page"; then
         passed=$((passed + 1))
     else

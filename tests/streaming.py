@@ -5,7 +5,7 @@ usage: tests/streaming.py PROGRAM      a built asn_tool
 
 The answers to the messages of `examples` are those to the same messages after a line `====`, in each order and under both
 rules, whole and cut into pieces of few octets; an answer comes before the next line is written; the memory of the program
-does not grow with its input; and what stops it is told.
+does not grow with its input; and what stops it is told. With --explain standard output is the same.
 """
 import os
 import subprocess
@@ -66,7 +66,24 @@ def messages(count, program):
             wanted = run(words, octets_of(file) + b"====\n" + given)
             for last in (given, given.rstrip(b"\n")):
                 count.add(run([*words, "--module", file], last) == wanted, f"{name} {order} {rules}")
+            for way, text in ((["--module", file], given), ([], octets_of(file) + b"====\n" + given)):
+                count.add(run([*words, *way, "--explain"], text) == wanted, f"{name} {order} {rules} {way} --explain")
             count.add(run_in_pieces([*words, "--module", file], given[:2000], 3)[1] == run(words, octets_of(file) + b"====\n" + given[:2000])[1], f"{name} {order} {rules} in pieces")
+
+
+def explained(count, program):
+    """With --explain standard error has a line for each refusal, with its number, and standard output is the same."""
+    for name in ("cam", "bsm", "signalling"):
+        for rules in ("per", "oer"):
+            whole = octets_of(f"{TOP}/examples/{name}.{rules}").split()[:20]
+            spoilt = [it[:-2] for it in whole] + [it + b"00" for it in whole] + [b"ff" + it[2:] for it in whole] + [b"zz", b"0"]
+            values = octets_of(f"{TOP}/examples/{name}.values").splitlines()[:20]
+            for order, lines in (("show", whole + spoilt), ("check", spoilt), ("convert", spoilt), ("newer", spoilt), ("encode", [it[:-1] for it in values] + [b"{}", b"7"] + values)):
+                words, given = [program, order, "--type", "Message", "--rules", rules, "--module", f"{TOP}/examples/{name}.asn"], b"\n".join(lines)
+                wanted, ran = run(words, given), run([*words, "--explain"], given)
+                refused = [b"line %d" % (at + 1) for at, it in enumerate(wanted[1].splitlines()) if it.startswith(b"!")]
+                told = [it.split(b": ")[0] for it in ran[2].splitlines()]
+                count.add(refused and ran[:2] == wanted[:2] and told == refused, f"{name} {order} {rules} --explain of refusals: {ran[2][:300]}")
 
 
 def as_they_come(count, program, file):
@@ -104,6 +121,12 @@ def faults(count, program, file):
     with open("/dev/full", "wb") as full:
         ran = subprocess.run([program, *SHOW, "--module", file], input=b"50\n", stdout=full, stderr=subprocess.PIPE)
     count.add((ran.returncode, ran.stderr) == (3, b"write failed\n"), f"a full disk: {ran}")
+    for words in ([*SHOW, "--module", file], [*SHOW, "--module", file, "--explain"], ["module", "--module", file], ["flatten", file], ["--help"]):
+        reads, writes = os.pipe()
+        os.close(reads)
+        ran = subprocess.run([program, *words], input=b"50\n", stdout=writes, stderr=subprocess.PIPE)
+        os.close(writes)
+        count.add((ran.returncode, ran.stderr) == (141, b""), f"{words[0]} whose reader has gone: {ran}")
     with tempfile.TemporaryDirectory() as folder:
         ran = subprocess.run([program, *SHOW, "--module", file], stdin=os.open(folder, os.O_RDONLY), capture_output=True)
     count.add((ran.returncode, ran.stdout, ran.stderr) == (3, b"", b"read failed\n"), f"a folder as the input: {ran}")
@@ -119,6 +142,7 @@ def main(words):
         with open(file, "wb") as it:
             it.write(MODULE)
         messages(count, program)
+        explained(count, program)
         as_they_come(count, program, file)
         memory(count, program, file)
         faults(count, program, file)

@@ -1,5 +1,7 @@
 -- The encoding rules that a name stands for.
-use Rattle.std.specs.Prelude.{Result, ℕ, List}
+use Rattle.std.specs.Prelude.{Result, ℕ, Bool, List}
+use Rattle.asn_values.specs.View.{shape_of}
+use Rattle.asn_values.specs.declared.types.AsnType.{AsnType}
 use Rattle.asn_rules.specs.declared.counting.Counted.{Counted}
 use Rattle.asn_per.specs.Rules.{per_ruling}
 use Rattle.asn_oer.specs.Rules.{oer_ruling}
@@ -9,11 +11,13 @@ use Rattle.asn_convert.specs.Coming.{Ended, Stopped, TextOf, BegunOf}
 use Rattle.asn_convert.specs.Lines.{module_text}
 use Rattle.asn_convert.specs.declared.job.Job.{Job}
 use Rattle.asn_convert.specs.declared.job.Job.TheVariants as job
+use Rattle.asn_convert.specs.declared.job.Order.{Order}
 use Rattle.asn_convert.specs.declared.job.RuleName.{RuleName}
 use Rattle.asn_convert.specs.declared.job.RuleName.TheVariants as rule_name
 use Rattle.asn_convert.specs.declared.job.RunFault.{RunFault}
 use Rattle.asn_convert.specs.declared.job.Status.{Status}
 use Rattle.asn_convert.specs.Parts.{Known, RanWith, FailedWith}
+use Rattle.asn_convert.specs.Text.{IsAnswered, IsAnswerBegun, terms}
 
 -- what is converted, is converted to the other
 abbrev pub rulings_of : RuleName → Rulings
@@ -52,3 +56,10 @@ abbrev pub StoppedOnLines :
 StoppedOnLines j head r left before after contents old new =
     Stopped r left before after contents old new
     (λ lines out. BegunOf (rulings_of (rules_of j)) j (module_text head) lines out)
+
+-- the answer to one line, by the rules of this name, with its LF, and nothing or a front of it
+abbrev pub OneTold : RuleName → Order → AsnType → List ℕ → Bool → List ℕ → Type 0
+OneTold name by t line good out = IsAnswered (terms (rulings_of name) name by (shape_of t)) line out good
+
+abbrev pub OneBegun : RuleName → Order → AsnType → List ℕ → List ℕ → Type 0
+OneBegun name by t line out = IsAnswerBegun (terms (rulings_of name) name by (shape_of t)) line out

@@ -1,13 +1,16 @@
 //! Jobs under the encoding rules that they name.
 ghost use Rattle.std.specs.Prelude.{◌≡◌};
-ghost use Rattle.asn_convert.specs.Named.{Ran, Failed, RanOnLines, StoppedOnLines, rules_of};
+ghost use Rattle.asn_convert.specs.Named.{Ran, Failed, RanOnLines, StoppedOnLines, OneTold, OneBegun, rules_of};
+ghost use Rattle.asn_convert.specs.Parts.{Wrote, Broke};
 
 use crate::coming::run_coming;
-use crate::job::{Job, RuleName, RunFault, Status};
+use crate::job::{Job, Order, RuleName, RunFault, Status};
+use crate::running;
 use crate::running::run_with;
 use asn_oer::Oer;
 use asn_per::Per;
 use asn_rules::Counted;
+use asn_values::Checked;
 use std::alloc::Global;
 use std::io::{Read, Write};
 
@@ -61,6 +64,28 @@ pub fn run_on_lines<R: Read, W: Write>(
     match rules_of(job) {
         RuleName::Per => run_coming::<Per, Oer, R, W>(alloc, head, input, output, job),
         RuleName::Oer => run_coming::<Oer, Per, R, W>(alloc, head, input, output, job),
+    }
+}
+
+/// Answers one line, without its LF, for the type, and tells whether the answer is no refusal. The writer is not flushed.
+///
+/// # Errors
+/// `Write` only where the writer answered a fault, and `Memory` where an allocation failed: what was written is a
+/// beginning of the answer.
+pub fn answer_line<W: Write>(
+    alloc: Global,
+    output: &mut Counted<W>,
+    ty: &Checked,
+    order: Order,
+    rules: RuleName,
+    line: &[u8],
+) -> Result<bool, RunFault>
+    ensures told { Wrote result W.contents output.old output.new (OneTold rules order ty.now line.now) }
+    ensures begun { Broke result W.contents output.old output.new (OneBegun rules order ty.now line.now) }
+{
+    match rules {
+        RuleName::Per => running::answer_line::<Per, Oer, W>(alloc, output, ty, order, rules, line),
+        RuleName::Oer => running::answer_line::<Oer, Per, W>(alloc, output, ty, order, rules, line),
     }
 }
 

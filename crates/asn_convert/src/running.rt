@@ -180,7 +180,7 @@ pub(crate) fn answer_lines<A: ReadNewer, B: Rules, W: Write>(
 }
 
 /// Answers one line, and tells whether the answer is no refusal. What is answered is let go at the end.
-fn answer_line<A: ReadNewer, B: Rules, W: Write>(
+pub(crate) fn answer_line<A: ReadNewer, B: Rules, W: Write>(
     alloc: Global,
     output: &mut Counted<W>,
     ty: &Checked,

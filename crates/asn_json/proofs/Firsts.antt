@@ -1,5 +1,5 @@
 -- The first of the paths of a part is that of the whole.
-use Rattle.std.proofs.Common.{◌≡◌, ℕ, List, [], ◌∷◌, ◌++◌, Some, slice_get, refl}
+use Rattle.std.proofs.Common.{◌≡◌, ◌≢◌, ℕ, List, [], ◌∷◌, ◌++◌, Some, slice_get, refl, subst}
 use Rattle.asn_json.specs.declared.fault.JsonFault.{JsonFault}
 use Rattle.asn_json.specs.declared.fault.JsonFault.TheVariants as fault
 use Rattle.serde_json.specs.Data.{Data}
@@ -29,3 +29,7 @@ pub refused_by : (t : Shape) (j : Data) (f : JsonFault) → TellsFirst (bad t j)
 refused_by t j (fault.Shape path) h = h.told
 refused_by t j fault.NotOfType h = absurd h.told
 refused_by t j fault.Memory h = tt
+
+-- a path is told, and never that the value does not fit
+pub never_of_bounds : (paths : List (List ℕ)) (f : JsonFault) → TellsFirst paths f → f ≢ fault.NotOfType
+never_of_bounds paths f h is = let told : FirstPath paths fault.NotOfType = subst (FirstPath paths) is h.told in told

@@ -11,5 +11,5 @@ mod read;
 mod write;
 
 pub use fault::JsonFault;
-pub use read::from_json;
+pub use read::{from_json, value_shown};
 pub use write::to_json;

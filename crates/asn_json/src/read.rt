@@ -1,5 +1,5 @@
 //! The values that JSON shows.
-ghost use Rattle.std.specs.Prelude.{◌≡◌, ◌<◌, ◌^◌, [], IfOk, IfErr, OnOk, IsOkAnd, None, option_map};
+ghost use Rattle.std.specs.Prelude.{◌≡◌, ◌≢◌, ◌<◌, ◌^◌, [], IfOk, IfErr, OnOk, IsOkAnd, None, option_map};
 ghost use Rattle.serde_json.specs.View.{view};
 ghost use Rattle.asn_values.specs.Datum.{alternative};
 ghost use Rattle.asn_values.specs.Fits.{Fits};
@@ -10,6 +10,7 @@ ghost use Rattle.asn_json.specs.Errors.{Shown, Refused, errors};
 ghost use Rattle.asn_json.specs.Parts.{ShowsComponents, component_errors, ShowsComponent, errors_of_component, key_errors, ShowsArray, array_errors, alternative_errors, TellsBelow};
 ghost use Rattle.asn_json.specs.Paths.{to_member};
 ghost use Rattle.asn_json.specs.Readers.{TellsFirst, Shows, ShowsEntry, errors_of_entry, ShowsAt};
+ghost use Rattle.asn_json.specs.declared.fault.JsonFault.{JsonFault};
 
 use crate::fault::JsonFault;
 use crate::leaf_readers::{
@@ -37,7 +38,7 @@ pub fn from_json(alloc: Global, ty: &Checked, json: &Json) -> Result<Value, Json
     ensures fits { IfOk result (λ v. Fits (shape_of ty.now) (datum_of v)) }
     ensures refused { IfErr result (λ fault. Refused (shape_of ty.now) (view json.now) fault) }
 {
-    match read(alloc, ty.get(), json) {
+    match value_shown(alloc, ty, json) {
         Ok(value) => {
             if fits(ty, &value) {
                 Ok(value)
@@ -45,6 +46,21 @@ pub fn from_json(alloc: Global, ty: &Checked, json: &Json) -> Result<Value, Json
                 Err(JsonFault::NotOfType)
             }
         }
+        Err(fault) => Err(fault),
+    }
+}
+
+/// The value that the JSON shows, whether or not it fits the type, as `asn_view::misfit` then tells.
+///
+/// # Errors
+/// `Shape` and `Memory`, as `from_json` tells them.
+pub fn value_shown(alloc: Global, ty: &Checked, json: &Json) -> Result<Value, JsonFault>
+    ensures shown { IfOk result (λ v. Shown (shape_of ty.now) (view json.now) (datum_of v)) }
+    ensures refused { IfErr result (λ fault. Refused (shape_of ty.now) (view json.now) fault) }
+    ensures no_bounds { IfErr result (λ fault. fault ≢ JsonFault.NotOfType) }
+{
+    match read(alloc, ty.get(), json) {
+        Ok(value) => Ok(value),
         Err(fault) => Err(from_top(alloc, fault)),
     }
 }

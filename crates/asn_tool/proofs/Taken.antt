@@ -80,40 +80,10 @@ letters : (x : ℕ) → x < 114 → ((x ≡ 116 → ⊥) × (x ≡ 114 → ⊥))
 letters x below = ((λ e. absurd (omega arith)), (λ e. absurd (omega arith)))
 
 leaf_options : (names : Bor (List (Bor (List ℕ)))) → Each (IsOption (HasValue names)) (leaf_rules names)
-leaf_options names = (
-  inr (inl (refl, refl, λ how v vs ok. ((λ e. (v, refl)), (λ e. let bad : ◌≡◌ {A = ℕ} 116 114 = ap first e in absurd (omega arith))))),
-  (
-    inr (inl (refl, refl, λ how v vs ok. ((λ e. let bad : ◌≡◌ {A = ℕ} 114 116 = ap first e in absurd (omega arith)), (λ e. (v, refl, ok))))),
-    (
-      inr (inr (inl refl, (λ how values. other names (set_row (codes "module") how values) (letters 109 (omega arith)).0 (letters 109 (omega arith)).1))),
-      (
-        inr (inr (inr refl, (λ how values. other names (set_row (codes "plain-bits") how values) (letters 112 (omega arith)).0 (letters 112 (omega arith)).1))),
-        (
-          inr (inr (inr refl, (λ how values. other names (set_row (codes "octets") how values) (letters 111 (omega arith)).0 (letters 111 (omega arith)).1))),
-          (inr (inr (inl refl, (λ how values. other names (set_row (codes "levels") how values) (letters 108 (omega arith)).0 (letters 108 (omega arith)).1))), (inl refl, tt)),
-        ),
-      ),
-    ),
-  ),
-)
+leaf_options names = (inr (inl (refl, refl, λ how v vs ok. ((λ e. (v, refl)), (λ e. let bad : ◌≡◌ {A = ℕ} 116 114 = ap first e in absurd (omega arith))))), (inr (inl (refl, refl, λ how v vs ok. ((λ e. let bad : ◌≡◌ {A = ℕ} 114 116 = ap first e in absurd (omega arith)), (λ e. (v, refl, ok))))), (inr (inr (inl refl, (λ how values. other names (set_row (codes "module") how values) (letters 109 (omega arith)).0 (letters 109 (omega arith)).1))), (inr (inr (inr refl, (λ how values. other names (set_row (codes "explain") how values) (letters 101 (omega arith)).0 (letters 101 (omega arith)).1))), (inr (inr (inr refl, (λ how values. other names (set_row (codes "plain-bits") how values) (letters 112 (omega arith)).0 (letters 112 (omega arith)).1))), (inr (inr (inr refl, (λ how values. other names (set_row (codes "octets") how values) (letters 111 (omega arith)).0 (letters 111 (omega arith)).1))), (inr (inr (inl refl, (λ how values. other names (set_row (codes "levels") how values) (letters 108 (omega arith)).0 (letters 108 (omega arith)).1))), (inl refl, tt))))))))
 
 leaf_defaults : (names : Bor (List (Bor (List ℕ)))) → Each (IsDefaulted (HasValue names)) (leaf_rules names)
-leaf_defaults names = (
-  inl refl,
-  (
-    inl refl,
-    (
-      inl refl,
-      (
-        inr (λ how values. other names (default_row (codes "plain-bits") how values) (letters 112 (omega arith)).0 (letters 112 (omega arith)).1),
-        (
-          inr (λ how values. other names (default_row (codes "octets") how values) (letters 111 (omega arith)).0 (letters 111 (omega arith)).1),
-          (inl refl, (inl refl, tt)),
-        ),
-      ),
-    ),
-  ),
-)
+leaf_defaults names = (inl refl, (inl refl, (inl refl, (inr (λ how values. other names (default_row (codes "explain") how values) (letters 101 (omega arith)).0 (letters 101 (omega arith)).1), (inr (λ how values. other names (default_row (codes "plain-bits") how values) (letters 112 (omega arith)).0 (letters 112 (omega arith)).1), (inr (λ how values. other names (default_row (codes "octets") how values) (letters 111 (omega arith)).0 (letters 111 (omega arith)).1), (inl refl, (inl refl, tt))))))))
 
 both_given : (b c : Bool) → (not b || (not c || false)) ≡ false → (b ≡ true) × (c ≡ true)
 both_given true true e = (refl, refl)

@@ -49,6 +49,10 @@ rules_rule p = record (needed_rule (codes "rules")) { parser = p }
 abbrev pub module_rule : Rule
 module_rule = record (option_rule (codes "module")) { range = Some some_values }
 
+-- whether what is refused is explained
+abbrev pub explain_rule : Rule
+explain_rule = flag_rule (codes "explain")
+
 -- the files of the published modules
 abbrev pub file_rule : Rule
 file_rule = record (new_rule (codes "file")) {
@@ -78,11 +82,14 @@ IsFlatten s = (p : Option ValueParser) × TakesNames report_names p × (s ≡ (f
 
 -- the subcommand of the module
 abbrev pub module_shape : Shape
-module_shape = (with_leave (with_rule (new_app (codes "module")) module_rule)).top
+module_shape = (with_leave (with_rule (with_rule (new_app (codes "module")) module_rule) explain_rule)).top
 
--- the subcommand of an order, with its two options
+-- the subcommand of an order, with its two options that have to be given
+abbrev pub order_app : Text → Option ValueParser → App
+order_app name p = with_rule (with_rule (with_rule (with_rule (new_app name) type_rule) (rules_rule p)) module_rule) explain_rule
+
 abbrev pub order_shape : Text → Option ValueParser → Shape
-order_shape name p = (with_leave (with_rule (with_rule (with_rule (new_app name) type_rule) (rules_rule p)) module_rule)).top
+order_shape name p = (with_leave (order_app name p)).top
 
 abbrev pub IsOrder : Text → Shape → Type 0
 IsOrder name s = (p : Option ValueParser) × TakesNames rule_names p × (s ≡ order_shape name p)

@@ -89,8 +89,9 @@ form_in rows = option_map_or form_of (first_of (codes "report") rows) form.Summa
 abbrev pub IsRequestOf : Text × List Row → Request → Type 0
 IsRequestOf found (request.Flatten files options f) = (found.0 ≡ codes "flatten")
     × (texts_of files.items ≡ files_of (codes "file") found.1) × AreOptions found.1 options × (f ≡ form_in found.1)
-IsRequestOf found (request.Run j files options) = IsJobOf found j
+IsRequestOf found (request.Run j files options is_explained) = IsJobOf found j
     × (texts_of files.items ≡ files_of (codes "module") found.1) × AreOptions found.1 options
+    × IsFlag (codes "explain") found.1 is_explained
 
 abbrev pub HasRequest : Option (Text × List Row) → Request → Type 0
 HasRequest None r = ⊥

@@ -9,6 +9,26 @@ as they come. The text may be one of the profile, or a module as a standards bod
 Out: on standard output a line for each message, which begins with ! where it is refused. On standard error what is not
 the same of the published types that --type leads to, with file and line.
 
+What a refusal means, of which --explain tells more on standard error:
+  ! hex                 the line is not of hexadecimal digits, two an octet
+  ! json                the line is no JSON
+  ! shape PATH          what stands at PATH in the JSON shows no value of the type there
+  ! not of type         a number, a length or a character is none of the type
+  ! too long            the encoding would have more than 268,435,455 octets
+  ! cut short after N   the octets end before the message does, after N bits (OER: octets)
+  ! octets left after N the message ends after N octets, and more octets follow it
+  ! refused at bit N: WORD (OER: at octet N), the first after which no message can follow, WORD being
+    sealed              what is inside a field with a length of its own is no encoding of its type
+    default             a DEFAULT is written out, and the canonical encoding leaves it out
+    length              no length or count begins so, or a shorter form of it is wanted
+    extension           an extension bit, or a count of additions, that no encoding has
+    character           no character of the string type
+    padding             the bits that fill up an octet are not all 0
+    number              no number or item of the type begins so, or a shorter form of it is wanted
+  ! module ..           the text is no module of the profile; at N: after N octets
+  ! no type NAME        the module has no type of the name
+Of newer: ! refused, ! cut short and ! too many additions, where the octets are a message of no version of the type.
+
 Exit status: 0 if all went well; 1 if at least one message or type was refused; 2 if the words were not understood, the
 module was refused or it has no type of the name; 3 if reading, writing or memory failed, with a line on standard error.
 
@@ -40,6 +60,7 @@ writes
 pub static MODULE: &str = "\
 In: the text of a module. Lines after one that is ==== are ignored. With --module nothing is read of standard input.
 Out: the module, a line for each assignment, in order, each reference followed and each bound effective.
+With --explain standard error shows where a text is refused: the line with a mark under it, and what could stand there.
 
 Exit status: 0; 2 if the module was refused, which the only line of output tells; 3 if reading, writing or memory
 failed.
@@ -56,6 +77,7 @@ writes
 pub static SHOW: &str = "\
 In: the text of a module, a line that is ====, and messages in hexadecimal, one a line.
 Out: for each message its value as JSON, or a line that begins with ! and tells why it is refused.
+`asn_tool --help` says what each refusal means; with --explain standard error has a line more for each.
 
 Exit status: 0 if each message was shown; 1 if at least one was refused; 2 if the module was refused or has no type of
 the name, which the only line of output tells; 3 if reading, writing or memory failed.
@@ -63,12 +85,16 @@ the name, which the only line of output tells; 3 if reading, writing or memory f
 Example:
   printf '%s\\n' 'M DEFINITIONS AUTOMATIC TAGS ::= BEGIN' 'T ::= SEQUENCE { id INTEGER (0..7) }' END ==== a0 |
     asn_tool show --type T --rules per
-writes {\"id\":5}.";
+writes {\"id\":5}. Of the line a1 in the place of a0, with --explain, standard output has
+  ! refused at bit 8: padding
+and standard error
+  line 1: in $, SEQUENCE: the bits that fill up an octet are not all 0";
 
 /// Of `check`.
 pub static CHECK: &str = "\
 In: the text of a module, a line that is ====, and messages in hexadecimal, one a line.
 Out: for each message `ok` and how many octets it has, or a line that begins with ! and tells why it is refused.
+`asn_tool --help` says what each refusal means; with --explain standard error has a line more for each.
 
 Exit status: 0 if each line is a message; 1 if at least one was refused; 2 if the module was refused or has no type of
 the name, which the only line of output tells; 3 if reading, writing or memory failed.
@@ -82,6 +108,7 @@ writes `ok 1` and `! refused at bit 8: padding`.";
 pub static ENCODE: &str = "\
 In: the text of a module, a line that is ====, and values as JSON, one a line.
 Out: for each value its octets in hexadecimal, or a line that begins with ! and tells why it is refused.
+`asn_tool --help` says what each refusal means; with --explain standard error has a line more for each.
 
 Exit status: 0 if each value was encoded; 1 if at least one was refused; 2 if the module was refused or has no type of
 the name, which the only line of output tells; 3 if reading, writing or memory failed.
@@ -96,6 +123,7 @@ pub static CONVERT: &str = "\
 In: the text of a module, a line that is ====, and messages in hexadecimal, one a line, in the encoding rules named.
 Out: for each message the octets of the same value in the other encoding rules, in hexadecimal, or a line that begins
 with ! and tells why it is refused.
+`asn_tool --help` says what each refusal means; with --explain standard error has a line more for each.
 
 Exit status: 0 if each message was converted; 1 if at least one was refused; 2 if the module was refused or has no type
 of the name, which the only line of output tells; 3 if reading, writing or memory failed.
@@ -112,6 +140,7 @@ or fewer extension additions than those of the module.
 Out: for each message its value as JSON, without the additions that the module does not have, of each of which then
 stand a space, +, its number among the additions of its type, from 0, a colon and its octets in hexadecimal; or a line
 that begins with ! and tells why it is refused.
+`asn_tool --help` says what each refusal means; with --explain standard error has a line more for each.
 
 Exit status: 0 if each message was shown; 1 if at least one was refused; 2 if the module was refused or has no type of
 the name, which the only line of output tells; 3 if reading, writing or memory failed.

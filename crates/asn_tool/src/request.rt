@@ -5,7 +5,7 @@ ghost use Rattle.asn_convert.specs.declared.job.Order.{Order};
 ghost use Rattle.asn_convert.specs.declared.job.RuleName.{RuleName};
 ghost use Rattle.asn_tool.specs.declared.request.LineFault.{LineFault};
 ghost use Rattle.asn_tool.specs.Command.{HasOptions, IsTaken};
-ghost use Rattle.asn_tool.specs.Request.{Asks, AreOptions, HasRequest, IsJobOf, IsRequestOf, Told, fault_by, files_of, form_in, form_of, order_name, rule_name, texts_of};
+ghost use Rattle.asn_tool.specs.Request.{Asks, AreOptions, HasRequest, IsFlag, IsJobOf, IsRequestOf, Told, fault_by, files_of, form_in, form_of, order_name, rule_name, texts_of};
 
 use crate::words::command;
 use asn_convert::{Job, Order, RuleName};
@@ -34,6 +34,8 @@ pub enum Request<'a> {
         files: Vec<&'a str>,
         /// What becomes of published types that the profile does not have as they are.
         options: Options,
+        /// Whether standard error tells of each line that is refused, and of a refused module, why.
+        is_explained: bool,
     },
 }
 
@@ -113,6 +115,7 @@ fn run_in<'a>(alloc: Global, options: &ArgMatches<'a>, job: Job) -> Result<Reque
         job,
         files: files_in(alloc, options, "module")?,
         options: options_in(options),
+        is_explained: is_explained(options),
     })
 }
 
@@ -169,6 +172,13 @@ fn options_in(options: &ArgMatches<'_>) -> Options
         levels: options.get_one("levels").unwrap_or(0),
         strict: options.get_flag("strict"),
     }
+}
+
+/// Whether what is refused is explained.
+fn is_explained(options: &ArgMatches<'_>) -> bool
+    ensures { IsFlag (codes "explain") (rows_of (found_of options.now)) result }
+{
+    options.get_flag("explain")
 }
 
 /// How it is told what became of the types: a summary where it is not said.

@@ -4,6 +4,7 @@ ghost use Rattle.asn_module.specs.ModuleView.{types_view};
 ghost use Rattle.asn_module.specs.Accepted.{Accepted};
 ghost use Rattle.asn_module.specs.declared.fault.ModuleFault.{ModuleFault};
 ghost use Rattle.asn_convert.specs.Lines.{job_lines, lines_of, module_text};
+ghost use Rattle.asn_convert.specs.Text.{IsModule};
 ghost use Rattle.asn_tool.specs.Request.{texts_of};
 ghost use Rattle.asn_tool.specs.Sources.{IsInput, IsInputOf, IsOwn, IsOwnInput, mark};
 
@@ -101,6 +102,16 @@ fn own_of(alloc: Global, text: &str) -> Result<Option<Module>, AllocError>
             unless_memory(&fault)?;
             Ok(None)
         }
+    }
+}
+
+/// The module of the profile that these octets are the text of, if they are.
+pub fn module_of(alloc: Global, text: &[u8]) -> Result<Option<Module>, AllocError>
+    ensures { IfOk result (λ m. IfSome m (λ m. IsModule text.now (types_view m))) }
+{
+    match std::str::from_utf8(text) {
+        Ok(text) => own_of(alloc, text),
+        Err(_) => Ok(None),
     }
 }
 

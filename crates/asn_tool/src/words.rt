@@ -2,7 +2,7 @@
 ghost use Rattle.std.specs.Prelude.{◌≡◌, IfOk, false};
 ghost use Rattle.clap.specs.Words.{app_of, rule_of, shape_of};
 ghost use Rattle.clap.specs.declared.builder.Command.TheViews.{out-Command};
-ghost use Rattle.asn_tool.specs.Command.{IsFlatten, IsOrder, IsTool, TakesNames, file_rule, flag_rule, module_rule, module_shape, report_names, report_rule, rule_names, rules_rule, type_rule, with_leave};
+ghost use Rattle.asn_tool.specs.Command.{IsFlatten, IsOrder, IsTool, TakesNames, explain_rule, file_rule, flag_rule, module_rule, module_shape, report_names, report_rule, rule_names, rules_rule, type_rule, with_leave};
 
 use crate::help;
 use clap::{Arg, ArgAction, Command, value_parser};
@@ -24,6 +24,7 @@ pub fn command<'a>(alloc: Global) -> Result<Command<'a>, AllocError>
         .after_help(help::PROGRAM)
         .no_binary_name(true)
         .subcommand_required(true)
+        .bin_name("asn_tool")?
         .subcommand(flatten(alloc)?)?
         .subcommand(module(alloc)?)?
         .subcommand(order(alloc, "show", "Shows messages as JSON", help::SHOW)?)?
@@ -96,11 +97,12 @@ fn module<'a>(alloc: Global) -> Result<Command<'a>, AllocError>
     let command = Command::new(alloc, "module")
         .about("Prints the module, each reference followed")
         .after_help(help::MODULE)
-        .arg(files_option(alloc))?;
+        .arg(files_option(alloc))?
+        .arg(explain_option(alloc))?;
     with_leave(alloc, command)
 }
 
-/// The subcommand of an order, with its two options, both required.
+/// The subcommand of an order, with its two options that are required.
 fn order<'a>(
     alloc: Global,
     name: &'a str,
@@ -115,7 +117,8 @@ fn order<'a>(
         .after_help(help)
         .arg(type_option(alloc))?
         .arg(rules_option(alloc))?
-        .arg(files_option(alloc))?;
+        .arg(files_option(alloc))?
+        .arg(explain_option(alloc))?;
     with_leave(alloc, command)
 }
 
@@ -157,6 +160,18 @@ fn files_option<'a>(alloc: Global) -> Arg<'a>
         .num_args(1..)
         .action(ArgAction::Set)
         .help("The texts of the module, or of the published modules, in place of standard input's")
+}
+
+/// The option to explain what is refused.
+fn explain_option<'a>(alloc: Global) -> Arg<'a>
+    ensures rule { rule_of result ≡ explain_rule }
+    ensures local { result.global ≡ false }
+{
+    flag(
+        alloc,
+        "explain",
+        "Tells on standard error why a line, or the module, is refused, and in which component",
+    )
 }
 
 /// The command with the options for what the profile does not have as it is published.

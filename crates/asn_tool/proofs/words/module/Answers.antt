@@ -9,10 +9,12 @@ use Rattle.asn_tool.proofs.words.module.Goals as goal
 pub returns-clause-shape : goal.returns-clause-shape
 returns-clause-shape c =
     let new_is : app_of c.after_help.result ≡ new_app (codes "module") = ap app_of_fields c.after_help.ensures ∙ (ap app_of_fields c.about.ensures ∙ c.new.ensures.app) in
-    let one = c.in_ok-command.ensures.shape c.files_option.ensures.local ∙ ap₂ with_rule new_is c.files_option.ensures.rule in
-    IfOk-weaker c.with_leave.result _ _ (λ d h. ap (λ (a : App). a.top) (h ∙ ap with_leave one)) c.with_leave.ensures.shape
+    let one = c.in_ok-arg.ensures.shape c.files_option.ensures.local ∙ ap₂ with_rule new_is c.files_option.ensures.rule in
+    let two = c.in_ok-command.ensures.shape c.explain_option.ensures.local ∙ ap₂ with_rule one c.explain_option.ensures.rule in
+    IfOk-weaker c.with_leave.result _ _ (λ d h. ap (λ (a : App). a.top) (h ∙ ap with_leave two)) c.with_leave.ensures.shape
 
 pub returns-clause-local : goal.returns-clause-local
 returns-clause-local c =
     let new_local : (out-Command c.after_help.result).has_globals ≡ false = ap (λ f. f.has_globals) c.after_help.ensures ∙ (ap (λ f. f.has_globals) c.about.ensures ∙ c.new.ensures.local) in
-    c.with_leave.ensures.local (c.in_ok-command.ensures.globals ∙ ap₂ (λ a b. a || b) new_local c.files_option.ensures.local)
+    let one : (out-Command c.in_ok-arg.field-0).has_globals ≡ false = c.in_ok-arg.ensures.globals ∙ ap₂ (λ a b. a || b) new_local c.files_option.ensures.local in
+    c.with_leave.ensures.local (c.in_ok-command.ensures.globals ∙ ap₂ (λ a b. a || b) one c.explain_option.ensures.local)

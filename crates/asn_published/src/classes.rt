@@ -150,7 +150,7 @@ pub(crate) fn class_of(
 }
 
 /// Whether X.681 defines a class of this name.
-pub(crate) fn is_built_in(class: &str) -> bool {
+fn is_built_in(class: &str) -> bool {
     class == "TYPE-IDENTIFIER" || class == "ABSTRACT-SYNTAX"
 }
 

@@ -167,3 +167,42 @@ pub(crate) fn names_of(
     name_instances(alloc, instances, &mut names, &mut taken)?;
     Ok(names)
 }
+
+/// The number in what stands between the name of a type and the number of its level, which a name ends with: 1 of
+/// `T-level-3`, 2 of `T-level2-3`; `None` where it has none.
+fn number_of_mark(name: &str) -> Option<u32> {
+    let mut last = "";
+    let mut mark = "";
+    for part in name.split('-') {
+        mark = last;
+        last = part;
+    }
+    let _level = last.parse::<u32>().ok()?;
+    match mark.strip_prefix("level")? {
+        "" => Some(1),
+        number => number.parse::<u32>().ok(),
+    }
+}
+
+/// What stands between the name of a type and the number of its level, so that no type has such a name: `-level-`, or
+/// that with a number.
+pub(crate) fn level_mark_of(alloc: Global, names: &[String]) -> Result<String, AllocError> {
+    let mut taken: HashMap<u32, ()> = HashMap::new(alloc);
+    for name in names {
+        if let Some(number) = number_of_mark(name.as_str()) {
+            let _before = taken.insert(number, ())?;
+        }
+    }
+    let mut number = 1u32;
+    for _ in 0..names.len() {
+        if !taken.contains_key(&number) {
+            break;
+        }
+        number = number.saturating_add(1);
+    }
+    if number == 1 {
+        String::from_str(alloc, "-level-")
+    } else {
+        format!(in alloc; "-level{number}-")
+    }
+}

@@ -36,12 +36,14 @@ pub(crate) enum FieldKind {
 
 /// A field of a class.
 #[derive(Clone, Copy)]
-pub(crate) struct Field<'t> {
+pub(crate) struct ClassField<'t> {
     pub name: &'t str,
     pub kind: FieldKind,
     /// The type or the class of what is given, from one index to before another, where there is one.
-    from: usize,
-    end: usize,
+    pub from: usize,
+    pub end: usize,
+    /// The type is what an object gives for another field.
+    pub is_of_field: bool,
     /// Where what is given by default begins.
     default: Option<usize>,
     /// An object has to give it.
@@ -51,7 +53,7 @@ pub(crate) struct Field<'t> {
 /// A class that is defined.
 #[derive(Drop)]
 pub(crate) struct ClassTable<'t> {
-    pub fields: Vec<Field<'t>>,
+    pub fields: Vec<ClassField<'t>>,
     pub by_name: HashMap<&'t str, usize>,
     /// How many fields an object has to give.
     pub needed: usize,
@@ -156,7 +158,7 @@ fn field_at<'t>(
     module: usize,
     at: usize,
     is_plain: bool,
-) -> Result<(Field<'t>, usize), TextFault> {
+) -> Result<(ClassField<'t>, usize), TextFault> {
     let from = after_field_name(tokens, at)?;
     let is_one = tokens.is_identifier(next(at));
     let end = governor_end(tokens, from, is_one)?;
@@ -171,11 +173,12 @@ fn field_at<'t>(
         None
     };
     let is_optional = tokens.is_word(behind, "OPTIONAL");
-    let field = Field {
+    let field = ClassField {
         name: tokens.text(next(at)),
         kind,
         from,
         end,
+        is_of_field: tokens.is(from, Sign::Ampersand),
         default,
         is_needed: !is_optional && default.is_none(),
     };
@@ -221,7 +224,12 @@ fn table_of<'t>(
 
 impl<'t> ClassTable<'t> {
     /// Takes the field at `at`.
-    fn take(&mut self, tokens: &Tokens<'t>, at: usize, field: Field<'t>) -> Result<(), TextFault> {
+    fn take(
+        &mut self,
+        tokens: &Tokens<'t>,
+        at: usize,
+        field: ClassField<'t>,
+    ) -> Result<(), TextFault> {
         let index = self.fields.len();
         if self.by_name.insert(field.name, index)?.is_some() {
             return Err(tokens.expected(at, "a field of another name"));
@@ -251,8 +259,13 @@ impl<'t> ClassTable<'t> {
         Ok(())
     }
 
+    /// The field of a name.
+    pub fn field_named(&self, name: &str) -> Option<ClassField<'t>> {
+        self.field(*self.by_name.get(name)?)
+    }
+
     /// The field of an index.
-    pub fn field(&self, index: usize) -> Option<Field<'t>> {
+    pub fn field(&self, index: usize) -> Option<ClassField<'t>> {
         match self.fields.get(index) {
             Some(field) => Some(*field),
             None => None,
@@ -261,12 +274,17 @@ impl<'t> ClassTable<'t> {
 }
 
 impl<'t> Classes<'t> {
-    /// The classes of X.681.
-    pub fn new(alloc: Global) -> Result<Self, TextFault> {
-        let mut classes = Classes {
+    /// No class.
+    pub fn none(alloc: Global) -> Self {
+        Classes {
             tables: Vec::new(alloc),
             by_assignment: HashMap::new(alloc),
-        };
+        }
+    }
+
+    /// The classes of X.681.
+    pub fn new(alloc: Global) -> Result<Self, TextFault> {
+        let mut classes = Classes::none(alloc);
         let mut world = World::new(alloc);
         world.add(alloc, BUILT_IN)?;
         for index in 0..world.assignments.len() {
@@ -310,6 +328,11 @@ impl<'t> Classes<'t> {
         }
     }
 
+    /// What a class defines.
+    pub fn of(&self, class: ClassName) -> Option<&ClassTable<'t>> {
+        self.table(self.index_of(class)?)
+    }
+
     /// The class of an index.
     pub fn table(&self, index: usize) -> Option<&ClassTable<'t>> {
         self.tables.get(index)
@@ -324,11 +347,11 @@ impl<'a, 't> Reading<'a, 't> {
         todo: &mut Vec<Work>,
         assignment: usize,
     ) -> Result<(), TextFault> {
-        let Some(index) = self.classes.index_of(ClassName::Defined(assignment)) else {
+        let Some(index) = self.world.classes.index_of(ClassName::Defined(assignment)) else {
             // the name of another class
             return Ok(());
         };
-        let Some(table) = self.classes.table(index) else {
+        let Some(table) = self.world.classes.table(index) else {
             return Ok(());
         };
         for field in &table.fields {
@@ -342,13 +365,13 @@ impl<'a, 't> Reading<'a, 't> {
         self,
         alloc: Global,
         todo: &mut Vec<Work>,
-        field: &Field<'t>,
+        field: &ClassField<'t>,
     ) -> Result<(), TextFault> {
         let has_type = matches!(
             field.kind,
             FieldKind::Value(_) | FieldKind::Set | FieldKind::One | FieldKind::Many
         );
-        if has_type && !self.tokens.is(field.from, Sign::Ampersand) {
+        if has_type && !field.is_of_field {
             self.push(
                 todo,
                 Work::Type {

@@ -59,6 +59,8 @@ fn world_of<'t>(alloc: Global, texts: &[&'t str]) -> Result<World<'t>, Published
     }
     world.take_class_names();
     world.take_value_sets();
+    let classes = classes_of(alloc, &world)?;
+    world.take_classes(classes);
     read_all(alloc, &world)?;
     Ok(world)
 }
@@ -80,9 +82,8 @@ fn classes_of<'t>(alloc: Global, world: &World<'t>) -> Result<Classes<'t>, Publi
 
 /// Reads all that stands in the assignments.
 fn read_all(alloc: Global, world: &World<'_>) -> Result<(), PublishedFault> {
-    let classes = classes_of(alloc, world)?;
     for index in 0..world.assignments.len() {
-        match read_assignment(alloc, world, &classes, index) {
+        match read_assignment(alloc, world, index) {
             Ok(()) => {}
             Err(fault) => return Err(PublishedFault::of(text_of(world, index), fault)),
         }

@@ -1,5 +1,6 @@
 //! Reads the modules of a text (X.680, "module definition"): headers, exports and imports.
 use crate::assignments::after_assignments;
+use crate::class_table::Classes;
 use crate::prefixes::is_own_reference;
 use crate::token::{Kind, Sign};
 use crate::tokens::{Tokens, next};
@@ -62,6 +63,8 @@ pub(crate) struct World<'t> {
     pub modules: Vec<ModuleText<'t>>,
     pub module_names: HashMap<&'t str, usize>,
     pub assignments: Vec<Assignment<'t>>,
+    /// The classes that the assignments define; those of X.681 too, once all texts are read.
+    pub classes: Classes<'t>,
 }
 
 /// The index after the object identifier in braces, where it stands at `at`.
@@ -262,7 +265,13 @@ impl<'t> World<'t> {
             modules: Vec::new(alloc),
             module_names: HashMap::new(alloc),
             assignments: Vec::new(alloc),
+            classes: Classes::none(alloc),
         }
+    }
+
+    /// Takes the classes that the assignments define.
+    pub fn take_classes(&mut self, classes: Classes<'t>) {
+        self.classes = classes;
     }
 
     /// Takes the modules of a text.

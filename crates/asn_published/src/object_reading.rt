@@ -1,6 +1,6 @@
 //! Reads objects and sets of objects (X.681, "object assignment", "object set assignment"): what an object gives for each
 //! field of its class, by the names of the fields or by the syntax of the class.
-use crate::class_table::{ClassTable, Field, FieldKind, after_field_name};
+use crate::class_table::{ClassField, ClassTable, FieldKind, after_field_name};
 use crate::constraint_reading::{after_all, is_operator, is_type};
 use crate::extents::type_end;
 use crate::reading::{Reading, Work, before};
@@ -29,7 +29,7 @@ impl Given {
         tokens: &Tokens<'_>,
         at: usize,
         index: usize,
-        field: &Field<'_>,
+        field: &ClassField<'_>,
     ) -> Result<(), TextFault> {
         if self.fields.insert(index, ())?.is_some() {
             return Err(tokens.expected(at, "another field"));
@@ -78,7 +78,8 @@ fn is_read(tried: Result<(), TextFault>) -> Result<bool, TextFault> {
 impl<'a, 't> Reading<'a, 't> {
     /// The index among the classes that are defined of the one to which the name from `start` to before `end` leads.
     pub fn class_at(self, module: usize, start: usize, end: usize) -> Option<usize> {
-        self.classes
+        self.world
+            .classes
             .index_of(self.world.class_named(module, start, end)?)
     }
 
@@ -91,7 +92,7 @@ impl<'a, 't> Reading<'a, 't> {
         braces: usize,
     ) -> Result<(), TextFault> {
         let table = match class {
-            Some(class) => self.classes.table(class),
+            Some(class) => self.world.classes.table(class),
             None => None,
         };
         let Some(table) = table else {
@@ -231,7 +232,7 @@ impl<'a, 't> Reading<'a, 't> {
     /// The object of a class, in the braces at `braces`.
     pub fn object_of(self, class: ClassName, braces: usize) -> Work {
         Work::Object {
-            class: self.classes.index_of(class),
+            class: self.world.classes.index_of(class),
             braces,
         }
     }
@@ -239,7 +240,7 @@ impl<'a, 't> Reading<'a, 't> {
     /// The set of objects of a class, in the braces at `braces`.
     pub fn objects_of(self, class: ClassName, braces: usize) -> Work {
         Work::Objects {
-            class: self.classes.index_of(class),
+            class: self.world.classes.index_of(class),
             braces,
         }
     }

@@ -1,5 +1,4 @@
 //! Reads all that stands in assignments, each from a stack of what is still to be read, however deep it is nested.
-use crate::class_table::Classes;
 use crate::modules::{Assignment, What, World};
 use crate::token::{Kind, Sign};
 use crate::tokens::{Tokens, next};
@@ -54,7 +53,6 @@ pub(crate) enum Work {
 #[derive(Clone, Copy)]
 pub(crate) struct Reading<'a, 't> {
     pub world: &'a World<'t>,
-    pub classes: &'a Classes<'t>,
     pub tokens: &'a Tokens<'t>,
     pub module: usize,
     pub is_plain: bool,
@@ -69,7 +67,6 @@ pub(crate) fn before(at: usize) -> usize {
 pub(crate) fn read_assignment<'t>(
     alloc: Global,
     world: &World<'t>,
-    classes: &Classes<'t>,
     index: usize,
 ) -> Result<(), TextFault> {
     let Some(it) = world.assignment(index) else {
@@ -80,7 +77,6 @@ pub(crate) fn read_assignment<'t>(
     };
     let reading = Reading {
         world,
-        classes,
         tokens,
         module: it.module,
         is_plain: it.parameters.is_none(),

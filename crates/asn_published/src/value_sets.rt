@@ -19,7 +19,7 @@ pub(crate) enum ClassName {
 }
 
 /// The class of this name that X.681 defines.
-fn built_in(name: &str) -> Option<ClassName> {
+pub(crate) fn built_in(name: &str) -> Option<ClassName> {
     match name {
         "TYPE-IDENTIFIER" => Some(ClassName::TypeIdentifier),
         "ABSTRACT-SYNTAX" => Some(ClassName::AbstractSyntax),
@@ -48,6 +48,20 @@ impl<'t> World<'t> {
         match self.reference_at(module, start)? {
             (to, behind) if behind == end => Ok(to),
             _ => Err(Why::NoType),
+        }
+    }
+
+    /// The class that an assignment defines, or to which the name leads that it has.
+    pub fn class_from(&self, assignment: usize) -> Option<ClassName> {
+        let found = self.assignment(assignment)?;
+        let there = self.tokens_of(found.module)?;
+        match found.what {
+            What::Class if found.parameters.is_some() => None,
+            What::Class if there.is_word(found.start, "CLASS") => {
+                Some(ClassName::Defined(assignment))
+            }
+            What::Class => self.class_named(found.module, found.start, found.end),
+            _ => None,
         }
     }
 

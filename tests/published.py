@@ -218,7 +218,7 @@ HOSTILE = {
     "a list of values": (500000, lambda n: [HEAD + "S ::= SEQUENCE OF INTEGER T ::= NULL v S ::= { " + ", ".join(str(i) for i in range(n)) + " }\nEND\n"]),
     "components of an object identifier": (500000, lambda n: [HEAD + "T ::= NULL v OBJECT IDENTIFIER ::= { " + "a(1) " * n + "}\nEND\n"]),
     "values of CHOICE inside one another": (200000, lambda n: [HEAD + "C ::= CHOICE { a C } T ::= NULL v C ::= " + "a : " * n + "5\nEND\n"]),
-    "values of open types inside one another": (200000, lambda n: [HEAD + "C ::= CLASS { &T } T ::= NULL v C.&T ::= " + "OCTET STRING : " * n + "''H\nEND\n"]),
+    "values of open types inside one another": (200000, lambda n: [HEAD + "C ::= CLASS { &T } T ::= NULL v C.&T ::= " + "C.&T : " * n + "OCTET STRING : ''H\nEND\n"]),
     "values in a constraint": (100000, lambda n: [HEAD + "S ::= SEQUENCE OF INTEGER T ::= SEQUENCE { s S (" + " | ".join("{ 1, 2 }" for _ in range(n)) + ") }\nEND\n"]),
     "a DEFAULT in many instances": (2000, lambda n: [HEAD + "P { X } ::= SEQUENCE { x X, a S DEFAULT { " + ", ".join("1" for _ in range(50 * n)) + " } } S ::= SEQUENCE OF INTEGER\n" + "".join(f"T{i} ::= P {{ INTEGER (0..{i}) }}\n" for i in range(n)) + "END\n"]),
     "imports of modules that are not given": (50000, lambda n: [HEAD + "IMPORTS" + "".join(f"\nT{i} FROM N{i}" for i in range(n)) + "; T ::= NULL END\n"]),

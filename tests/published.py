@@ -307,7 +307,7 @@ LINES = {
     "groups": lambda n: f"67: T.[[ ]]: refused: {n} extension additions, more than 64",
     "unions": lambda n: "2: T: refused: more than 256 ranges",
     "groups of a syntax one in the other": lambda n: "2: a syntax of at most 1000 lexical items expected",
-    "words of an object": lambda n: "2: a value of INTEGER expected",
+    "words of an object": lambda n: "2: a value expected",
     "actual parameters": lambda n: "2: T: refused: a parameter in the place of a type or a number",
     "parameters of an assignment": lambda n: "2: T: refused: a parameter in the place of a type or a number",
     "objects of a class that is not given": lambda n: "2: N: a module that is not given",

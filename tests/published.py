@@ -108,7 +108,7 @@ def examples(count, program):
         count.add(ran[:3] == wanted, f"{words}: {ran[:3]}")
 
 
-# modules, and the lines that the report has: what is too large, with its count, and lines of several files
+# modules, the lines that the report has, and options: what is too large, with its count, and lines of several files
 TOLD = (
     ([HEAD + "T ::= " + "SEQUENCE { a\n" * 70000 + "NULL" + " }" * 70000 + "\nU ::= T\nV ::= NULL\nEND\n"],
      ["0.asn:34: T." + ".".join("a" * 32) + ": refused: 70001 levels, more than 32", "0.asn:70003: U: refused: a type that is refused"]),
@@ -116,6 +116,9 @@ TOLD = (
      ["0.asn:67: T.a64: refused: 90000 components, more than 64"]),
     ([HEAD + "T ::= SEQUENCE { e ENUMERATED {\n" + ",\n".join(f"a{i}" for i in range(90000)) + " } }\nEND\n"],
      ["0.asn:259: T.e: refused: 90000 items, more than 256"]),
+    # many types with names that those of levels would have
+    ([HEAD + "T ::= SEQUENCE { t T OPTIONAL }\n" + "".join(f"T-level-{i} ::= NULL\nT-level{i}-{i} ::= NULL\n" for i in range(100)) + "END\n"],
+     ["0.asn:2: T.t: wider: recursion ends in NULL"], "--levels", "3"),
     # a module that is not given is told where no type needs it, and in each module that imports from it
     ([HEAD + "IMPORTS A, B FROM N C FROM\nO { 1 2 }; T ::= NULL\nEND\n", "O DEFINITIONS ::= BEGIN\nIMPORTS A FROM\nN; END\n"],
      ["0.asn:2: N: a module that is not given", "1.asn:3: N: a module that is not given"]),
@@ -129,14 +132,14 @@ TOLD = (
 
 def told(count, program):
     """The lines of reports."""
-    for texts, lines in TOLD:
+    for texts, lines, *options in TOLD:
         with tempfile.TemporaryDirectory(prefix="tulvorn-published-") as room:
             names = []
             for index, text in enumerate(texts):
                 names.append(f"{room}/{index}.asn")
                 with open(names[-1], "w") as it:
                     it.write(text)
-            ran = run(program, ["flatten", "--report", "text", *names])
+            ran = run(program, ["flatten", "--report", "text", *options, *names])
         said = ran[2].decode().replace(room + "/", "").splitlines()
         count.add((ran[0], said) == (int(any(": refused: " in it for it in lines)), lines), f"report: status {ran[0]}, {[it[:200] for it in said[:4]]}")
 
@@ -215,7 +218,7 @@ HOSTILE = {
     "a list of values": (500000, lambda n: [HEAD + "S ::= SEQUENCE OF INTEGER T ::= NULL v S ::= { " + ", ".join(str(i) for i in range(n)) + " }\nEND\n"]),
     "components of an object identifier": (500000, lambda n: [HEAD + "T ::= NULL v OBJECT IDENTIFIER ::= { " + "a(1) " * n + "}\nEND\n"]),
     "values of CHOICE inside one another": (200000, lambda n: [HEAD + "C ::= CHOICE { a C } T ::= NULL v C ::= " + "a : " * n + "5\nEND\n"]),
-    "values of open types inside one another": (200000, lambda n: [HEAD + "C ::= CLASS { &T } T ::= NULL v C.&T ::= " + "OCTET STRING : " * n + "''H\nEND\n"]),
+    "values of open types inside one another": (200000, lambda n: [HEAD + "C ::= CLASS { &T } T ::= NULL v C.&T ::= " + "C.&T : " * n + "OCTET STRING : ''H\nEND\n"]),
     "values in a constraint": (100000, lambda n: [HEAD + "S ::= SEQUENCE OF INTEGER T ::= SEQUENCE { s S (" + " | ".join("{ 1, 2 }" for _ in range(n)) + ") }\nEND\n"]),
     "a DEFAULT in many instances": (2000, lambda n: [HEAD + "P { X } ::= SEQUENCE { x X, a S DEFAULT { " + ", ".join("1" for _ in range(50 * n)) + " } } S ::= SEQUENCE OF INTEGER\n" + "".join(f"T{i} ::= P {{ INTEGER (0..{i}) }}\n" for i in range(n)) + "END\n"]),
     "imports of modules that are not given": (50000, lambda n: [HEAD + "IMPORTS" + "".join(f"\nT{i} FROM N{i}" for i in range(n)) + "; T ::= NULL END\n"]),
@@ -233,6 +236,22 @@ HOSTILE = {
     "objects of a set": (100000, lambda n: [HEAD + "C ::= CLASS { &id INTEGER, &T } WITH SYNTAX { &T IDENTIFIED BY &id } S C ::= { " + " | ".join(f"{{ OCTET STRING IDENTIFIED BY {i} }}" for i in range(n)) + " } T ::= SEQUENCE { a C.&id ({S}) }\nEND\n"]),
     "groups of a syntax one in the other": (200000, lambda n: [HEAD + "C ::= CLASS { &id INTEGER } WITH SYNTAX { " + "[A " * n + "&id" + "]" * n + " } o C ::= { " + "A " * n + "5 } T ::= INTEGER (0..o.&id)\nEND\n"]),
     "words of an object": (500000, lambda n: [HEAD + "C ::= CLASS { &id INTEGER } WITH SYNTAX { &id } o C ::= { " + "A 5, SEQUENCE OF B " * n + "} T ::= NULL\nEND\n"]),
+    "fields of an object": (100000, lambda n: [HEAD + "C ::= CLASS { " + ", ".join(f"&a{i} INTEGER" for i in range(n)) + " } o C ::= { " + ", ".join(f"&a{i} {i}" for i in reversed(range(n))) + " } T ::= NULL\nEND\n"]),
+    "objects that give nothing": (100000, lambda n: [HEAD + "C ::= CLASS { " + ", ".join(f"&a{i} INTEGER OPTIONAL" for i in range(n)) + " }\n" + "".join(f"o{i} C ::= {{}}\n" for i in range(n)) + "T ::= NULL\nEND\n"]),
+    "objects of a long syntax": (20000, lambda n: [HEAD + "C ::= CLASS { " + ", ".join(f"&a{i} INTEGER OPTIONAL" for i in range(190)) + " } WITH SYNTAX { " + " ".join(f"[{'A' * (i + 1)} &a{i}]" for i in range(190)) + " }\n" + "".join(f"o{i} C ::= {{}}\n" for i in range(n)) + "T ::= NULL\nEND\n"]),
+    "objects inside one another": (100000, lambda n: [HEAD + "C ::= CLASS { &o C OPTIONAL } o C ::= " + "{ &o " * n + "{}" + " }" * n + " T ::= NULL\nEND\n"]),
+    "sets of objects inside one another": (100000, lambda n: [HEAD + "C ::= CLASS { &O C OPTIONAL } S C ::= " + "{ { &O " * n + "{ ... }" + " } }" * n + " T ::= NULL\nEND\n"]),
+    "types of an object inside one another": (100000, lambda n: [HEAD + "C ::= CLASS { &T } o C ::= { &T " + "SEQUENCE { a " * n + "NULL" + " }" * n + " } T ::= NULL\nEND\n"]),
+    "objects of a class that is not given": (100000, lambda n: [HEAD + "IMPORTS C FROM N; o C ::= " + "{ ID 5, " * n + "{}" + " }" * n + " T ::= NULL\nEND\n"]),
+    "a set of what is not given": (100000, lambda n: [HEAD + "IMPORTS C FROM N; S C ::= { " + "(" * n + "1" + " | 2)" * n + " } T ::= NULL\nEND\n"]),
+    "inner constraints inside one another": (100000, lambda n: [HEAD + "S ::= SEQUENCE { a S OPTIONAL } T ::= S " + "(WITH COMPONENTS { a " * n + "PRESENT" + " })" * n + "\nEND\n"]),
+    "contents inside one another": (100000, lambda n: [HEAD + "T ::= " + "OCTET STRING (CONTAINING " * n + "NULL" + ")" * n + "\nEND\n"]),
+    "actual parameters inside one another": (100000, lambda n: [HEAD + "P { X } ::= SEQUENCE { x X } T ::= " + "P { " * n + "NULL" + " }" * n + "\nEND\n"]),
+    "actual parameters of values inside one another": (100000, lambda n: [HEAD + "v { INTEGER : n } INTEGER ::= n w INTEGER ::= " + "v { " * n + "5" + " }" * n + " T ::= INTEGER (0..w)\nEND\n"]),
+    "parameters of an assignment": (100000, lambda n: [HEAD + "P { " + ", ".join(f"INTEGER : n{i}" for i in range(n)) + " } ::= NULL T ::= P { " + ", ".join("5" for _ in range(n)) + " }\nEND\n"]),
+    "what a user-defined constraint names": (100000, lambda n: [HEAD + "T ::= NULL (CONSTRAINED BY { " + ", ".join("INTEGER (0..7) : 5" for _ in range(n)) + " })\nEND\n"]),
+    "component relations": (100000, lambda n: [HEAD + "C ::= CLASS { &id INTEGER } S C ::= { ... } T ::= SEQUENCE { a C.&id ({S}{@a" + ".a" * n + "}), b C.&id ({S}{" + ", ".join("@b" for _ in range(n)) + "}) }\nEND\n"]),
+    "encoding prefixes": (200000, lambda n: ["M DEFINITIONS XER INSTRUCTIONS AUTOMATIC TAGS ::= BEGIN\nT ::= SET { a " + "[A] [XER: B] " * n + "NULL }\nENCODING-CONTROL XER " + "[A] " * n + "END\n"]),
     "what a set of objects lacks": (200000, lambda n: [HEAD + "C ::= CLASS { &id INTEGER } S C ::= { " + "a | (" * n + " b" + ")" * n + " | }\nT ::= NULL\nEND\n"]),
     "unions of many ranges without a gap": (4000, lambda n: [HEAD + "".join(f"T{i} ::= INTEGER (" + " | ".join(str(7 * j % 256) for j in range(256)) + ")\n" for i in range(n)) + "END\n"]),
     "COMPONENTS OF a large SET": (5000, lambda n: [HEAD + "S ::= SET { " + ", ".join(f"a{i} NULL" for i in range(60)) + ", ..., [[ " + ", ".join(f"b{i} NULL" for i in range(20 * n)) + " ]] }\n" + "".join(f"T{i} ::= SET {{ COMPONENTS OF S, z [5] BOOLEAN }}\n" for i in range(n)) + "END\n"]),
@@ -278,7 +297,6 @@ LINES = {
     "parameters without end": lambda n: "2: T0: refused: a type that is refused",
     "parameters that double": lambda n: f"{n + 2}: T: refused: a type that is refused",
     "instances": lambda n: "20003: T20000: refused: parameters that expand without end",
-    "fields of a class": lambda n: "3: T.b: refused: a field of a class that is not understood",
     "items": lambda n: f"2: T: refused: {n} items, more than 256",
     "COMPONENTS OF in a ring": lambda n: "2: T0: refused: recursion",
     "COMPONENTS OF in a chain": lambda n: "103: T101: refused: recursion",
@@ -288,7 +306,12 @@ LINES = {
     "components": lambda n: f"2: T.a64: refused: {n} components, more than 64",
     "groups": lambda n: f"67: T.[[ ]]: refused: {n} extension additions, more than 64",
     "unions": lambda n: "2: T: refused: more than 256 ranges",
-    "groups of a syntax one in the other": lambda n: "2: T: refused: a value that is not understood",
+    "groups of a syntax one in the other": lambda n: "2: a syntax of at most 1000 lexical items expected",
+    "words of an object": lambda n: "2: a value expected",
+    "actual parameters": lambda n: "2: T: refused: a parameter in the place of a type or a number",
+    "parameters of an assignment": lambda n: "2: T: refused: a parameter in the place of a type or a number",
+    "objects of a class that is not given": lambda n: "2: N: a module that is not given",
+    "a set of what is not given": lambda n: "2: N: a module that is not given",
     "what a set of objects lacks": lambda n: "2: an object expected",
     "digits": lambda n: "2: T: refused: numbers outside 64 bits",
     "a name": lambda n: "2: a name of more than 1000 characters",

@@ -1,6 +1,8 @@
 //! Where each assignment of a module begins and ends (X.680, "assignments").
 use crate::extents::type_end;
 use crate::modules::{Assignment, ModuleText, What};
+use crate::prefixes::is_own_reference;
+use crate::syntax::is_literal;
 use crate::token::{Kind, Sign};
 use crate::tokens::{Tokens, next};
 use crate::value_steps::value_end;
@@ -90,16 +92,29 @@ fn assignment_at<'t>(
     })
 }
 
-/// The index of the END of a module whose encoding control sections begin at `from`: PER and OER have none.
-fn end_of_controls(tokens: &Tokens<'_>, from: usize) -> usize {
-    let mut at = from;
+/// Takes the encoding control section of a module at `from`, and gives the index after it. What stands in it is defined by
+/// the Recommendation of its encoding reference: lexical items up to the next section or END.
+fn after_control(
+    tokens: &Tokens<'_>,
+    module: &mut ModuleText<'_>,
+    from: usize,
+) -> Result<usize, TextFault> {
+    let reference = next(from);
+    if !is_literal(tokens, reference) || tokens.is_word(reference, "END") {
+        return Err(tokens.expected(reference, "an encoding reference"));
+    }
+    if is_own_reference(tokens.text(reference)) {
+        module.is_instructed = true;
+    }
+    let mut at = next(reference);
     for _ in 0..tokens.len() {
-        if at >= tokens.len() || tokens.is_word(at, "END") {
+        let is_end = tokens.is_word(at, "END") || tokens.is_word(at, "ENCODING-CONTROL");
+        if at >= tokens.len() || is_end {
             break;
         }
         at = tokens.after(at);
     }
-    at
+    Ok(at)
 }
 
 /// Takes the assignments of a module from `from` on, and gives the index after END.
@@ -116,7 +131,7 @@ pub(crate) fn after_assignments<'t>(
             return Ok(next(at));
         }
         if tokens.is_word(at, "ENCODING-CONTROL") {
-            at = end_of_controls(tokens, at);
+            at = after_control(tokens, module, at)?;
             continue;
         }
         let assignment = assignment_at(tokens, index, at)?;

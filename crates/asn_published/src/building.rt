@@ -3,6 +3,7 @@ use crate::extents::{Rest, after_constraints, after_tags, rest_of};
 use crate::instances::Instances;
 use crate::modules::World;
 use crate::nodes::{Holder, Member, Node, Shape};
+use crate::prefixes::has_own_instruction;
 use crate::refusal::Why;
 use crate::tokens::{Tokens, next};
 use crate::wrong::TextFault;
@@ -25,6 +26,15 @@ pub(crate) struct Task {
     pub node: usize,
     /// The node is an addition group, from `at` to before `end`.
     pub is_group: bool,
+}
+
+/// Whether instructions of PER or OER say how the values of a node are encoded.
+fn is_instructed(world: &World<'_>, tokens: &Tokens<'_>, node: &Node<'_>) -> bool {
+    let by_module = match world.modules.get(node.module) {
+        Some(module) => module.is_instructed,
+        None => false,
+    };
+    by_module || has_own_instruction(tokens, node.at)
 }
 
 impl<'t> Forest<'t> {
@@ -117,6 +127,11 @@ impl<'t> Forest<'t> {
         };
         if task.is_group {
             return self.build_group(tokens, todo, task.node, &node);
+        }
+        if is_instructed(world, tokens, &node) {
+            let why = Why::Kind("a type with encoding instructions of PER or OER");
+            self.settle(task.node, Shape::Refused(why), node.end);
+            return Ok(());
         }
         let at = after_tags(tokens, node.at);
         match rest_of(tokens, at)? {

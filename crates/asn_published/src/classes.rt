@@ -1,16 +1,12 @@
 //! Fields of information object classes as types (X.681, "object class field type").
+use crate::class_table::{ClassField, FieldKind};
 use crate::extents::type_end;
-use crate::modules::{What, World};
+use crate::modules::World;
 use crate::objects::given_by;
 use crate::refusal::Why;
 use crate::token::Sign;
 use crate::tokens::{Tokens, next};
-
-/// How many lexical items of a class are looked at for a field.
-const MOST_ITEMS: u32 = 1000;
-
-/// How many names of classes are followed.
-const MOST_LEADS: u32 = 32;
+use crate::value_sets::{ClassName, built_in};
 
 /// What a field of a class is where a type stands.
 #[derive(Clone, Copy)]
@@ -96,122 +92,50 @@ fn field_of_class(
     name: &str,
     field: &str,
 ) -> Result<Field, Why> {
-    match class_of(world, first, name)? {
-        Class::Defined { module, braces } => match world.tokens_of(module) {
-            Some(there) => field_named(world, there, module, braces, field),
+    let class = class_of(world, first, name)?;
+    match world.classes.of(class) {
+        Some(table) => match table.field_named(field) {
+            Some(it) => type_of(world, class, it),
             None => Err(Why::ClassField),
         },
-        Class::BuiltIn if field == "Type" => Ok(Field::Open),
-        Class::BuiltIn => Err(Why::ClassField),
+        None => Err(Why::ClassField),
     }
-}
-
-/// A class: its module and the braces of its fields, or one that X.681 defines.
-#[derive(Clone, Copy)]
-pub(crate) enum Class {
-    Defined { module: usize, braces: usize },
-    BuiltIn,
 }
 
 /// The class to which a name leads, of which `first` is the assignment.
-pub(crate) fn class_of(
-    world: &World<'_>,
-    first: Result<usize, Why>,
-    name: &str,
-) -> Result<Class, Why> {
-    let (mut found, mut name) = (first, name);
-    for _ in 0..MOST_LEADS {
-        let class = match found {
-            Ok(to) => world.assignment(to),
-            Err(Why::Unknown) if is_built_in(name) => return Ok(Class::BuiltIn),
-            Err(Why::Unknown) => return Err(Why::ClassField),
-            Err(why) => return Err(why),
-        };
-        let class = match class {
-            Some(class) if class.what == What::Class && class.parameters.is_none() => class,
-            _ => return Err(Why::ClassField),
-        };
-        let Some(there) = world.tokens_of(class.module) else {
-            return Err(Why::ClassField);
-        };
-        if there.is_word(class.start, "CLASS") {
-            return Ok(Class::Defined {
-                module: class.module,
-                braces: next(class.start),
-            });
-        }
-        found = match world.reference_at(class.module, class.start) {
-            Ok((to, _)) => Ok(to),
-            Err(why) => Err(why),
-        };
-        name = there.text(class.start);
+fn class_of(world: &World<'_>, first: Result<usize, Why>, name: &str) -> Result<ClassName, Why> {
+    let class = match first {
+        Ok(to) => world.class_from(to),
+        Err(Why::Unknown) => built_in(name),
+        Err(why) => return Err(why),
+    };
+    match class {
+        Some(class) => Ok(class),
+        None => Err(Why::ClassField),
     }
-    Err(Why::ClassField)
 }
 
-/// Whether X.681 defines a class of this name.
-pub(crate) fn is_built_in(class: &str) -> bool {
-    class == "TYPE-IDENTIFIER" || class == "ABSTRACT-SYNTAX"
-}
-
-/// The field of a name in the braces of a class.
-fn field_named(
-    world: &World<'_>,
-    tokens: &Tokens<'_>,
-    module: usize,
-    braces: usize,
-    field: &str,
-) -> Result<Field, Why> {
-    let end = tokens.other(braces);
-    let mut at = next(braces);
-    let mut begins = true;
-    for _ in 0..MOST_ITEMS {
-        if at >= end {
-            break;
-        }
-        let name = next(at);
-        let is_it = *tokens.text(name).as_bytes() == *field.as_bytes();
-        if begins && tokens.is(at, Sign::Ampersand) && is_it {
-            return kind_of(world, tokens, module, name, end);
-        }
-        begins = tokens.is(at, Sign::Comma);
-        at = tokens.after(at);
-    }
-    Err(Why::ClassField)
-}
-
-/// What the field is whose name stands at `name`: an open type, or of the type of its values.
-fn kind_of(
-    world: &World<'_>,
-    tokens: &Tokens<'_>,
-    module: usize,
-    name: usize,
-    end: usize,
-) -> Result<Field, Why> {
-    let start = next(name);
-    // the type of the values is that of another field
-    if tokens.is(start, Sign::Ampersand) {
-        return Ok(Field::Open);
-    }
-    if !tokens.is_identifier(name) {
-        let is_type = start == end
-            || tokens.is(start, Sign::Comma)
-            || tokens.is_word(start, "OPTIONAL")
-            || tokens.is_word(start, "DEFAULT");
-        if is_type {
-            return Ok(Field::Open);
-        }
-        // a set, of objects where it is not of values
-        if !world.has_values(module, start) {
-            return Err(Why::ClassField);
-        }
-    }
-    match type_end(tokens, start) {
-        Ok(behind) if behind <= end => Ok(Field::Type {
-            module,
-            start,
-            end: behind,
+/// What a field of a class is where a type stands: an open type, or of the type of its values.
+fn type_of(world: &World<'_>, class: ClassName, field: ClassField<'_>) -> Result<Field, Why> {
+    let is_open = match field.kind {
+        FieldKind::Type => true,
+        // the type of the values is that of another field
+        FieldKind::Value(_) | FieldKind::Set | FieldKind::One => field.is_of_field,
+        _ => return Err(Why::ClassField),
+    };
+    let module = match class {
+        ClassName::Defined(assignment) => world.assignment(assignment),
+        // its types stand in no module that is given
+        _ if is_open => return Ok(Field::Open),
+        _ => None,
+    };
+    match module {
+        Some(_) if is_open => Ok(Field::Open),
+        Some(it) => Ok(Field::Type {
+            module: it.module,
+            start: field.from,
+            end: field.end,
         }),
-        _ => Err(Why::ClassField),
+        None => Err(Why::ClassField),
     }
 }

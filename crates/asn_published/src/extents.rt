@@ -8,7 +8,7 @@ use crate::wrong::TextFault;
 pub(crate) fn after_tags(tokens: &Tokens<'_>, from: usize) -> usize {
     let mut at = from;
     for _ in 0..tokens.len() {
-        if !tokens.is(at, Sign::LeftBracket) {
+        if !tokens.is_bracket(at) {
             break;
         }
         at = tokens.after(at);
@@ -56,6 +56,9 @@ fn rest_of_sequence(tokens: &Tokens<'_>, from: usize) -> Result<Rest, TextFault>
     let mut at = from;
     if tokens.is_word(at, "SIZE") {
         at = next(at);
+        if !tokens.is(at, Sign::LeftParen) {
+            return Err(tokens.expected(at, "("));
+        }
     }
     if tokens.is(at, Sign::LeftParen) {
         at = tokens.after(at);

@@ -4,14 +4,16 @@ ghost use Rattle.asn_module.specs.Accepted.{Accepted};
 ghost use Rattle.asn_module.specs.ModuleView.{types_view};
 
 use crate::building::Forest;
+use crate::class_table::Classes;
 use crate::fault::PublishedFault;
 use crate::missing::{MissingImport, missing_imports};
 use crate::modules::{What, World};
-use crate::naming::names_of;
+use crate::naming::{level_mark_of, names_of};
 use crate::numbers::numbers_of;
 use crate::options::Options;
 use crate::order::{Order, order_of};
 use crate::pieces::push_pieces;
+use crate::reading::read_assignment;
 use crate::refusing::refuse;
 use crate::report::TypeReport;
 use crate::reports::reports_of;
@@ -39,6 +41,8 @@ pub(crate) struct Sources<'t> {
     pub forest: Forest<'t>,
     pub numbers: Vec<Option<i128>>,
     pub names: Vec<String>,
+    /// What stands between the name of a type and the number of its level.
+    pub level_mark: String,
     /// Of each type the first node.
     pub firsts: Vec<Option<usize>>,
     pub order: Order,
@@ -55,14 +59,31 @@ fn world_of<'t>(alloc: Global, texts: &[&'t str]) -> Result<World<'t>, Published
     }
     world.take_class_names();
     world.take_value_sets();
-    read_values(alloc, &world)?;
+    let classes = classes_of(alloc, &world)?;
+    world.take_classes(classes);
+    read_all(alloc, &world)?;
     Ok(world)
 }
 
-/// Reads the values that stand in all assignments.
-fn read_values(alloc: Global, world: &World<'_>) -> Result<(), PublishedFault> {
-    for (index, assignment) in world.assignments.iter().enumerate() {
-        match world.read_values(alloc, assignment) {
+/// The classes that are defined.
+fn classes_of<'t>(alloc: Global, world: &World<'t>) -> Result<Classes<'t>, PublishedFault> {
+    let mut classes = match Classes::new(alloc) {
+        Ok(classes) => classes,
+        Err(fault) => return Err(PublishedFault::of(0, fault)),
+    };
+    for index in 0..world.assignments.len() {
+        match classes.take(alloc, world, index) {
+            Ok(()) => {}
+            Err(fault) => return Err(PublishedFault::of(text_of(world, index), fault)),
+        }
+    }
+    Ok(classes)
+}
+
+/// Reads all that stands in the assignments.
+fn read_all(alloc: Global, world: &World<'_>) -> Result<(), PublishedFault> {
+    for index in 0..world.assignments.len() {
+        match read_assignment(alloc, world, index) {
             Ok(()) => {}
             Err(fault) => return Err(PublishedFault::of(text_of(world, index), fault)),
         }
@@ -144,6 +165,7 @@ fn sources_of<'t>(alloc: Global, texts: &[&'t str]) -> Result<Sources<'t>, Publi
     let places = places_of(alloc, &world, &mut forest)?;
     let numbers = numbers_of(alloc, &world)?;
     let names = names_of(alloc, &world, &forest.instances)?;
+    let level_mark = level_mark_of(alloc, names.as_slice())?;
     let order = order_of(alloc, &forest, places.spans.as_slice())?;
     let Places { firsts, spans: _ } = places;
     Ok(Sources {
@@ -151,6 +173,7 @@ fn sources_of<'t>(alloc: Global, texts: &[&'t str]) -> Result<Sources<'t>, Publi
         forest,
         numbers,
         names,
+        level_mark,
         firsts,
         order,
     })
@@ -181,12 +204,8 @@ fn push_assignments(
     Ok(())
 }
 
-/// What stands in the text of the module before the assignments of the types as they are asked for.
-pub(crate) fn first_lines(
-    alloc: Global,
-    sources: &Sources<'_>,
-    written: &Written,
-) -> Result<String, AllocError> {
+/// The first line of the text of the module.
+pub(crate) fn first_line(alloc: Global, sources: &Sources<'_>) -> Result<String, AllocError> {
     let name = match sources.world.modules.first() {
         Some(module) => module.name,
         None => "Empty",
@@ -196,9 +215,6 @@ pub(crate) fn first_lines(
         &mut text,
         &[name, " DEFINITIONS AUTOMATIC TAGS ::= BEGIN\n"],
     )?;
-    for line in &written.levels {
-        text.push_str(line.as_str())?;
-    }
     Ok(text)
 }
 
@@ -208,7 +224,10 @@ fn text_written(
     sources: &Sources<'_>,
     written: &Written,
 ) -> Result<String, AllocError> {
-    let mut text = first_lines(alloc, sources, written)?;
+    let mut text = first_line(alloc, sources)?;
+    for line in &written.levels {
+        text.push_str(line.as_str())?;
+    }
     push_assignments(
         &mut text,
         sources.names.as_slice(),

@@ -92,6 +92,37 @@ fn actual_at(tokens: &Tokens<'_>, braces: usize, wanted: u32) -> Option<(usize, 
     None
 }
 
+/// How many parameters stand in the braces at `braces`; `None` where there are too many lexical items.
+fn count_of(tokens: &Tokens<'_>, braces: usize) -> Option<u32> {
+    let end = tokens.other(braces);
+    let mut at = next(braces);
+    let mut count = 1u32;
+    for _ in 0..MOST_ITEMS {
+        if at >= end {
+            return Some(count);
+        }
+        if tokens.is(at, Sign::Comma) {
+            count = count.saturating_add(1);
+        }
+        at = tokens.after(at);
+    }
+    None
+}
+
+/// Whether the braces of a reference have as many parameters as those of the assignment.
+pub(crate) fn are_as_many(
+    here: &Tokens<'_>,
+    braces: usize,
+    there: Option<&Tokens<'_>>,
+    parameters: usize,
+) -> bool {
+    let count = match there {
+        Some(there) => count_of(there, parameters),
+        None => None,
+    };
+    count.is_some() && count_of(here, braces) == count
+}
+
 impl Instances {
     /// None.
     pub fn new(alloc: Global) -> Instances {

@@ -1,13 +1,15 @@
 //! Published modules of ASN.1 (X.680 to X.683) as one module of the profile, with a report of each type.
 #![tactic(auto)]
 
+mod actual_reading;
 mod assignments;
 mod bounding;
 mod bounds;
 mod building;
 mod checking;
-mod class_reading;
+mod class_table;
 mod classes;
+mod constraint_reading;
 mod constraints;
 mod defaults;
 mod extents;
@@ -37,7 +39,9 @@ mod options;
 mod order;
 mod pieces;
 mod places;
+mod prefixes;
 mod ranges;
+mod reading;
 mod references;
 mod refusal;
 mod refusing;
@@ -47,13 +51,14 @@ mod seen;
 mod settling;
 mod shapes;
 mod strings;
+mod syntax;
 mod tags;
 mod telling;
 mod token;
 mod tokens;
+mod type_reading;
 mod value_forms;
 mod value_kinds;
-mod value_places;
 mod value_reading;
 mod value_sets;
 mod value_steps;

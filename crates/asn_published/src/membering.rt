@@ -17,7 +17,7 @@ struct Place {
 }
 
 /// Whether `[[` stands at `at`.
-fn is_group(tokens: &Tokens<'_>, at: usize) -> bool {
+pub(crate) fn is_group(tokens: &Tokens<'_>, at: usize) -> bool {
     tokens.is(at, Sign::LeftBracket) && tokens.is(next(at), Sign::LeftBracket)
 }
 
@@ -27,7 +27,7 @@ fn is_group_end(tokens: &Tokens<'_>, at: usize) -> bool {
 }
 
 /// The index after the number of a version, as `2:`, where it stands at `at`.
-fn after_version(tokens: &Tokens<'_>, at: usize) -> usize {
+pub(crate) fn after_version(tokens: &Tokens<'_>, at: usize) -> usize {
     if tokens.is_kind(at, Kind::Number) && tokens.is(next(at), Sign::Colon) {
         next(next(at))
     } else {

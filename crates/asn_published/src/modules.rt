@@ -1,7 +1,10 @@
 //! Reads the modules of a text (X.680, "module definition"): headers, exports and imports.
 use crate::assignments::after_assignments;
+use crate::class_table::Classes;
+use crate::prefixes::is_own_reference;
 use crate::token::{Kind, Sign};
 use crate::tokens::{Tokens, next};
+use crate::value_forms::has_components;
 use crate::words::is_reserved;
 use crate::wrong::{TextFault, Wrong};
 use std::alloc::Global;
@@ -43,6 +46,8 @@ pub(crate) struct ModuleText<'t> {
     pub automatic: bool,
     /// Types without an extension mark have one at their end.
     pub extensible: bool,
+    /// Instructions of PER or OER say how values are encoded.
+    pub is_instructed: bool,
     /// The module that each imported name comes from; `None` where it comes from several.
     pub imports: HashMap<&'t str, Option<&'t str>>,
     /// The names of the modules that are imported from, by their index among the lexical items.
@@ -58,18 +63,29 @@ pub(crate) struct World<'t> {
     pub modules: Vec<ModuleText<'t>>,
     pub module_names: HashMap<&'t str, usize>,
     pub assignments: Vec<Assignment<'t>>,
+    /// The classes that the assignments define; those of X.681 too, once all texts are read.
+    pub classes: Classes<'t>,
+}
+
+/// The index after the object identifier in braces, where it stands at `at`.
+fn after_components(tokens: &Tokens<'_>, at: usize) -> Result<usize, TextFault> {
+    if !tokens.is(at, Sign::LeftBrace) {
+        Ok(at)
+    } else if has_components(tokens, at) {
+        Ok(tokens.after(at))
+    } else {
+        Err(tokens.expected(at, "an object identifier"))
+    }
 }
 
 /// The index after the identifier of a module, after its name: object identifier, and resource identifier.
-fn after_identifier(tokens: &Tokens<'_>, from: usize) -> usize {
-    let mut at = from;
-    if tokens.is(at, Sign::LeftBrace) {
-        at = tokens.after(at);
-    }
+fn after_identifier(tokens: &Tokens<'_>, from: usize) -> Result<usize, TextFault> {
+    let at = after_components(tokens, from)?;
     if tokens.is_kind(at, Kind::Text) {
-        at = next(at);
+        Ok(next(at))
+    } else {
+        Ok(at)
     }
-    at
 }
 
 /// The head of a module up to BEGIN: an empty module, and the index after BEGIN.
@@ -82,13 +98,15 @@ fn head_of<'t>(
     if !tokens.is_capital(from) || is_reserved(tokens.text(from)) {
         return Err(tokens.expected(from, "the name of a module"));
     }
-    let mut at = after_identifier(tokens, next(from));
+    let mut at = after_identifier(tokens, next(from))?;
     if !tokens.is_word(at, "DEFINITIONS") {
         return Err(tokens.expected(at, "DEFINITIONS"));
     }
     at = next(at);
     // an encoding reference, as `XER INSTRUCTIONS`
+    let mut is_instructed = false;
     if tokens.is_word(next(at), "INSTRUCTIONS") {
+        is_instructed = is_own_reference(tokens.text(at));
         at = next(next(at));
     }
     let mut automatic = false;
@@ -112,6 +130,7 @@ fn head_of<'t>(
         name: tokens.text(from),
         automatic,
         extensible,
+        is_instructed,
         imports: HashMap::new(alloc),
         sources: Vec::new(alloc),
         names: HashMap::new(alloc),
@@ -125,10 +144,13 @@ fn after_symbol(tokens: &Tokens<'_>, from: usize) -> Result<usize, TextFault> {
         return Err(tokens.expected(from, "a name"));
     }
     let at = next(from);
-    if tokens.is(at, Sign::LeftBrace) {
-        Ok(tokens.after(at))
+    if !tokens.is(at, Sign::LeftBrace) {
+        return Ok(at);
+    }
+    if tokens.other(at) == next(at) {
+        Ok(next(next(at)))
     } else {
-        Ok(at)
+        Err(tokens.expected(next(at), "}"))
     }
 }
 
@@ -143,29 +165,32 @@ fn after_exports(tokens: &Tokens<'_>, from: usize) -> Result<usize, TextFault> {
             break;
         }
         at = after_symbol(tokens, at)?;
-        if tokens.is(at, Sign::Comma) {
-            at = next(at);
+        if !tokens.is(at, Sign::Semicolon) {
+            at = tokens.past(at, Sign::Comma, ", or ;")?;
         }
     }
     tokens.past(at, Sign::Semicolon, ";")
 }
 
 /// The index after the module that symbols come from, from the index after FROM and its name.
-fn after_source(tokens: &Tokens<'_>, from: usize) -> usize {
-    let mut at = from;
-    if tokens.is(at, Sign::LeftBrace) {
-        at = tokens.after(at);
-    } else if tokens.is_identifier(at)
+fn after_source(tokens: &Tokens<'_>, from: usize) -> Result<usize, TextFault> {
+    let mut at = after_components(tokens, from)?;
+    if tokens.is_identifier(at)
         && !tokens.is(next(at), Sign::Comma)
         && !tokens.is_word(next(at), "FROM")
+        && at == from
     {
         // a value that is an object identifier
         at = next(at);
     }
-    if tokens.is_word(at, "WITH") {
-        at = next(next(at));
+    if !tokens.is_word(at, "WITH") {
+        return Ok(at);
     }
-    at
+    if matches!(tokens.text(next(at)), "SUCCESSORS" | "DESCENDANTS") {
+        Ok(next(next(at)))
+    } else {
+        Err(tokens.expected(next(at), "SUCCESSORS or DESCENDANTS"))
+    }
 }
 
 /// Takes the module that stands at `at` for the source of symbols, and gives the index after it.
@@ -187,7 +212,7 @@ fn after_source_of<'t>(
         };
         module.imports.insert(*symbol, only)?;
     }
-    Ok(after_source(tokens, next(at)))
+    after_source(tokens, next(at))
 }
 
 /// The index after an imported symbol and its comma.
@@ -240,7 +265,13 @@ impl<'t> World<'t> {
             modules: Vec::new(alloc),
             module_names: HashMap::new(alloc),
             assignments: Vec::new(alloc),
+            classes: Classes::none(alloc),
         }
+    }
+
+    /// Takes the classes that the assignments define.
+    pub fn take_classes(&mut self, classes: Classes<'t>) {
+        self.classes = classes;
     }
 
     /// Takes the modules of a text.

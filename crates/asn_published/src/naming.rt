@@ -167,3 +167,88 @@ pub(crate) fn names_of(
     name_instances(alloc, instances, &mut names, &mut taken)?;
     Ok(names)
 }
+
+/// What is read of a part of a name, between hyphens: letters of the word `level`, and then digits.
+#[derive(Clone, Copy)]
+struct Part {
+    letters: usize,
+    digits: usize,
+    /// The number that the digits are.
+    number: u32,
+    has_others: bool,
+}
+
+/// A part without characters.
+fn empty_part() -> Part {
+    Part {
+        letters: 0,
+        digits: 0,
+        number: 0,
+        has_others: false,
+    }
+}
+
+/// The part with a character more.
+fn longer_part(part: Part, byte: u8) -> Part {
+    let mut longer = part;
+    let is_letter = match b"level".get(part.letters) {
+        Some(letter) => *letter == byte,
+        None => false,
+    };
+    if byte.is_ascii_digit() {
+        let digit = u32::from(byte).saturating_sub(48);
+        longer.number = part.number.saturating_mul(10).saturating_add(digit);
+        longer.digits = part.digits.saturating_add(1);
+    } else if is_letter && part.digits == 0 {
+        longer.letters = part.letters.saturating_add(1);
+    } else {
+        longer.has_others = true;
+    }
+    longer
+}
+
+/// The number in what stands between the name of a type and the number of its level, which a name ends with: 1 of
+/// `T-level-3`, 2 of `T-level2-3`; `None` where it has none.
+fn number_of_mark(name: &str) -> Option<u32> {
+    let mut mark = empty_part();
+    let mut last = empty_part();
+    for byte in name.as_bytes() {
+        if *byte == b'-' {
+            mark = last;
+            last = empty_part();
+        } else {
+            last = longer_part(last, *byte);
+        }
+    }
+    let is_level = last.letters == 0 && last.digits > 0 && !last.has_others;
+    if !is_level || mark.letters != 5 || mark.has_others {
+        None
+    } else if mark.digits == 0 {
+        Some(1)
+    } else {
+        Some(mark.number)
+    }
+}
+
+/// What stands between the name of a type and the number of its level, so that no type has such a name: `-level-`, or
+/// that with a number.
+pub(crate) fn level_mark_of(alloc: Global, names: &[String]) -> Result<String, AllocError> {
+    let mut taken: HashMap<u32, ()> = HashMap::new(alloc);
+    for name in names {
+        if let Some(number) = number_of_mark(name.as_str()) {
+            let _before = taken.insert(number, ())?;
+        }
+    }
+    let mut number = 1u32;
+    for _ in 0..names.len() {
+        if !taken.contains_key(&number) {
+            break;
+        }
+        number = number.saturating_add(1);
+    }
+    if number == 1 {
+        String::from_str(alloc, "-level-")
+    } else {
+        format!(in alloc; "-level{number}-")
+    }
+}

@@ -1,13 +1,15 @@
 //! What objects give for the fields of their classes (X.681, "information from objects").
-use crate::classes::{Class, class_of};
+use crate::class_table::{ClassTable, FieldKind};
 use crate::extents::type_end;
 use crate::modules::{Assignment, What, World};
+use crate::reading::before;
 use crate::refusal::Why;
+use crate::syntax::{Item, Syntax};
 use crate::token::Sign;
 use crate::tokens::{Tokens, next};
 use crate::value_steps::value_end;
 
-/// How many lexical items of an object and of the syntax of its class are looked at.
+/// How many lexical items of an object are looked at.
 const MOST_ITEMS: u32 = 400;
 
 /// How many names of objects are followed.
@@ -109,78 +111,41 @@ fn given_end(tokens: &Tokens<'_>, at: usize, is_type: bool) -> Result<usize, Why
     }
 }
 
-/// Whether two lexical items are the same word or sign.
-fn is_same(one: &Tokens<'_>, at: usize, other: &Tokens<'_>, index: usize) -> bool {
-    *one.text(at).as_bytes() == *other.text(index).as_bytes()
-}
-
-/// The index of the next item of a syntax, where `[` of a group stands at `at`: in the group where what is given begins
-/// as that, and else after it.
-fn in_group(syntax: &Tokens<'_>, at: usize, tokens: &Tokens<'_>, given: usize) -> usize {
-    if is_same(syntax, next(at), tokens, given) {
-        next(at)
-    } else {
-        syntax.after(at)
-    }
-}
-
-/// What the braces at `braces` of an object give for a field, by the syntax of the class in the braces at `form`.
+/// What the braces at `braces` of an object give for a field, by the syntax of its class.
 fn given_by_syntax(
-    syntax: &Tokens<'_>,
-    form: usize,
+    class: (&ClassTable<'_>, &Syntax<'_>),
     tokens: &Tokens<'_>,
     braces: usize,
     field: &str,
 ) -> Result<Items, Why> {
-    let form_end = syntax.other(form);
-    let mut at = next(form);
-    let mut given = next(braces);
-    for _ in 0..MOST_ITEMS {
-        if at >= form_end {
+    let (table, syntax) = class;
+    let mut at = next(braces);
+    let mut index = 0;
+    for _ in 0..u64::MAX {
+        let Some(item) = syntax.item(index) else {
             break;
-        }
-        if syntax.is(at, Sign::LeftBracket) {
-            at = in_group(syntax, at, tokens, given);
-        } else if syntax.is(at, Sign::RightBracket) {
-            at = next(at);
-        } else if syntax.is(at, Sign::Ampersand) {
-            let name = next(at);
-            let end = given_end(tokens, given, syntax.is_capital(name))?;
-            if *syntax.text(name).as_bytes() == *field.as_bytes() {
-                return Ok(Items { start: given, end });
+        };
+        index = match item.what {
+            Item::Open => syntax.entered(tokens, at, index),
+            _ => next(index),
+        };
+        at = match item.what {
+            Item::Open | Item::Close => at,
+            Item::Word(_) => next(at),
+            Item::Field(number) => {
+                let Some(it) = table.field(number) else {
+                    break;
+                };
+                let is_type = matches!(it.kind, FieldKind::Type);
+                let end = given_end(tokens, at, is_type)?;
+                if *it.name.as_bytes() == *field.as_bytes() {
+                    return Ok(Items { start: at, end });
+                }
+                end
             }
-            at = next(name);
-            given = end;
-        } else if is_same(syntax, at, tokens, given) {
-            at = next(at);
-            given = next(given);
-        } else {
-            break;
-        }
+        };
     }
     Err(Why::ClassField)
-}
-
-/// What an object of a class gives for a field.
-fn items_given(
-    world: &World<'_>,
-    object: &Assignment<'_>,
-    class: Class,
-    field: &str,
-) -> Result<Items, Why> {
-    let Class::Defined { module, braces } = class else {
-        return Err(Why::ClassField);
-    };
-    let (Some(there), Some(tokens)) = (world.tokens_of(module), world.tokens_of(object.module))
-    else {
-        return Err(Why::ClassField);
-    };
-    let behind = there.after(braces);
-    if there.is_word(behind, "WITH") {
-        given_by_syntax(there, next(next(behind)), tokens, object.start, field)
-    } else {
-        given_by_names(tokens, object.start, field)
-    }
 }
 
 /// What the object of a name in a module gives for a field.
@@ -194,15 +159,29 @@ pub(crate) fn given_by(
     let Some(tokens) = world.tokens_of(it.module) else {
         return Err(Why::ClassField);
     };
-    let first = match world.reference_at(it.module, it.governor) {
-        Ok((to, _)) => Ok(to),
-        Err(why) => Err(why),
+    let class = world.class_named(it.module, it.governor, before(it.start));
+    let table = match class {
+        Some(class) => world.classes.of(class),
+        None => None,
     };
-    let class = class_of(world, first, tokens.text(it.governor))?;
-    let items = items_given(world, &it, class, field)?;
+    let Some(table) = table else {
+        return Err(why_no_class(world, &it));
+    };
+    let items = match &table.syntax {
+        Some(syntax) => given_by_syntax((table, syntax), tokens, it.start, field)?,
+        None => given_by_names(tokens, it.start, field)?,
+    };
     Ok(Given {
         module: it.module,
         start: items.start,
         end: items.end,
     })
+}
+
+/// Why it is not known which class an object has.
+fn why_no_class(world: &World<'_>, object: &Assignment<'_>) -> Why {
+    match world.reference_at(object.module, object.governor) {
+        Err(Why::Unknown) | Ok(_) => Why::ClassField,
+        Err(why) => why,
+    }
 }

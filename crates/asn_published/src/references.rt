@@ -183,8 +183,8 @@ impl<'t> Writer<'t> {
             return Ok(());
         }
         let level = known.level.saturating_sub(1);
-        let text = format!(in alloc; "-level-{level}")?;
-        Ok(self.out.push_str(text.as_str())?)
+        let number = format!(in alloc; "{level}")?;
+        Ok(push_pieces(&mut self.out, &[known.level_mark, number.as_str()])?)
     }
 
     /// Writes the type of an assignment with further constraints; of the type itself `last` tells.

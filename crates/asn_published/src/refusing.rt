@@ -1,16 +1,36 @@
 //! Refuses the type for which the profile does not take the module that was written.
 use crate::fault::PublishedFault;
-use crate::flattening::{Sources, first_lines};
+use crate::flattening::{Sources, first_line};
 use crate::options::Options;
 use crate::written::{put, write_all};
 use asn_module::ModuleFault;
 use std::alloc::{AllocError, Global};
 
-/// The index of the type that has a name in the profile.
-fn index_named(names: &[String], name: &str) -> Option<usize> {
-    names
-        .iter()
-        .position(|other| *other.as_str().as_bytes() == *name.as_bytes())
+/// Whether a type has a name in the profile, or one of its levels, after whose mark a number stands.
+fn is_named(own: &str, name: &str, mark: &str) -> bool {
+    match name.strip_prefix(own) {
+        Some(rest) => rest.is_empty() || rest.starts_with(mark),
+        None => false,
+    }
+}
+
+/// The index of the type that has a name in the profile, or one of its levels.
+fn index_named(sources: &Sources<'_>, name: &str) -> Option<usize> {
+    let mark = sources.level_mark.as_str();
+    for (index, own) in sources.names.iter().enumerate() {
+        if is_named(own.as_str(), name, mark) {
+            return Some(index);
+        }
+    }
+    None
+}
+
+/// The index of the type of whose levels one is assigned on a line.
+fn index_of_level(sources: &Sources<'_>, line: &str) -> Option<usize> {
+    match line.split(' ').next() {
+        Some(name) => index_named(sources, name),
+        None => None,
+    }
 }
 
 /// How many octets the line of a type has: its name, ` ::=`, what is assigned, and the end of the line.
@@ -28,10 +48,15 @@ fn index_at(
     at: usize,
 ) -> Result<Option<usize>, AllocError> {
     let written = write_all(alloc, sources, options, refused)?;
-    let first = first_lines(alloc, sources, &written)?;
-    let mut end = first.len();
+    let mut end = first_line(alloc, sources)?.len();
     if at < end {
         return Ok(None);
+    }
+    for line in &written.levels {
+        end = end.saturating_add(line.len());
+        if at < end {
+            return Ok(index_of_level(sources, line.as_str()));
+        }
     }
     for (index, line) in written.lines.iter().enumerate() {
         if let (Some(line), Some(name)) = (line, sources.names.get(index)) {
@@ -55,7 +80,7 @@ pub(crate) fn refuse(
     let found = match &fault {
         ModuleFault::BadType { name, .. }
         | ModuleFault::Twice { name }
-        | ModuleFault::Cycle { name } => index_named(sources.names.as_slice(), name.as_str()),
+        | ModuleFault::Cycle { name } => index_named(sources, name.as_str()),
         ModuleFault::Character { at }
         | ModuleFault::Unexpected { at }
         | ModuleFault::OutOfProfile { at } => {

@@ -1,7 +1,7 @@
 //! What a type is that begins with a word: a reserved one, a reference, a parameter, or the field of a class.
 use crate::building::{Forest, Task};
 use crate::classes::{Field, field_at, is_class_field};
-use crate::instances::{Actual, Instance};
+use crate::instances::{Actual, Instance, are_as_many};
 use crate::modules::{What, World};
 use crate::nodes::{Holder, Node, Shape};
 use crate::refusal::Why;
@@ -183,14 +183,15 @@ impl<'t> Forest<'t> {
             return Ok(Shape::Refused(Why::Unknown));
         };
         let has_actual = tokens.is(end, Sign::LeftBrace);
-        if assignment.parameters.is_none() {
+        let Some(parameters) = assignment.parameters else {
             return Ok(if has_actual {
                 Shape::Refused(Why::Parameter)
             } else {
                 Shape::Reference { to }
             });
-        }
-        if !has_actual {
+        };
+        let there = world.tokens_of(assignment.module);
+        if !has_actual || !are_as_many(tokens, end, there, parameters) {
             return Ok(Shape::Refused(Why::Parameter));
         }
         let asked = Instance {

@@ -8,6 +8,8 @@ pub(crate) enum Sign {
     LeftParen,
     RightParen,
     LeftBracket,
+    /// `[` of an encoding prefix.
+    Prefix,
     RightBracket,
     Comma,
     Semicolon,

@@ -1,5 +1,6 @@
 //! The lexical items of a text, each bracket with its other.
 use crate::lexer::tokens_of;
+use crate::prefixes::mark_prefixes;
 use crate::token::{Kind, Sign, Token};
 use crate::wrong::{TextFault, Wrong};
 use std::alloc::Global;
@@ -103,8 +104,9 @@ pub(crate) fn next(index: usize) -> usize {
 impl<'t> Tokens<'t> {
     /// The lexical items of a text.
     pub fn new(alloc: Global, text: &'t str) -> Result<Self, TextFault> {
-        let items = tokens_of(alloc, text)?;
+        let mut items = tokens_of(alloc, text)?;
         let others = others_of(alloc, items.as_slice())?;
+        mark_prefixes(&mut items, others.as_slice());
         Ok(Tokens { items, others })
     }
 
@@ -161,6 +163,11 @@ impl<'t> Tokens<'t> {
     /// Whether the item is a word that begins with a capital.
     pub fn is_capital(&self, index: usize) -> bool {
         self.is_kind(index, Kind::Word) && !starts_small(self.text(index))
+    }
+
+    /// Whether a tag or an encoding prefix begins at `index`.
+    pub fn is_bracket(&self, index: usize) -> bool {
+        self.is(index, Sign::LeftBracket) || self.is(index, Sign::Prefix)
     }
 
     /// The index of the other bracket, where an opening one is at `index`; else `index`.

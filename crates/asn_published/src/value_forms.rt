@@ -59,23 +59,49 @@ pub(crate) fn has_components(tokens: &Tokens<'_>, braces: usize) -> bool {
     false
 }
 
-/// Whether names of bits, with commas between them, stand in the braces at `braces`.
-pub(crate) fn has_names(tokens: &Tokens<'_>, braces: usize) -> bool {
+/// What stands in a list with commas.
+#[derive(Clone, Copy)]
+enum Part {
+    /// The name of a bit.
+    Name,
+    /// A part of a text.
+    Text,
+    /// A named number or bit.
+    Named,
+}
+
+/// The index after a part of a list at `at`; `None` where there is none.
+fn after_one(tokens: &Tokens<'_>, at: usize, part: Part) -> Option<usize> {
+    match part {
+        Part::Name if tokens.is_identifier(at) => Some(next(at)),
+        Part::Name => None,
+        Part::Text => after_part(tokens, at),
+        Part::Named => after_named_number(tokens, at),
+    }
+}
+
+/// Whether parts, with commas between them, stand in the braces at `braces`.
+fn has_parts(tokens: &Tokens<'_>, braces: usize, part: Part) -> bool {
     let end = tokens.other(braces);
     let mut at = next(braces);
     for _ in 0..tokens.len() {
-        if !tokens.is_identifier(at) {
+        let Some(behind) = after_one(tokens, at, part) else {
             return false;
-        }
-        if next(at) == end {
+        };
+        if behind == end {
             return true;
         }
-        if !tokens.is(next(at), Sign::Comma) {
+        if !tokens.is(behind, Sign::Comma) {
             return false;
         }
-        at = next(next(at));
+        at = next(behind);
     }
     false
+}
+
+/// Whether names of bits, with commas between them, stand in the braces at `braces`.
+pub(crate) fn has_names(tokens: &Tokens<'_>, braces: usize) -> bool {
+    has_parts(tokens, braces, Part::Name)
 }
 
 /// How many numbers, with commas between them, stand in the braces at `braces`; `None` where something else does, or
@@ -118,24 +144,7 @@ fn after_part(tokens: &Tokens<'_>, at: usize) -> Option<usize> {
 
 /// Whether a character by its numbers, or parts of a text with commas between them, stand in the braces at `braces`.
 pub(crate) fn has_characters(tokens: &Tokens<'_>, braces: usize) -> bool {
-    let end = tokens.other(braces);
-    let mut at = next(braces);
-    if has_character(tokens, braces) {
-        return true;
-    }
-    for _ in 0..tokens.len() {
-        let Some(behind) = after_part(tokens, at) else {
-            return false;
-        };
-        if behind == end {
-            return true;
-        }
-        if !tokens.is(behind, Sign::Comma) {
-            return false;
-        }
-        at = next(behind);
-    }
-    false
+    has_character(tokens, braces) || has_parts(tokens, braces, Part::Text)
 }
 
 /// The index after the name of a part of a REAL and its number at `at`; `None` where they do not stand there.
@@ -173,7 +182,7 @@ pub(crate) fn has_parts_of_real(tokens: &Tokens<'_>, braces: usize) -> bool {
 }
 
 /// The index after a named number or bit at `at`, as `name(5)`; `None` where there is none.
-fn after_named_number(tokens: &Tokens<'_>, at: usize) -> Option<usize> {
+pub(crate) fn after_named_number(tokens: &Tokens<'_>, at: usize) -> Option<usize> {
     let open = next(at);
     let first = next(open);
     let digits = if tokens.is(first, Sign::Minus) {
@@ -194,30 +203,16 @@ fn after_named_number(tokens: &Tokens<'_>, at: usize) -> Option<usize> {
 
 /// Whether named numbers or bits, with commas between them, stand in the braces at `braces`.
 pub(crate) fn has_named_numbers(tokens: &Tokens<'_>, braces: usize) -> bool {
-    let end = tokens.other(braces);
-    let mut at = next(braces);
-    for _ in 0..tokens.len() {
-        let Some(behind) = after_named_number(tokens, at) else {
-            return false;
-        };
-        if behind == end {
-            return true;
-        }
-        if !tokens.is(behind, Sign::Comma) {
-            return false;
-        }
-        at = next(behind);
-    }
-    false
+    has_parts(tokens, braces, Part::Named)
 }
 
-/// Whether a tag or an encoding prefix stands in the brackets at `at`, as `[APPLICATION 5]` or `[XER: ATTRIBUTE]`.
+/// Whether a tag stands in the brackets at `at`, as `[APPLICATION 5]`, or they begin an encoding prefix.
 pub(crate) fn has_tag(tokens: &Tokens<'_>, at: usize) -> bool {
     let mut start = next(at);
-    if tokens.is_capital(start) && tokens.is(next(start), Sign::Colon) {
-        if !tokens.is_word(start, "TAG") {
-            return true;
-        }
+    if tokens.is(at, Sign::Prefix) {
+        return true;
+    }
+    if tokens.is_word(start, "TAG") && tokens.is(next(start), Sign::Colon) {
         start = next(next(start));
     }
     if matches!(tokens.text(start), "UNIVERSAL" | "APPLICATION" | "PRIVATE") {

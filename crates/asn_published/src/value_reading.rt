@@ -1,8 +1,9 @@
 //! Reads values (X.680, "value assignment"), from a stack of the braces that are open, however deep they are nested.
+use crate::reading::{Reading, Work, before};
 use crate::token::Sign;
 use crate::tokens::{Tokens, next};
 use crate::value_kinds::Values;
-use crate::value_steps::{Follows, step_at};
+use crate::value_steps::{Follows, Start, step_at};
 use crate::wrong::TextFault;
 use std::alloc::Global;
 
@@ -75,51 +76,103 @@ fn next_value(tokens: &Tokens<'_>, open: &[Open], at: usize) -> Result<Option<us
     }
 }
 
-/// Reads the value that begins at `from`, which is one of these, and gives the index after it.
-pub(crate) fn read_value(
-    alloc: Global,
-    tokens: &Tokens<'_>,
-    from: usize,
-    values: Values,
-) -> Result<usize, TextFault> {
-    let mut open = Vec::new(alloc);
-    let mut values = values;
-    let mut at = from;
-    for _ in 0..u64::MAX {
-        let (behind, is_read) = read_step(tokens, &mut open, at, values)?;
-        values = Values::Any;
-        at = behind;
-        if is_read {
-            at = close_braces(&mut open, at);
-            match next_value(tokens, open.as_slice(), at)? {
-                Some(start) => at = start,
-                None => return Ok(at),
+/// The braces of actual parameters after the name of a value at `at`, as `name {5}` or `Module.name {5}`; `None` where
+/// there are none before `end`.
+fn actual_braces(tokens: &Tokens<'_>, at: usize, end: usize) -> Option<usize> {
+    let braces = if tokens.is_identifier(at) {
+        next(at)
+    } else {
+        next(next(next(at)))
+    };
+    if braces < end && tokens.is(braces, Sign::LeftBrace) {
+        Some(braces)
+    } else {
+        None
+    }
+}
+
+impl<'a, 't> Reading<'a, 't> {
+    /// Reads the value that begins at `from`, which is one of these, and gives the index after it.
+    pub fn read_value(
+        self,
+        alloc: Global,
+        todo: &mut Vec<Work>,
+        from: usize,
+        values: Values,
+    ) -> Result<usize, TextFault> {
+        let mut open = Vec::new(alloc);
+        let mut values = values;
+        let mut at = from;
+        for _ in 0..u64::MAX {
+            let (behind, inner) = self.read_step(alloc, todo, &mut open, at, values)?;
+            at = behind;
+            match inner {
+                Some(inner) => values = inner,
+                None => {
+                    values = Values::Any;
+                    at = close_braces(&mut open, at);
+                    match next_value(self.tokens, open.as_slice(), at)? {
+                        Some(start) => at = start,
+                        None => return Ok(at),
+                    }
+                }
+            }
+        }
+        Err(self.tokens.expected(at, "a value"))
+    }
+
+    /// Reads what the value at `at` begins with, and gives the index after it, and which values may follow there; `None`
+    /// where the value ends.
+    fn read_step(
+        self,
+        alloc: Global,
+        todo: &mut Vec<Work>,
+        open: &mut Vec<Open>,
+        at: usize,
+        values: Values,
+    ) -> Result<(usize, Option<Values>), TextFault> {
+        let tokens = self.tokens;
+        let step = step_at(tokens, at)?;
+        if !values.begin_with(step.start) {
+            return Err(tokens.expected(at, values.words()));
+        }
+        match step.follows {
+            Follows::Nothing(behind) => {
+                self.push_actual(todo, at, behind, step.start)?;
+                Ok((behind, None))
+            }
+            Follows::Value(inner) if step.start == Start::Open => {
+                let end = before(inner);
+                self.push(todo, Work::Type { from: at, end })?;
+                let values = self.world.values_at(self.module, at, self.is_plain);
+                Ok((inner, Some(values)))
+            }
+            Follows::Value(inner) => Ok((inner, Some(Values::Any))),
+            Follows::Braces(braces) => {
+                if values.are_whole(tokens, braces)? {
+                    Ok((tokens.after(braces), None))
+                } else {
+                    let first = open_braces(tokens, open, braces, values)?;
+                    Ok((first, Some(Values::Any)))
+                }
             }
         }
     }
-    Err(tokens.expected(at, "a value"))
-}
 
-/// Reads what the value at `at` begins with, and gives the index after it, and whether the value ends there.
-fn read_step(
-    tokens: &Tokens<'_>,
-    open: &mut Vec<Open>,
-    at: usize,
-    values: Values,
-) -> Result<(usize, bool), TextFault> {
-    let step = step_at(tokens, at)?;
-    if !values.begin_with(step.start) {
-        return Err(tokens.expected(at, values.words()));
-    }
-    match step.follows {
-        Follows::Nothing(behind) => Ok((behind, true)),
-        Follows::Value(inner) => Ok((inner, false)),
-        Follows::Braces(braces) => {
-            if values.are_whole(tokens, braces)? {
-                Ok((tokens.after(braces), true))
-            } else {
-                Ok((open_braces(tokens, open, braces, values)?, false))
-            }
+    /// Asks for the actual parameters of the name of a value at `at`, where it has any before `end`.
+    fn push_actual(
+        self,
+        todo: &mut Vec<Work>,
+        at: usize,
+        end: usize,
+        start: Start,
+    ) -> Result<(), TextFault> {
+        if start != Start::Name {
+            return Ok(());
+        }
+        match actual_braces(self.tokens, at, end) {
+            Some(braces) => self.push(todo, Work::Actual { at, braces }),
+            None => Ok(()),
         }
     }
 }

@@ -62,7 +62,8 @@ fn after_fields(tokens: &Tokens<'_>, from: usize) -> usize {
     }
     for _ in 0..tokens.len() {
         let sign = next(at);
-        if !tokens.is(at, Sign::Dot) || !tokens.is(sign, Sign::Ampersand) {
+        let is_field = tokens.is(sign, Sign::Ampersand) && tokens.is_kind(next(sign), Kind::Word);
+        if !tokens.is(at, Sign::Dot) || !is_field {
             break;
         }
         at = next(next(sign));
@@ -150,7 +151,7 @@ pub(crate) fn step_at(tokens: &Tokens<'_>, at: usize) -> Result<Step, TextFault>
     if tokens.is_capital(at) {
         return capital_at(tokens, at);
     }
-    if tokens.is(at, Sign::LeftBracket) {
+    if tokens.is_bracket(at) {
         return open_at(tokens, at);
     }
     written_at(tokens, at)

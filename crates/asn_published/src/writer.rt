@@ -25,6 +25,8 @@ pub(crate) struct Known<'a, 't> {
     pub firsts: &'a [Option<usize>],
     /// Of each type its name in the profile.
     pub names: &'a [String],
+    /// What stands between the name of a type and the number of its level.
+    pub level_mark: &'a str,
     pub options: Options,
     /// Of each type the cycle of references in which it lies.
     pub cycles: &'a [Option<usize>],

@@ -81,6 +81,7 @@ fn known_of<'a, 't>(
         forest: &sources.forest,
         firsts: sources.firsts.as_slice(),
         names: sources.names.as_slice(),
+        level_mark: sources.level_mark.as_str(),
         options,
         cycles: sources.order.cycles.as_slice(),
         entry,
@@ -179,7 +180,8 @@ impl Writing {
         } = one;
         match line {
             Some(line) => {
-                let assignment = level_line(alloc, name.as_str(), level, line.as_str())?;
+                let mark = sources.level_mark.as_str();
+                let assignment = level_line(alloc, name.as_str(), mark, level, line.as_str())?;
                 Ok((state, assignment))
             }
             None => Ok((state, nothing)),
@@ -235,8 +237,14 @@ impl Writing {
 }
 
 /// The assignment of a type with fewer levels than are asked for.
-fn level_line(alloc: Global, name: &str, level: u32, text: &str) -> Result<String, AllocError> {
-    format!(in alloc; "{name}-level-{level} ::={text}\n")
+fn level_line(
+    alloc: Global,
+    name: &str,
+    mark: &str,
+    level: u32,
+    text: &str,
+) -> Result<String, AllocError> {
+    format!(in alloc; "{name}{mark}{level} ::={text}\n")
 }
 
 /// How many of the types from `from` on lie in one cycle; 1 where the first lies in none.

@@ -4,7 +4,7 @@ use Rattle.asn_rules.specs.Answer.{Answer, more}
 use Rattle.asn_rules.specs.Sessions.{Fed, waiting}
 use Rattle.asn_rules.specs.declared.session.Step.TheVariants as step
 use Rattle.asn_rules.proofs.Feeding.Sessions.{decoded_all, all_read}
-use Rattle.asn_rules.proofs.rereading.decode_at_once.Goals as goal
+use Rattle.asn_rules.proofs.at_once.decode_at_once.Goals as goal
 
 pub returns-else-used-octets : goal.returns-else-used-octets
 returns-else-used-octets g c =

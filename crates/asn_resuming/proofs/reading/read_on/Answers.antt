@@ -37,7 +37,7 @@ overflow_sub-used g c =
     let p = c.args.piece.now in
     let rest = r.to_units c.feed_complete.new.units in
     let over : r.to_units c.over-ahead.result ≡ r.ruling.units p = ap r.to_units c.over-ahead.ensures ∙ laws.over p c.are_octets.ensures in
-    let fewer : length rest ≤ length (r.ruling.units p) = omega (arith, c.in-Ok.ensures.ticked, ap length over, c.none-ticks.ensures) in
+    let fewer : length rest ≤ length (r.ruling.units p) = omega (arith, c.in-Ok.ensures.ticked, ap length over, c.none-ticks.ensures.taken) in
     let left : c.octets_left.result ≡ length rest / r.octet_units = c.octets_left.ensures ∙ ap (λ (xs : List ℕ). length (r.to_units xs) / r.octet_units) c.ahead.ensures in
     let few : length rest / r.octet_units ≤ length p = div-le_of_le-mul r.octet_units (omega (arith, fewer, laws.count p)) in
     omega (arith, left, few)
@@ -51,7 +51,7 @@ returns-in-Ok g c = λ s k.
     let v = datum_of c.in-Ok.value in
     let rest = r.to_units c.feed_complete.new.units in
     let over : r.to_units c.over-ahead.result ≡ r.ruling.units p = ap r.to_units c.over-ahead.ensures ∙ laws.over p c.are_octets.ensures in
-    let fewer : length rest ≤ length (r.ruling.units p) = omega (arith, c.in-Ok.ensures.ticked, ap length over, c.none-ticks.ensures) in
+    let fewer : length rest ≤ length (r.ruling.units p) = omega (arith, c.in-Ok.ensures.ticked, ap length over, c.none-ticks.ensures.taken) in
     let left : c.octets_left.result ≡ length rest / r.octet_units = c.octets_left.ensures ∙ ap (λ (xs : List ℕ). length (r.to_units xs) / r.octet_units) c.ahead.ensures in
     let read : (us : List ℕ) → Took r g.R.FeedLeaves.fields g.R.ReadLeaves.ahead g.R.ReadLeaves.is_between (nodes c.args.frames.now) t us → length us ≡ c.args.units → Spells r.ruling.fielding (Wholes r.ruling t) v (us ++ r.ruling.units p) rest = rw (over, c.get.ensures.same) at c.in-Ok.ensures.done in
     let told = value_on r laws t c.get.ensures.of_profile s p rest v (read (r.ruling.units s) k.took k.units_are) fewer in

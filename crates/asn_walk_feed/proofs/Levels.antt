@@ -32,7 +32,7 @@ use Rattle.asn_values.specs.declared.value.Value.{Value}
 
 -- ---- an answer that is not that more is wanted
 
-pub is_short : {V : Type 0} → Result V Stop → Bool
+unfoldable pub is_short : {V : Type 0} → Result V Stop → Bool
 is_short (Ok v) = false
 is_short (Err (stop.Refused left why)) = false
 is_short (Err stop.Short) = true
@@ -141,10 +141,10 @@ field_pays k i j n a b content h l =
     spent j i x y z h l = omega (arith, h, l)
 
 -- a level of which the levels inside lie k deep costs its units once, and k times inside
-pub level_costs : {c : Coding} {Old New : ℕ → Type 0} {d i j t s : ℕ} {us vs : List ℕ} → Costs c Old New d i us j vs → Old 0 → t ≤ s + length (c.to_units us)
+pub level_costs : {c : Coding} {Old New : ℕ → Type 0} {d i j : ℕ} {us vs : List ℕ} → Costs c Old New d i us j vs → Old 0 → (t s : ℕ) → t ≤ s + length (c.to_units us)
     → (k : ℕ) → suc d ≤ k → t + j ≤ (s + i) + k * length (c.to_units us)
-level_costs {d = d} x o h zero l = absurd (omega (arith, l))
-level_costs {c = c} {d = d} {i = i} {j = j} {t = t} {s = s} {us = us} {vs = vs} x o h (suc k) l =
+level_costs {d = d} x o t s h zero l = absurd (omega (arith, l))
+level_costs {c = c} {d = d} {i = i} {j = j} {us = us} {vs = vs} x o t s h (suc k) l =
     let n = length (c.to_units us) in
     let p = x.pays k 0 (omega (arith, l)) o in
     let all : suc k * n ≡ k * n + n = suc-mul k n in

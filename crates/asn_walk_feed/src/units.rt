@@ -1,6 +1,7 @@
 //! The units of a piece of a message, each of which is counted as it is taken.
-ghost use Rattle.std.specs.Prelude.{◌≡◌, ◌+◌, ◌-◌, ◌<◌, ◌^◌, ℕ, List, min};
+ghost use Rattle.std.specs.Prelude.{◌≡◌, ◌+◌, ◌-◌, ◌<◌, ◌≤◌, ◌^◌, ℕ, List, min};
 ghost use Rattle.asn_bits.specs.Numbers.{unpacked};
+ghost use Rattle.asn_walk_feed.specs.Counts.{count_of};
 
 use asn_bits::BitCursor;
 use std::marker::Model;
@@ -29,13 +30,15 @@ impl Ticks {
 
     /// How many units were taken, at all levels together; at most `u64::MAX`.
     pub fn count(&self) -> u64
-        ensures { result ≡ min (self.now.taken + self.now.inside) (2 ^ 64 - 1) }
+        ensures count { result ≡ count_of self.now }
+        ensures least { self.now.taken ≤ result }
+        ensures most { result ≤ self.now.taken + self.now.inside }
     {
         self.taken.saturating_add(self.inside)
     }
 
-    /// This many further units are taken.
-    fn add(&mut self, units: u64)
+    /// This many further units are taken, by a reader that does not take them through `Units`.
+    pub fn add(&mut self, units: u64)
         requires { self.old.taken + units < 2 ^ 64 }
         ensures taken { self.new.taken ≡ self.old.taken + units }
         ensures inside { self.new.inside ≡ self.old.inside }

@@ -842,7 +842,7 @@ open_fields::feed_open_field-returns-in_err-octets-clause-kept g t c =
 
 pub open_fields::feed_open_field-read_content-requires : goal.open_fields::feed_open_field-read_content-requires
 open_fields::feed_open_field-read_content-requires g t c κs within =
-    (search (rules, the_lemmas), (within.0, (within.1, (c.requires.of_profile, (rw c.as_slice.ensures.value (content_of (same_spells c.keep_field_laws.ensures.same (c.in_ok-octets.ensures.done c.requires.reached.0 c.requires.reached.1))), (c.none-level.ensures.taken, c.none-level.ensures.inside)))))
+    (search (rules, the_lemmas), (within.0, (within.1, (c.requires.of_profile, (rw c.as_slice.ensures.value (content_of (same_spells c.keep_field_laws.ensures.same (c.in_ok-octets.ensures.done c.requires.reached.0 c.requires.reached.1))), (c.none-level.ensures.taken, c.none-level.ensures.inside))))))
 
 pub open_fields::feed_open_field-returns-clause-done : goal.open_fields::feed_open_field-returns-clause-done
 open_fields::feed_open_field-returns-clause-done g t c =
@@ -1281,8 +1281,8 @@ pub lists::start_list-returns-in-Ok-put-clause-inside : goal.lists::start_list-r
 lists::start_list-returns-in-Ok-put-clause-inside g t c =
     costs_same c.feed_leaf.ensures.inside (omega (arith, c.feed_leaf.ensures.ticked, c.feed_leaf.ensures.rising)) (λ e. rw c.in-Ok-put.ensures refl)
 
-pub lists::start_list-returns-in-Err-put-clause-inside : goal.lists::start_list-returns-in-Err-put-clause-inside
-lists::start_list-returns-in-Err-put-clause-inside g t c =
+pub lists::start_list-returns-in-Err-clause-inside : goal.lists::start_list-returns-in-Err-clause-inside
+lists::start_list-returns-in-Err-clause-inside g t c =
     costs_same c.feed_leaf.ensures.inside (omega (arith, c.feed_leaf.ensures.ticked, c.feed_leaf.ensures.rising)) (λ e. never (ap is_short e))
 
 pub lists::start_list-returns-in-Err-Refused-clause-inside : goal.lists::start_list-returns-in-Err-Refused-clause-inside
@@ -1301,8 +1301,8 @@ pub lists::feed_list-returns-in-Ok-put-clause-inside : goal.lists::feed_list-ret
 lists::feed_list-returns-in-Ok-put-clause-inside g t c =
     costs_like c.feed_elements.ensures.inside (omega arith) (λ n o. o) (λ n o e. rw c.in-Ok-put.ensures (o (cc (c.in-Err-Short.is, c.in-Err-Short.field-0-is))))
 
-pub lists::feed_list-returns-in-Err-put-clause-inside : goal.lists::feed_list-returns-in-Err-put-clause-inside
-lists::feed_list-returns-in-Err-put-clause-inside g t c =
+pub lists::feed_list-returns-in-Err-clause-inside : goal.lists::feed_list-returns-in-Err-clause-inside
+lists::feed_list-returns-in-Err-clause-inside g t c =
     costs_like c.feed_elements.ensures.inside (omega arith) (λ n o. o) (λ n o e. never (ap is_short e))
 
 pub lists::feed_list-returns-in-Err-Refused-clause-inside : goal.lists::feed_list-returns-in-Err-Refused-clause-inside
@@ -1370,8 +1370,8 @@ pub sequences::start_sequence-returns-in-Ok-put-clause-inside : goal.sequences::
 sequences::start_sequence-returns-in-Ok-put-clause-inside g t c =
     costs_same c.feed_leaf.ensures.inside (omega (arith, c.feed_leaf.ensures.ticked, c.feed_leaf.ensures.rising)) (λ e. rw c.in-Ok-put.ensures refl)
 
-pub sequences::start_sequence-returns-in-Err-put-clause-inside : goal.sequences::start_sequence-returns-in-Err-put-clause-inside
-sequences::start_sequence-returns-in-Err-put-clause-inside g t c =
+pub sequences::start_sequence-returns-in-Err-clause-inside : goal.sequences::start_sequence-returns-in-Err-clause-inside
+sequences::start_sequence-returns-in-Err-clause-inside g t c =
     costs_same c.feed_leaf.ensures.inside (omega (arith, c.feed_leaf.ensures.ticked, c.feed_leaf.ensures.rising)) (λ e. never (ap is_short e))
 
 pub sequences::start_sequence-returns-in-Err-Refused-clause-inside : goal.sequences::start_sequence-returns-in-Err-Refused-clause-inside
@@ -1390,8 +1390,8 @@ pub sequences::feed_sequence-returns-in-Ok-put-clause-inside : goal.sequences::f
 sequences::feed_sequence-returns-in-Ok-put-clause-inside g t c =
     costs_like c.feed_components.ensures.inside (depth_of_root (fields_seen c.args.root.now) (more_fields_of c.args.ext.now)) (λ n o. o) (λ n o e. rw c.in-Ok-put.ensures (o (cc (c.in-Err-Short.is, c.in-Err-Short.field-0-is))))
 
-pub sequences::feed_sequence-returns-in-Err-put-clause-inside : goal.sequences::feed_sequence-returns-in-Err-put-clause-inside
-sequences::feed_sequence-returns-in-Err-put-clause-inside g t c =
+pub sequences::feed_sequence-returns-in-Err-clause-inside : goal.sequences::feed_sequence-returns-in-Err-clause-inside
+sequences::feed_sequence-returns-in-Err-clause-inside g t c =
     costs_like c.feed_components.ensures.inside (depth_of_root (fields_seen c.args.root.now) (more_fields_of c.args.ext.now)) (λ n o. o) (λ n o e. never (ap is_short e))
 
 pub sequences::feed_sequence-returns-in-Err-Refused-clause-inside : goal.sequences::feed_sequence-returns-in-Err-Refused-clause-inside
@@ -1462,8 +1462,8 @@ pub additions::feed_bitmap-returns-in-Ok-put-clause-inside : goal.additions::fee
 additions::feed_bitmap-returns-in-Ok-put-clause-inside g t c =
     costs_same c.feed_leaf.ensures.inside (omega (arith, c.feed_leaf.ensures.ticked, c.feed_leaf.ensures.rising)) (λ e. rw c.in-Ok-put.ensures refl)
 
-pub additions::feed_bitmap-returns-in-Err-put-clause-inside : goal.additions::feed_bitmap-returns-in-Err-put-clause-inside
-additions::feed_bitmap-returns-in-Err-put-clause-inside g t c =
+pub additions::feed_bitmap-returns-in-Err-clause-inside : goal.additions::feed_bitmap-returns-in-Err-clause-inside
+additions::feed_bitmap-returns-in-Err-clause-inside g t c =
     costs_same c.feed_leaf.ensures.inside (omega (arith, c.feed_leaf.ensures.ticked, c.feed_leaf.ensures.rising)) (λ e. never (ap is_short e))
 
 pub additions::feed_bitmap-returns-in-Err-Refused-clause-inside : goal.additions::feed_bitmap-returns-in-Err-Refused-clause-inside
@@ -1482,8 +1482,8 @@ pub additions::feed_additions-returns-in-Ok-put-clause-inside : goal.additions::
 additions::feed_additions-returns-in-Ok-put-clause-inside g t c =
     costs_like c.feed_open_fields.ensures.inside (omega arith) (λ n o. o) (λ n o e. rw c.in-Ok-put.ensures (o (cc (c.in-Err-Short.is, c.in-Err-Short.field-0-is))))
 
-pub additions::feed_additions-returns-in-Err-put-clause-inside : goal.additions::feed_additions-returns-in-Err-put-clause-inside
-additions::feed_additions-returns-in-Err-put-clause-inside g t c =
+pub additions::feed_additions-returns-in-Err-clause-inside : goal.additions::feed_additions-returns-in-Err-clause-inside
+additions::feed_additions-returns-in-Err-clause-inside g t c =
     costs_like c.feed_open_fields.ensures.inside (omega arith) (λ n o. o) (λ n o e. never (ap is_short e))
 
 pub additions::feed_additions-returns-in-Err-Refused-clause-inside : goal.additions::feed_additions-returns-in-Err-Refused-clause-inside
@@ -1592,17 +1592,17 @@ open_fields::read_content-returns-in-Err-Memory-clause-cost g t c =
 
 pub open_fields::read_complete-returns-in_err-value-clause-cost : goal.open_fields::read_complete-returns-in_err-value-clause-cost
 open_fields::read_complete-returns-in_err-value-clause-cost g t c =
-    λ k h. level_costs c.feed.ensures.inside (none_open g.R.ReadLeaves.rules g.R.FeedLeaves.fields g.R.ReadLeaves.ahead g.R.ReadLeaves.is_between (nodes c.none-frames.result) c.none-frames.ensures) (omega (arith, c.feed.ensures.ticked)) k h
+    λ k h. level_costs c.feed.ensures.inside (none_open g.R.ReadLeaves.rules g.R.FeedLeaves.fields g.R.ReadLeaves.ahead g.R.ReadLeaves.is_between (nodes c.none-frames.result) c.none-frames.ensures) c.feed.new.ticks.taken c.args.ticks.now.taken (omega (arith, c.feed.ensures.ticked)) k h
 
 pub open_fields::read_complete-returns-in_err-read_padding-clause-cost : goal.open_fields::read_complete-returns-in_err-read_padding-clause-cost
 open_fields::read_complete-returns-in_err-read_padding-clause-cost g t c =
-    λ k h. level_costs c.feed.ensures.inside (none_open g.R.ReadLeaves.rules g.R.FeedLeaves.fields g.R.ReadLeaves.ahead g.R.ReadLeaves.is_between (nodes c.none-frames.result) c.none-frames.ensures) (omega (arith, c.feed.ensures.ticked)) k h
+    λ k h. level_costs c.feed.ensures.inside (none_open g.R.ReadLeaves.rules g.R.FeedLeaves.fields g.R.ReadLeaves.ahead g.R.ReadLeaves.is_between (nodes c.none-frames.result) c.none-frames.ensures) c.feed.new.ticks.taken c.args.ticks.now.taken (omega (arith, c.feed.ensures.ticked)) k h
 
 pub open_fields::read_complete-returns-clause-cost : goal.open_fields::read_complete-returns-clause-cost
 open_fields::read_complete-returns-clause-cost g t c =
     λ k h.
     let most : c.take_to.new.ticks.taken ≤ c.args.ticks.now.taken + length (g.R.ReadLeaves.rules.to_units c.args.units.now) = omega (arith, c.feed.ensures.ticked, c.take_to.ensures.ticked) in
-    rw c.take_to.ensures.inside (level_costs c.feed.ensures.inside (none_open g.R.ReadLeaves.rules g.R.FeedLeaves.fields g.R.ReadLeaves.ahead g.R.ReadLeaves.is_between (nodes c.none-frames.result) c.none-frames.ensures) most k h)
+    rw c.take_to.ensures.inside (level_costs c.feed.ensures.inside (none_open g.R.ReadLeaves.rules g.R.FeedLeaves.fields g.R.ReadLeaves.ahead g.R.ReadLeaves.is_between (nodes c.none-frames.result) c.none-frames.ensures) c.take_to.new.ticks.taken c.args.ticks.now.taken most k h)
 
 pub choices::resume_choice-returns-in-Some-Chosen-clause-inside : goal.choices::resume_choice-returns-in-Some-Chosen-clause-inside
 choices::resume_choice-returns-in-Some-Chosen-clause-inside g t c =

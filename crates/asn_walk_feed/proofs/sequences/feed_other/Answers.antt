@@ -71,8 +71,8 @@ pub returns-in-Ok-put-clause-inside : goal.returns-in-Ok-put-clause-inside
 returns-in-Ok-put-clause-inside g c =
     costs_same c.feed_leaf.ensures.inside (omega (arith, c.feed_leaf.ensures.ticked, c.feed_leaf.ensures.rising)) (λ e. rw c.in-Ok-put.ensures refl)
 
-pub returns-in-Err-put-clause-inside : goal.returns-in-Err-put-clause-inside
-returns-in-Err-put-clause-inside g c =
+pub returns-in-Err-clause-inside : goal.returns-in-Err-clause-inside
+returns-in-Err-clause-inside g c =
     costs_same c.feed_leaf.ensures.inside (omega (arith, c.feed_leaf.ensures.ticked, c.feed_leaf.ensures.rising)) (λ e. never (ap is_short e))
 
 pub returns-in-Err-Refused-clause-inside : goal.returns-in-Err-Refused-clause-inside

@@ -3,7 +3,7 @@ ghost use Rattle.std.specs.Prelude.{◌≡◌, ◌<◌, [], IfNone, IfSome, leng
 ghost use Rattle.asn_convert.specs.Lines.{lines_of, module_text, job_lines, IsFirstLine, is_mark_line};
 
 /// The first line without its LF, and what follows it; `None` where there is nothing.
-pub(crate) fn next_line(rest: &[u8]) -> Option<(&[u8], &[u8])>
+pub fn next_line(rest: &[u8]) -> Option<(&[u8], &[u8])>
     ensures none { IfNone result (rest.now ≡ []) }
     ensures some { IfSome result (λ p. IsFirstLine rest.now p.0.now p.1.now) }
 {

@@ -17,6 +17,6 @@ mod texts;
 
 pub use by_name::{answer_line, run, run_on_lines};
 pub use conversion::{ConvertFault, convert};
-pub use cut::cut_input;
+pub use cut::{cut_input, next_line};
 pub use job::{Job, Order, RuleName, RunFault, Status};
 pub use reading::read_all;

@@ -1,4 +1,5 @@
 pub mod Exactly
+pub mod FormSteps
 pub mod FoundJob
 pub mod Given
 pub mod NotHelp

@@ -18,6 +18,13 @@ rule_names = codes "per" ∷ codes "oer" ∷ []
 abbrev pub report_names : List Text
 report_names = codes "summary" ∷ codes "text" ∷ codes "json" ∷ []
 
+-- the forms of octets that are given, and that are written
+abbrev pub given_names : List Text
+given_names = codes "hex" ∷ codes "hex-block" ∷ codes "base64" ∷ codes "binary" ∷ []
+
+abbrev pub written_names : List Text
+written_names = codes "hex" ∷ codes "base64" ∷ codes "binary" ∷ []
+
 -- the parser takes these names
 abbrev pub TakesNames : List Text → Option ValueParser → Type 0
 TakesNames words p = (names : Bor (List (Bor (List ℕ)))) × (p ≡ Some (Names names))
@@ -53,6 +60,17 @@ module_rule = record (option_rule (codes "module")) { range = Some some_values }
 abbrev pub explain_rule : Rule
 explain_rule = flag_rule (codes "explain")
 
+-- the files of the messages
+abbrev pub messages_rule : Rule
+messages_rule = record (option_rule (codes "messages")) { range = Some some_values }
+
+-- the forms of octets
+abbrev pub given_rule : Option ValueParser → Rule
+given_rule p = record (option_rule (codes "in")) { parser = p }
+
+abbrev pub written_rule : Option ValueParser → Rule
+written_rule p = record (option_rule (codes "out")) { parser = p }
+
 -- the files of the published modules
 abbrev pub file_rule : Rule
 file_rule = record (new_rule (codes "file")) {
@@ -84,15 +102,31 @@ IsFlatten s = (p : Option ValueParser) × TakesNames report_names p × (s ≡ (f
 abbrev pub module_shape : Shape
 module_shape = (with_leave (with_rule (with_rule (new_app (codes "module")) module_rule) explain_rule)).top
 
--- the subcommand of an order, with its two options that have to be given
-abbrev pub order_app : Text → Option ValueParser → App
-order_app name p = with_rule (with_rule (with_rule (with_rule (new_app name) type_rule) (rules_rule p)) module_rule) explain_rule
+-- the parsers of the options of an order that take names
+pub record Parsers : Type 0 where
+  pub rules : Option ValueParser
+  pub given : Option ValueParser
+  pub written : Option ValueParser
 
-abbrev pub order_shape : Text → Option ValueParser → Shape
+abbrev pub TakeNames : Parsers → Type 0
+TakeNames p = TakesNames rule_names p.rules × TakesNames given_names p.given × TakesNames written_names p.written
+
+-- the options for the messages and the forms of their octets
+abbrev pub with_forms : Option ValueParser → Option ValueParser → App → App
+with_forms given written a =
+    with_rule (with_rule (with_rule (with_rule a messages_rule) (given_rule given)) (flag_rule (codes "split"))) (written_rule written)
+
+-- the subcommand of an order, with its two options that have to be given
+abbrev pub order_app : Text → Parsers → App
+order_app name p =
+    with_forms p.given p.written
+    (with_rule (with_rule (with_rule (with_rule (new_app name) type_rule) (rules_rule p.rules)) module_rule) explain_rule)
+
+abbrev pub order_shape : Text → Parsers → Shape
 order_shape name p = (with_leave (order_app name p)).top
 
 abbrev pub IsOrder : Text → Shape → Type 0
-IsOrder name s = (p : Option ValueParser) × TakesNames rule_names p × (s ≡ order_shape name p)
+IsOrder name s = (p : Parsers) × TakeNames p × (s ≡ order_shape name p)
 
 abbrev pub AreOrders : List Text → List Shape → Type 0
 AreOrders [] [] = ⊤

@@ -1,5 +1,5 @@
 -- What words ask for, as clap states what it finds in them.
-use Rattle.std.specs.Prelude.{◌≡◌, ◌≢◌, ◌<◌, ◌^◌, ℕ, Bool, true, false, List, [], codes, map, Option, Some, None, unwrap_or, if◌then◌else◌, string_bytes, ⊤}
+use Rattle.std.specs.Prelude.{◌≡◌, ◌≢◌, ◌<◌, ◌^◌, ℕ, Bool, true, false, List, [], codes, map, option_map, Option, Some, None, unwrap_or, if◌then◌else◌, string_bytes, ⊤}
 use Rattle.std.specs.Borrow.{Bor}
 use Rattle.std.specs.Option.{option_map_or}
 use Rattle.std.specs.Str.{bytes_eq}
@@ -15,6 +15,9 @@ use Rattle.asn_convert.specs.declared.job.Order.TheVariants as order
 use Rattle.asn_convert.specs.declared.job.RuleName.{RuleName}
 use Rattle.asn_convert.specs.declared.job.RuleName.TheVariants as rules
 use Rattle.asn_published.specs.declared.options.Options.{Options}
+use Rattle.asn_tool.specs.declared.forms.Forms.{Forms}
+use Rattle.asn_tool.specs.declared.forms.TextForm.{TextForm}
+use Rattle.asn_tool.specs.declared.forms.TextForm.TheVariants as text_form
 use Rattle.asn_tool.specs.declared.request.Form.{Form}
 use Rattle.asn_tool.specs.declared.request.Form.TheVariants as form
 use Rattle.asn_tool.specs.declared.request.LineFault.{LineFault}
@@ -83,15 +86,29 @@ form_of name = if bytes_eq name (codes "text") then form.Text
 abbrev pub form_in : List Row → Form
 form_in rows = option_map_or form_of (first_of (codes "report") rows) form.Summary
 
+-- the form of a text of octets, by its name, and the one that an option names
+abbrev pub text_form_of : Text → TextForm
+text_form_of name = if bytes_eq name (codes "hex-block") then text_form.HexBlock
+    else (if bytes_eq name (codes "base64") then text_form.Base64
+    else (if bytes_eq name (codes "binary") then text_form.Binary else text_form.Hex))
+
+abbrev pub text_form_in : Text → List Row → Option TextForm
+text_form_in id rows = option_map text_form_of (first_of id rows)
+
+abbrev pub AreForms : List Row → Forms → Type 0
+AreForms rows f = (f.given ≡ text_form_in (codes "in") rows) × (f.written ≡ text_form_in (codes "out") rows)
+    × IsFlag (codes "split") rows f.is_split
+
 -- ---- the request
 
 -- what a subcommand asks for, by its name, and the values of its arguments
 abbrev pub IsRequestOf : Text × List Row → Request → Type 0
 IsRequestOf found (request.Flatten files options f) = (found.0 ≡ codes "flatten")
     × (texts_of files.items ≡ files_of (codes "file") found.1) × AreOptions found.1 options × (f ≡ form_in found.1)
-IsRequestOf found (request.Run j files options is_explained) = IsJobOf found j
+IsRequestOf found (request.Run j files options is_explained messages forms) = IsJobOf found j
     × (texts_of files.items ≡ files_of (codes "module") found.1) × AreOptions found.1 options
     × IsFlag (codes "explain") found.1 is_explained
+    × (texts_of messages.items ≡ files_of (codes "messages") found.1) × AreForms found.1 forms
 
 abbrev pub HasRequest : Option (Text × List Row) → Request → Type 0
 HasRequest None r = ⊥

@@ -2,20 +2,26 @@
 //! of each line.
 #![tactic(auto)]
 
+mod asking;
+mod cutting;
 mod ending;
 mod explaining;
 mod flattening;
+mod forms;
+mod fronts;
 mod help;
+mod marks;
+mod messages;
 mod refused;
 mod request;
 mod running;
 mod sources;
 mod stop;
-mod telling;
 mod texts;
 mod typed;
 mod words;
 
+use asking::Asking;
 use ending::refusal_ending;
 use flattening::flatten_files;
 use request::{LineFault, Request, request_of};
@@ -68,7 +74,16 @@ fn do_request<'a>(rt: &HostRuntime, request: &Request<'a>) -> Result<u8, Stop<'a
             files,
             options,
             is_explained,
-        } => run_job(rt, job, files.as_slice(), *options, *is_explained),
+            messages,
+            forms,
+        } => {
+            let asking = Asking {
+                is_explained: *is_explained,
+                messages: messages.as_slice(),
+                forms: *forms,
+            };
+            run_job(rt, job, files.as_slice(), *options, asking)
+        }
     }
 }
 

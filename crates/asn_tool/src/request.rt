@@ -5,8 +5,9 @@ ghost use Rattle.asn_convert.specs.declared.job.Order.{Order};
 ghost use Rattle.asn_convert.specs.declared.job.RuleName.{RuleName};
 ghost use Rattle.asn_tool.specs.declared.request.LineFault.{LineFault};
 ghost use Rattle.asn_tool.specs.Command.{HasOptions, IsTaken};
-ghost use Rattle.asn_tool.specs.Request.{Asks, AreOptions, HasRequest, IsFlag, IsJobOf, IsRequestOf, Told, fault_by, files_of, form_in, form_of, order_name, rule_name, texts_of};
+ghost use Rattle.asn_tool.specs.Request.{Asks, AreForms, AreOptions, HasRequest, IsFlag, IsJobOf, IsRequestOf, Told, fault_by, files_of, form_in, form_of, order_name, rule_name, text_form_in, text_form_of, texts_of};
 
+use crate::forms::{Forms, TextForm};
 use crate::words::command;
 use asn_convert::{Job, Order, RuleName};
 use asn_published::Options;
@@ -36,6 +37,10 @@ pub enum Request<'a> {
         options: Options,
         /// Whether standard error tells of each line that is refused, and of a refused module, why.
         is_explained: bool,
+        /// Where the messages are; none where they stand on standard input.
+        messages: Vec<&'a str>,
+        /// The forms of their octets.
+        forms: Forms,
     },
 }
 
@@ -116,6 +121,8 @@ fn run_in<'a>(alloc: Global, options: &ArgMatches<'a>, job: Job) -> Result<Reque
         files: files_in(alloc, options, "module")?,
         options: options_in(options),
         is_explained: is_explained(options),
+        messages: files_in(alloc, options, "messages")?,
+        forms: forms_in(options),
     })
 }
 
@@ -179,6 +186,39 @@ fn is_explained(options: &ArgMatches<'_>) -> bool
     ensures { IsFlag (codes "explain") (rows_of (found_of options.now)) result }
 {
     options.get_flag("explain")
+}
+
+/// The forms of the octets of messages.
+fn forms_in(options: &ArgMatches<'_>) -> Forms
+    ensures { AreForms (rows_of (found_of options.now)) result }
+{
+    Forms {
+        given: text_form_in(options, "in"),
+        written: text_form_in(options, "out"),
+        is_split: options.get_flag("split"),
+    }
+}
+
+/// The form of octets that the option of this id names, if it was used.
+fn text_form_in(options: &ArgMatches<'_>, id: &str) -> Option<TextForm>
+    ensures { result ≡ text_form_in id.now (rows_of (found_of options.now)) }
+{
+    match options.get_str(id) {
+        Some(name) => Some(text_form_named(name)),
+        None => None,
+    }
+}
+
+/// The form of octets of this name.
+fn text_form_named(name: &str) -> TextForm
+    ensures { result ≡ text_form_of name.now }
+{
+    match name {
+        "hex-block" => TextForm::HexBlock,
+        "base64" => TextForm::Base64,
+        "binary" => TextForm::Binary,
+        _ => TextForm::Hex,
+    }
 }
 
 /// How it is told what became of the types: a summary where it is not said.

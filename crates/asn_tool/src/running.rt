@@ -1,15 +1,17 @@
 //! Jobs on standard input and output.
+use crate::asking::Asking;
 use crate::ending::ending;
+use crate::marks::with_plain_mark;
+use crate::messages::{Asked, answer_input};
 use crate::refused::{imports_told, line_told, text_told};
 use crate::sources::{Instead, input_with, instead_of, module_of};
 use crate::stop::Stop;
-use crate::telling::{Telling, answer_explained};
 use crate::texts::{texts_of, views_of};
 use asn_convert::{Job, RunFault, Status, cut_input, read_all, run, run_on_lines};
 use asn_published::{Options, PublishedFault};
 use asn_rules::Counted;
-use std::io;
-use std::io::BufReader;
+use std::io::{BufRead, BufReader, IsTerminal, Write};
+use std::{fs, io};
 
 /// Does the job on standard input and output, its module being that of the files, or of standard input where there are
 /// none. Gives the exit status.
@@ -18,14 +20,21 @@ pub fn run_job<'a>(
     job: &Job,
     files: &[&'a str],
     options: Options,
-    is_explained: bool,
+    asking: Asking<'a>,
 ) -> Result<u8, Stop<'a>> {
-    let telling = Telling::of(rt, is_explained);
-    if files.is_empty() {
-        run_given(rt, job, options, telling)
-    } else {
-        run_with_files(rt, job, files, options, telling)
+    if let Some(words) = asking.unserved(job) {
+        return Err(Stop::Unserved(words));
     }
+    if files.is_empty() {
+        run_given(rt, job, options, asking)
+    } else {
+        run_with_files(rt, job, files, options, asking)
+    }
+}
+
+/// Whether it is told of a module where it is refused: where that is asked for, or standard error is a terminal.
+fn tells_of_module(rt: &HostRuntime, asking: Asking<'_>) -> bool {
+    asking.is_explained || rt.stderr().is_terminal()
 }
 
 /// Does the job, its module standing on standard input.
@@ -33,15 +42,24 @@ fn run_given<'a>(
     rt: &HostRuntime,
     job: &Job,
     options: Options,
-    telling: Telling,
+    asking: Asking<'a>,
 ) -> Result<u8, Stop<'a>> {
-    let given = read_all(rt.alloc(), &mut Counted::new(rt.reader()))?;
+    let given = text_given(rt, asking)?;
     let instead = instead_of(rt.alloc(), given.as_slice(), options, job)?;
-    tell_remarks(rt, instead.remarks.as_str(), telling.module);
+    tell_remarks(rt, instead.remarks.as_str(), tells_of_module(rt, asking));
     match &instead.octets {
-        Some(octets) => run_text(rt, job, octets.as_slice(), options, telling),
-        None => run_text(rt, job, given.as_slice(), options, telling),
+        Some(octets) => run_text(rt, job, octets.as_slice(), options, asking),
+        None => run_text(rt, job, given.as_slice(), options, asking),
     }
+}
+
+/// All of standard input. Where a form of octets is asked for, a carriage return behind the mark is left out.
+fn text_given(rt: &HostRuntime, asking: Asking<'_>) -> Result<Vec<u8>, RunFault> {
+    let given = read_all(rt.alloc(), &mut Counted::new(rt.reader()))?;
+    if asking.forms.given.is_none() {
+        return Ok(given);
+    }
+    Ok(with_plain_mark(rt.alloc(), given.as_slice())?)
 }
 
 /// Writes the remarks on published modules to standard error, and where that is told of a module, that it is one of several.
@@ -58,39 +76,79 @@ fn run_text<'a>(
     job: &Job,
     octets: &[u8],
     options: Options,
-    telling: Telling,
+    asking: Asking<'a>,
 ) -> Result<u8, Stop<'a>> {
     let (text, lines) = cut_input(octets);
-    if telling.module {
-        let is_all = text.len() == octets.len();
+    if tells_of_module(rt, asking) {
+        let is_all = text.len() == octets.len() && asking.messages.is_empty();
         let told = text_told(rt.alloc(), text, options, job, is_all)?;
         let _ = rt.eprint(told.as_str());
     }
-    match run_explained(rt, job, text, telling, lines)? {
+    let mut lines = lines;
+    match run_asked(rt, job, text, asking, &mut lines)? {
         Some(status) => Ok(status),
         None => Ok(run_on(rt, job, octets)),
     }
 }
 
-/// The exit status of the job on the lines in memory, each of which is told why it is refused. `None`, and nothing is
-/// done, where that is not asked for, or the text is no module with lines to answer.
-fn run_explained<'a>(
+/// The exit status of the job where more than lines of standard input is asked for: on the messages of the files, or on
+/// these lines. `None`, and nothing is done, where it is not, or the text is no module with the type of the job.
+fn run_asked<'a, R: BufRead>(
     rt: &HostRuntime,
     job: &Job,
     text: &[u8],
-    telling: Telling,
-    lines: &[u8],
+    asking: Asking<'a>,
+    lines: &mut R,
 ) -> Result<Option<u8>, Stop<'a>> {
-    if !telling.lines {
+    if asking.is_plain() {
         return Ok(None);
     }
     let Some(module) = module_of(rt.alloc(), text)? else {
         return Ok(None);
     };
-    let mut lines = lines;
-    match answer_explained(rt, job, &module, &mut lines) {
-        Some(answer) => Ok(Some(ended(rt, &answer))),
-        None => Ok(None),
+    let Some(asked) = asking.of(job, &module) else {
+        return Ok(None);
+    };
+    let mut output = Counted::new(io::writer(rt));
+    if asking.messages.is_empty() {
+        let answer = answer_input(rt, lines, &mut output, "", asked);
+        return Ok(Some(ended(rt, &status_of(&answer))));
+    }
+    Ok(Some(run_on_files(rt, &mut output, asking.messages, asked)?))
+}
+
+/// The exit status of a job on the messages of these files.
+fn run_on_files<'a, W: Write>(
+    rt: &HostRuntime,
+    output: &mut Counted<W>,
+    files: &[&'a str],
+    asked: Asked<'_>,
+) -> Result<u8, Stop<'a>> {
+    let mut status = 0;
+    for file in files {
+        let Ok(opened) = fs::open(rt, *file) else {
+            return Err(Stop::Unread(*file));
+        };
+        let Ok(mut input) = BufReader::new(rt.alloc(), opened) else {
+            return Err(Stop::Memory);
+        };
+        match answer_input(rt, &mut input, output, *file, asked) {
+            Ok(true) => {}
+            Ok(false) => status = 1,
+            Err(RunFault::Read) => return Err(Stop::Unread(*file)),
+            Err(RunFault::Write) => return Err(Stop::Write),
+            Err(RunFault::Memory) => return Err(Stop::Memory),
+        }
+    }
+    Ok(status)
+}
+
+/// How a job ended whose messages were answered so.
+fn status_of(answer: &Result<bool, RunFault>) -> Result<Status, RunFault> {
+    match answer {
+        Ok(true) => Ok(Status::Good),
+        Ok(false) => Ok(Status::Marked),
+        Err(fault) => Err(*fault),
     }
 }
 
@@ -101,7 +159,7 @@ fn run_with_files<'a>(
     job: &Job,
     files: &[&'a str],
     options: Options,
-    telling: Telling,
+    asking: Asking<'a>,
 ) -> Result<u8, Stop<'a>> {
     let texts = texts_of(rt, files)?;
     let views = views_of(rt, texts.as_slice())?;
@@ -114,11 +172,11 @@ fn run_with_files<'a>(
         job,
     ) {
         Ok(instead) => instead,
-        Err(fault) => return stopped(rt, files, views.as_slice(), fault, telling),
+        Err(fault) => return stopped(rt, files, views.as_slice(), fault, asking),
     };
-    tell_remarks(rt, remarks.as_str(), telling.module);
+    tell_remarks(rt, remarks.as_str(), tells_of_module(rt, asking));
     match octets {
-        Some(head) => run_coming(rt, job, head.as_slice(), options, telling),
+        Some(head) => run_coming(rt, job, head.as_slice(), options, asking),
         None => Ok(2),
     }
 }
@@ -129,9 +187,9 @@ fn stopped<'a>(
     files: &[&'a str],
     texts: &[&str],
     fault: PublishedFault,
-    telling: Telling,
+    asking: Asking<'_>,
 ) -> Result<u8, Stop<'a>> {
-    if telling.module {
+    if tells_of_module(rt, asking) {
         if let PublishedFault::Text { text, line, .. } = &fault {
             if let Some(text) = texts.get(*text) {
                 let told = line_told(rt.alloc(), *text, *line)?;
@@ -149,21 +207,19 @@ fn run_coming<'a>(
     job: &Job,
     head: &[u8],
     options: Options,
-    telling: Telling,
+    asking: Asking<'a>,
 ) -> Result<u8, Stop<'a>> {
     let (text, _) = cut_input(head);
-    if telling.module {
+    if tells_of_module(rt, asking) {
         let told = text_told(rt.alloc(), text, options, job, false)?;
         let _ = rt.eprint(told.as_str());
     }
-    if telling.lines {
-        if let Some(module) = module_of(rt.alloc(), text)? {
-            let Ok(mut lines) = BufReader::new(rt.alloc(), rt.reader()) else {
-                return Err(Stop::Memory);
-            };
-            if let Some(answer) = answer_explained(rt, job, &module, &mut lines) {
-                return Ok(ended(rt, &answer));
-            }
+    if !asking.is_plain() {
+        let Ok(mut lines) = BufReader::new(rt.alloc(), rt.reader()) else {
+            return Err(Stop::Memory);
+        };
+        if let Some(status) = run_asked(rt, job, text, asking, &mut lines)? {
+            return Ok(status);
         }
     }
     let mut input = Counted::new(rt.reader());

@@ -27,6 +27,9 @@ pub enum Stop<'a> {
     /// The profile does not take what was written of the published modules.
     #[error("not read: {0}")]
     NotOfProfile(ModuleFault),
+    /// The order of the job does not do what is asked for.
+    #[error("{0}")]
+    Unserved(&'static str),
     /// Standard input is not read.
     #[error("read failed")]
     Read,
@@ -39,12 +42,13 @@ pub enum Stop<'a> {
 }
 
 impl<'a> Stop<'a> {
-    /// The exit status: 2 where a text is refused, and 3 where reading, writing or memory failed.
+    /// The exit status: 2 where a text or what is asked for is refused, and 3 where reading, writing or memory failed.
     pub fn status(&self) -> u8
         ensures { result ≡ stop_status self.now }
     {
         match self {
             Stop::NotText(_) | Stop::Notation { .. } | Stop::NotOfProfile(_) => 2,
+            Stop::Unserved(_) => 2,
             Stop::Unread(_) | Stop::Read | Stop::Write | Stop::Memory => 3,
         }
     }

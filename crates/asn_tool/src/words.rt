@@ -2,7 +2,7 @@
 ghost use Rattle.std.specs.Prelude.{◌≡◌, IfOk, false};
 ghost use Rattle.clap.specs.Words.{app_of, rule_of, shape_of};
 ghost use Rattle.clap.specs.declared.builder.Command.TheViews.{out-Command};
-ghost use Rattle.asn_tool.specs.Command.{IsFlatten, IsOrder, IsTool, TakesNames, explain_rule, file_rule, flag_rule, module_rule, module_shape, report_names, report_rule, rule_names, rules_rule, type_rule, with_leave};
+ghost use Rattle.asn_tool.specs.Command.{IsFlatten, IsOrder, IsTool, TakesNames, explain_rule, file_rule, flag_rule, given_names, given_rule, messages_rule, module_rule, module_shape, report_names, report_rule, rule_names, rules_rule, type_rule, with_forms, with_leave, written_names, written_rule};
 
 use crate::help;
 use clap::{Arg, ArgAction, Command, value_parser};
@@ -10,6 +10,12 @@ use std::alloc::{AllocError, Global};
 
 /// The names of the encoding rules.
 static RULES: [&str; 2] = ["per", "oer"];
+
+/// The forms of octets that are given.
+static GIVEN: [&str; 4] = ["hex", "hex-block", "base64", "binary"];
+
+/// The forms of octets that are written.
+static WRITTEN: [&str; 3] = ["hex", "base64", "binary"];
 
 /// The ways to tell what became of the types.
 static REPORTS: [&str; 3] = ["summary", "text", "json"];
@@ -118,7 +124,66 @@ fn order<'a>(
         .arg(rules_option(alloc))?
         .arg(files_option(alloc))?
         .arg(explain_option(alloc))?;
+    let command = with_forms(alloc, command)?;
     with_leave(alloc, command)
+}
+
+/// The command with the options for the messages and the forms of their octets.
+fn with_forms<'a>(alloc: Global, command: Command<'a>) -> Result<Command<'a>, AllocError>
+    ensures shape { IfOk result (λ c. (p : _) × (q : _) × TakesNames given_names p × TakesNames written_names q
+        × (app_of c ≡ with_forms p q (app_of command.entry))) }
+    ensures local { (out-Command command.entry).has_globals ≡ false
+        → IfOk result (λ c. (out-Command c).has_globals ≡ false) }
+{
+    let split = flag(
+        alloc,
+        "split",
+        "Each text has messages one after the other: each begins where the last ended",
+    );
+    command
+        .arg(messages_option(alloc))?
+        .arg(given_option(alloc))?
+        .arg(split)?
+        .arg(written_option(alloc))
+}
+
+/// The option for the files of the messages.
+fn messages_option<'a>(alloc: Global) -> Arg<'a>
+    ensures rule { rule_of result ≡ messages_rule }
+    ensures local { result.global ≡ false }
+{
+    Arg::new(alloc, "messages")
+        .long("messages")
+        .value_name("FILE")
+        .num_args(1..)
+        .action(ArgAction::Set)
+        .help("The messages, in place of those on standard input")
+}
+
+/// The option for the form of the octets that are given.
+fn given_option<'a>(alloc: Global) -> Arg<'a>
+    ensures rule { (p : _) × TakesNames given_names p × (rule_of result ≡ given_rule p) }
+    ensures local { result.global ≡ false }
+{
+    Arg::new(alloc, "in")
+        .long("in")
+        .value_name("FORM")
+        .action(ArgAction::Set)
+        .value_parser(GIVEN.as_slice())
+        .help("How octets are given [default: a line of hexadecimal digits, two an octet]")
+}
+
+/// The option for the form of the octets that are written.
+fn written_option<'a>(alloc: Global) -> Arg<'a>
+    ensures rule { (p : _) × TakesNames written_names p × (rule_of result ≡ written_rule p) }
+    ensures local { result.global ≡ false }
+{
+    Arg::new(alloc, "out")
+        .long("out")
+        .value_name("FORM")
+        .action(ArgAction::Set)
+        .value_parser(WRITTEN.as_slice())
+        .help("How `encode` and `convert` write octets [default: hex]")
 }
 
 /// The option for the name of the type.

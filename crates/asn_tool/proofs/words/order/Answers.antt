@@ -3,7 +3,7 @@ use Rattle.std.proofs.lemmas.Result.{IfOk-weaker}
 use Rattle.clap.specs.Simple.{app_of_fields}
 use Rattle.clap.specs.Words.{App, app_of, new_app, with_rule}
 use Rattle.clap.specs.declared.builder.Command.TheViews.{out-Command}
-use Rattle.asn_tool.specs.Command.{with_leave}
+use Rattle.asn_tool.specs.Command.{Parsers, with_forms, with_leave}
 use Rattle.asn_tool.proofs.words.order.Goals as goal
 
 pub returns-clause-shape : goal.returns-clause-shape
@@ -13,7 +13,10 @@ returns-clause-shape c =
     let two = c.in_ok-arg-2.ensures.shape c.rules_option.ensures.local ∙ ap₂ with_rule one c.rules_option.ensures.rule.2 in
     let three = c.in_ok-arg-3.ensures.shape c.files_option.ensures.local ∙ ap₂ with_rule two c.files_option.ensures.rule in
     let four = c.in_ok-command.ensures.shape c.explain_option.ensures.local ∙ ap₂ with_rule three c.explain_option.ensures.rule in
-    IfOk-weaker c.with_leave.result _ _ (λ d h. (c.rules_option.ensures.rule.0, c.rules_option.ensures.rule.1, ap (λ (a : App). a.top) (h ∙ ap with_leave four))) c.with_leave.ensures.shape
+    let forms = c.in_ok-command-2.ensures.shape in
+    let five = forms.4 ∙ ap (with_forms forms.0 forms.1) four in
+    let parsers : Parsers = record { rules = c.rules_option.ensures.rule.0; given = forms.0; written = forms.1 } in
+    IfOk-weaker c.with_leave.result _ _ (λ d h. (parsers, (c.rules_option.ensures.rule.1, (forms.2, forms.3)), ap (λ (a : App). a.top) (h ∙ ap with_leave five))) c.with_leave.ensures.shape
 
 pub returns-clause-local : goal.returns-clause-local
 returns-clause-local c =
@@ -21,4 +24,4 @@ returns-clause-local c =
     let one : (out-Command c.in_ok-arg.field-0).has_globals ≡ false = c.in_ok-arg.ensures.globals ∙ ap₂ (λ a b. a || b) new_local c.type_option.ensures.local in
     let two : (out-Command c.in_ok-arg-2.field-0).has_globals ≡ false = c.in_ok-arg-2.ensures.globals ∙ ap₂ (λ a b. a || b) one c.rules_option.ensures.local in
     let three : (out-Command c.in_ok-arg-3.field-0).has_globals ≡ false = c.in_ok-arg-3.ensures.globals ∙ ap₂ (λ a b. a || b) two c.files_option.ensures.local in
-    c.with_leave.ensures.local (c.in_ok-command.ensures.globals ∙ ap₂ (λ a b. a || b) three c.explain_option.ensures.local)
+    c.with_leave.ensures.local (c.in_ok-command-2.ensures.local (c.in_ok-command.ensures.globals ∙ ap₂ (λ a b. a || b) three c.explain_option.ensures.local))

@@ -121,6 +121,12 @@ def faults(count, program, file):
     with open("/dev/full", "wb") as full:
         ran = subprocess.run([program, *SHOW, "--module", file], input=b"50\n", stdout=full, stderr=subprocess.PIPE)
     count.add((ran.returncode, ran.stderr) == (3, b"write failed\n"), f"a full disk: {ran}")
+    for words in ([*SHOW, "--module", file], [*SHOW, "--module", file, "--explain"], ["module", "--module", file], ["flatten", file], ["--help"]):
+        reads, writes = os.pipe()
+        os.close(reads)
+        ran = subprocess.run([program, *words], input=b"50\n", stdout=writes, stderr=subprocess.PIPE)
+        os.close(writes)
+        count.add((ran.returncode, ran.stderr) == (141, b""), f"{words[0]} whose reader has gone: {ran}")
     with tempfile.TemporaryDirectory() as folder:
         ran = subprocess.run([program, *SHOW, "--module", file], stdin=os.open(folder, os.O_RDONLY), capture_output=True)
     count.add((ran.returncode, ran.stdout, ran.stderr) == (3, b"", b"read failed\n"), f"a folder as the input: {ran}")

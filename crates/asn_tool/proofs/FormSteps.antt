@@ -1,11 +1,12 @@
 -- Octets as texts: the steps of their readers, and that what is written is read as the same octets.
-use Rattle.std.proofs.Common.{◌≡◌, ◌<◌, ◌∙◌, ◌&&◌, ◌||◌, ◌==◌, ◌++◌, ◌∷◌, ap, sym, subst, refl, arith, ℕ, zero, suc, true, false, not, true≢false, Bool, if◌then◌else◌, List, [], length, map, slice_index, get_or, drop, append_assoc, append-nil, Option, Some, None, inl, inr, Result, Ok, Err, ◌/◌, ◌%◌}
-use Rattle.std.specs.Prelude.{result_ok}
+use Rattle.std.proofs.Common.{◌≡◌, ◌<◌, ◌∙◌, ◌&&◌, ◌||◌, ◌==◌, ◌++◌, ◌+◌, ◌∷◌, ap, add-one, drop-cons, sym, subst, refl, arith, ℕ, zero, suc, true, false, not, true≢false, Bool, if◌then◌else◌, List, [], length, map, slice_index, get_or, drop, append_assoc, append-nil, Option, Some, None, inl, inr, Result, Ok, Err, ◌/◌, ◌%◌}
+use Rattle.std.specs.Result.{result_ok}
 use Rattle.std.specs.List.{concat, list_all}
 use Rattle.std.proofs.lemmas.Bool.{and_parts, cases_lt}
 use Rattle.hex.specs.Hex.{IsBytes, decode_of, encode_lower, encode_with, lower_digits}
 use Rattle.hex.proofs.HexLemmas.{decode_of-encode_lower}
-use Rattle.asn_convert.specs.Lines.{lines_of, begun}
+use Rattle.asn_convert.specs.Lines.{lines_of, begun, IsFirstLine}
+use Rattle.asn_convert.proofs.Lines.{drop_whole}
 use Rattle.asn_tool.specs.Forms.{digits_of, is_blank, is_comment, parted, uncommented, unprefixed}
 
 -- ---- the readers' steps
@@ -26,6 +27,38 @@ pub digits_step : (digits rest word later whole : List ℕ) → lines_of rest �
 digits_step digits rest word later whole first is =
     append_assoc digits (unprefixed word) (concat (map unprefixed (lines_of later)))
     ∙ subst (λ ls. digits ++ concat (map unprefixed ls) ≡ whole) first is
+
+-- the next octet of a text, as the loop takes it
+pub next_octet : (text : List ℕ) (i : ℕ) (words new : List ℕ) (before skipped : Bool) (put : ℕ) (whole : List ℕ) → i < length text
+    → words ++ map parted (uncommented before (drop i text)) ≡ whole → skipped ≡ is_comment before (get_or text i 0) → put ≡ parted (get_or text i 0)
+    → new ≡ words ++ (if skipped then [] else put ∷ []) → new ++ map parted (uncommented skipped (drop (i + 1) text)) ≡ whole
+next_octet text i words new before skipped put whole below so_far is put_is grown =
+    let x = get_or text i 0 in
+    let rest = drop (i + 1) text in
+    let here : drop i text ≡ get_or text i 0 ∷ drop (i + 1) text = rw (add-one, drop-cons text i 0) refl in
+    let step = words_step words before x rest whole (subst (λ xs. words ++ map parted (uncommented before xs) ≡ whole) here so_far) in
+    subst (λ n. n ++ map parted (uncommented skipped rest) ≡ whole) (sym grown)
+    (subst (λ s. (words ++ (if s then [] else put ∷ [])) ++ map parted (uncommented s rest) ≡ whole) (sym is)
+    (subst (λ p. (words ++ (if is_comment before x then [] else p ∷ [])) ++ map parted (uncommented (is_comment before x) rest) ≡ whole) (sym put_is) step))
+
+-- none is left
+pub last_octet : (text : List ℕ) (i : ℕ) (words : List ℕ) (before : Bool) (whole : List ℕ) → i ≡ length text
+    → words ++ map parted (uncommented before (drop i text)) ≡ whole → words ≡ whole
+last_octet text i words before whole end so_far =
+    let none : drop i text ≡ [] = ap (λ n. drop n text) end ∙ drop_whole text in
+    sym (append-nil words) ∙ subst (λ xs. words ++ map parted (uncommented before xs) ≡ whole) none so_far
+
+-- the next word, as the loop takes it, and none
+pub next_word : (digits new rest word put later whole : List ℕ) → IsFirstLine rest word later → digits ++ concat (map unprefixed (lines_of rest)) ≡ whole
+    → put ≡ unprefixed word → new ≡ digits ++ put → new ++ concat (map unprefixed (lines_of later)) ≡ whole
+next_word digits new rest word put later whole first so_far put_is grown =
+    subst (λ n. n ++ concat (map unprefixed (lines_of later)) ≡ whole) (sym grown)
+    (subst (λ p. (digits ++ p) ++ concat (map unprefixed (lines_of later)) ≡ whole) (sym put_is)
+    (digits_step digits rest word later whole first.lines so_far))
+
+pub last_word : (digits rest whole : List ℕ) → rest ≡ [] → digits ++ concat (map unprefixed (lines_of rest)) ≡ whole → digits ≡ whole
+last_word digits rest whole none so_far =
+    sym (append-nil digits) ∙ subst (λ xs. digits ++ concat (map unprefixed (lines_of xs)) ≡ whole) none so_far
 
 -- a word of fewer than two octets has no 0x, and what a longer one has
 pub short_word : (word : List ℕ) → length word < 2 → word ≡ unprefixed word
@@ -60,6 +93,10 @@ plain_at (suc n) k h below =
           rw e parts.0
     ]
 
+both : (a b : Bool) → a ≡ true → b ≡ true → (a && b) ≡ true
+both true b first second = second
+both false b first second = first
+
 plain_digits : (octets : List ℕ) → IsBytes octets → list_all is_plain (encode_lower octets) ≡ true
 unfolding encode_with
 plain_digits [] are = refl
@@ -67,7 +104,8 @@ plain_digits (x ∷ xs) are =
     let fits : x < 256 = are 0 in
     let high : is_plain (slice_index lower_digits (x / 16)) ≡ true = plain_at 16 (x / 16) refl (omega arith) in
     let low : is_plain (slice_index lower_digits (x % 16)) ≡ true = plain_at 16 (x % 16) refl (omega arith) in
-    rw (high, low) (plain_digits xs (λ k. are (suc k)))
+    let rest = plain_digits xs (λ k. are (suc k)) in
+    both (is_plain (slice_index lower_digits (x / 16))) _ high (both (is_plain (slice_index lower_digits (x % 16))) (list_all is_plain (encode_lower xs)) low rest)
 
 no : (b : Bool) → not b ≡ true → b ≡ false
 no true e = absurd (true≢false (sym e))

@@ -1,5 +1,6 @@
 -- Octets as texts: hexadecimal as people write it, Base64, and the octets themselves.
-use Rattle.std.specs.Prelude.{◌==◌, ◌||◌, ◌&&◌, not, ℕ, Bool, List, [], ◌∷◌, ◌++◌, map, Option, Some, if◌then◌else◌, result_ok}
+use Rattle.std.specs.Prelude.{◌==◌, ◌||◌, ◌&&◌, not, false, ℕ, Bool, List, [], ◌∷◌, ◌++◌, map, Option, Some, if◌then◌else◌}
+use Rattle.std.specs.Result.{result_ok}
 use Rattle.std.specs.List.{concat}
 use Rattle.hex.specs.Hex.{decode_of, encode_lower}
 use Rattle.base64.specs.Engines.{standard}

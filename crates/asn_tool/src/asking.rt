@@ -6,16 +6,16 @@ use asn_module::Module;
 
 /// What is asked for of the messages of a job.
 #[derive(Clone, Copy)]
-pub struct Asking<'a> {
+pub struct Asking<'m, 'a> {
     /// Whether standard error tells why a message, or the module, is refused.
     pub is_explained: bool,
     /// The files of the messages; none where they stand on standard input.
-    pub messages: &'a [&'a str],
+    pub messages: &'m [&'a str],
     /// The forms of their octets.
     pub forms: Forms,
 }
 
-impl<'a> Asking<'a> {
+impl<'m, 'a> Asking<'m, 'a> {
     /// Whether nothing is asked for, so that messages are lines of standard input.
     pub fn is_plain(&self) -> bool {
         let Forms {
@@ -53,7 +53,7 @@ impl<'a> Asking<'a> {
 
     /// What is made of the messages of a job, where the module has the type; `None` where it has no such type, or is to be
     /// printed.
-    pub fn of<'m>(&self, job: &Job, module: &'m Module) -> Option<Asked<'m>> {
+    pub fn of<'t>(&self, job: &Job, module: &'t Module) -> Option<Asked<'t>> {
         let Job::Lines {
             order,
             type_name,

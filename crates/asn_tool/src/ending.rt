@@ -7,17 +7,25 @@ use asn_convert::{RunFault, Status};
 /// The exit status, and the line for standard error, which is empty where there is none.
 ///
 /// 0 where every line was answered well, 1 where at least one was refused, 2 where the module was refused or has no
-/// type of the name, and 3 where reading, writing or memory failed, which the line tells. No memory is taken.
-pub fn ending(answer: &Result<Status, RunFault>) -> (u8, &'static str)
-    ensures status { result.0 ≡ (end_of answer.now).0 }
-    ensures line { result.1.now ≡ (end_of answer.now).1 }
+/// type of the name, and 3 where reading, writing or memory failed, which the line tells. Where a write failed and the
+/// reader of the output has gone, which `is_closed` says, 141, as where the signal for it ends a program, and no line. No
+/// memory is taken.
+pub fn ending(answer: &Result<Status, RunFault>, is_closed: bool) -> (u8, &'static str)
+    ensures status { result.0 ≡ (end_of answer.now is_closed).0 }
+    ensures line { result.1.now ≡ (end_of answer.now is_closed).1 }
 {
     match answer {
         Ok(Status::Good) => (0, ""),
         Ok(Status::Marked) => (1, ""),
         Ok(Status::NoModule) => (2, ""),
         Err(RunFault::Read) => (3, "read failed"),
-        Err(RunFault::Write) => (3, "write failed"),
+        Err(RunFault::Write) => {
+            if is_closed {
+                (141, "")
+            } else {
+                (3, "write failed")
+            }
+        }
         Err(RunFault::Memory) => (3, "memory"),
     }
 }

@@ -25,7 +25,7 @@ pub fn flatten_files<'a>(
     let told = told_in(rt.alloc(), files, &flattened, form)?;
     match rt.print(flattened.text.as_str()) {
         Ok(()) => {}
-        Err(_) => return Err(Stop::Write),
+        Err(fault) => return Err(Stop::of_print(&fault)),
     }
     match rt.eprint(told.as_str()) {
         Ok(()) => Ok(flatten_ending(flattened.report.as_slice())),

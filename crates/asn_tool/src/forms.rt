@@ -1,7 +1,8 @@
 //! Octets as texts.
-ghost use Rattle.std.specs.Prelude.{◌≡◌, ◌++◌, ◌∷◌, [], None, Some, false, IfOk, MatchOption, OnOk, if◌then◌else◌, map, result_ok};
+ghost use Rattle.std.specs.Prelude.{◌≡◌, ◌++◌, ◌∷◌, [], None, Some, false, IfOk, MatchOption, OnOk, if◌then◌else◌, map};
+ghost use Rattle.std.specs.Result.{result_ok};
 ghost use Rattle.std.specs.List.{concat};
-ghost use Rattle.hex.specs.Hex.{decode_of};
+ghost use Rattle.hex.specs.Hex.{decode_of, encode_lower};
 ghost use Rattle.base64.specs.Engines.{standard};
 ghost use Rattle.base64.specs.GeneralPurpose as engine;
 ghost use Rattle.asn_convert.specs.Lines.{lines_of};
@@ -158,14 +159,28 @@ pub fn text_of(alloc: Global, form: TextForm, octets: &[u8]) -> Result<Vec<u8>, 
     ensures read_again { IfOk result (λ text. octets_in form text.items ≡ Some octets.now) }
 {
     match form {
-        TextForm::Hex | TextForm::HexBlock => {
-            let text = hex::encode(alloc, octets)?;
-            copied(alloc, text.as_bytes())
-        }
-        TextForm::Base64 => {
-            let text = STANDARD.encode(alloc, octets)?;
-            copied(alloc, text.as_bytes())
-        }
+        TextForm::Hex | TextForm::HexBlock => hexadecimal_of(alloc, octets),
+        TextForm::Base64 => base64_of(alloc, octets),
         TextForm::Binary => copied(alloc, octets),
     }
+}
+
+/// The octets as hexadecimal digits.
+fn hexadecimal_of(alloc: Global, octets: &[u8]) -> Result<Vec<u8>, AllocError>
+    ensures text { IfOk result (λ text. text.items ≡ encode_lower octets.now) }
+    ensures read_again { IfOk result (λ text. result_ok (decode_of (digits_of text.items)) ≡ Some octets.now) }
+{
+    let digits = hex::encode(alloc, octets)?;
+    let text = copied(alloc, digits.as_bytes())?;
+    Ok(text)
+}
+
+/// The octets as Base64.
+fn base64_of(alloc: Global, octets: &[u8]) -> Result<Vec<u8>, AllocError>
+    ensures text { IfOk result (λ text. text.items ≡ engine.encode_of standard octets.now) }
+    ensures read_again { IfOk result (λ text. result_ok (engine.decode_of standard text.items) ≡ Some octets.now) }
+{
+    let coded = STANDARD.encode(alloc, octets)?;
+    let text = copied(alloc, coded.as_bytes())?;
+    Ok(text)
 }

@@ -9,6 +9,17 @@ as they come. The text may be one of the profile, or a module as a standards bod
 Out: on standard output a line for each message, which begins with ! where it is refused. On standard error what is not
 the same of the published types that --type leads to, with file and line.
 
+Octets are given and written as lines of hexadecimal digits, two an octet, and nothing else. Other forms, by --in and --out:
+  hex         a line of hexadecimal digits, with blanks, 0x in front of a word, and comments from # on; lines without a
+              digit are passed over
+  hex-block   the same on several lines (--in), a line of blanks behind each message, as `xxd -p` writes them
+  base64      a line of Base64 (RFC 4648), with its padding
+  binary      the octets themselves: a message is all of the input, or of a file of --messages; what is written has nothing
+              between messages, and refusals go to standard error
+With --in a carriage return in front of a line feed is left out, behind ==== too. With --split each text, or all of the
+input of --in binary, has messages one after the other, each of which begins where the last ended. With --messages FILE ..
+messages are those of files, in the place of standard input, which then has the module alone, unless --module names it.
+
 What a refusal means, of which --explain tells more on standard error:
   ! hex                 the line is not of hexadecimal digits, two an octet
   ! json                the line is no JSON
@@ -88,7 +99,12 @@ Example:
 writes {\"id\":5}. Of the line a1 in the place of a0, with --explain, standard output has
   ! refused at bit 8: padding
 and standard error
-  line 1: in $, SEQUENCE: the bits that fill up an octet are not all 0";
+  line 1: in $, SEQUENCE: the bits that fill up an octet are not all 0
+
+Of a file of messages one after the other, where m.asn has that module:
+  printf '\\240\\120' >messages
+  asn_tool show --type T --rules per --module m.asn --messages messages --in binary --split
+writes {\"id\":5} and {\"id\":2}.";
 
 /// Of `check`.
 pub static CHECK: &str = "\
@@ -102,7 +118,11 @@ the name, which the only line of output tells; 3 if reading, writing or memory f
 Example:
   printf '%s\\n' 'M DEFINITIONS AUTOMATIC TAGS ::= BEGIN' 'T ::= INTEGER (0..7)' END ==== a0 a1 |
     asn_tool check --type T --rules per
-writes `ok 1` and `! refused at bit 8: padding`.";
+writes `ok 1` and `! refused at bit 8: padding`.
+
+With blanks, 0x and a comment, where m.asn has that module:
+  echo '0xa0  # the number 5' | asn_tool check --type T --rules per --module m.asn --in hex
+writes `ok 1`.";
 
 /// Of `encode`.
 pub static ENCODE: &str = "\
@@ -116,7 +136,11 @@ the name, which the only line of output tells; 3 if reading, writing or memory f
 Example:
   printf '%s\\n' 'M DEFINITIONS AUTOMATIC TAGS ::= BEGIN' 'T ::= SEQUENCE { id INTEGER (0..7) }' END ==== '{\"id\":5}' |
     asn_tool encode --type T --rules per
-writes a0.";
+writes a0.
+
+As octets, where m.asn has that module:
+  echo '{\"id\":5}' | asn_tool encode --type T --rules per --module m.asn --out binary >message
+leaves a file of one octet.";
 
 /// Of `convert`.
 pub static CONVERT: &str = "\
@@ -131,7 +155,11 @@ of the name, which the only line of output tells; 3 if reading, writing or memor
 Example:
   printf '%s\\n' 'M DEFINITIONS AUTOMATIC TAGS ::= BEGIN' 'T ::= SEQUENCE { id INTEGER (0..7) }' END ==== a0 |
     asn_tool convert --type T --rules per
-writes 05.";
+writes 05.
+
+In Base64, where m.asn has that module:
+  echo oA== | asn_tool convert --type T --rules per --module m.asn --in base64 --out base64
+writes BQ==.";
 
 /// Of `newer`.
 pub static NEWER: &str = "\

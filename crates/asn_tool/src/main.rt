@@ -12,6 +12,7 @@ mod fronts;
 mod help;
 mod marks;
 mod messages;
+mod piped;
 mod refused;
 mod request;
 mod running;
@@ -26,9 +27,9 @@ use ending::refusal_ending;
 use flattening::flatten_files;
 use request::{LineFault, Request, request_of};
 use running::run_job;
-use std::env;
 use std::io::ErrorKind;
 use std::process::ExitCode;
+use std::{env, io};
 use stop::Stop;
 
 /// Does what the words after the program's name ask for. The exit status is 0 where all is well, after help and the
@@ -89,7 +90,9 @@ fn do_request<'a>(rt: &HostRuntime, request: &Request<'a>) -> Result<u8, Stop<'a
 
 /// The exit status where the program stops before its work is done, after the line on standard error.
 fn stop_told(rt: &HostRuntime, stop: &Stop<'_>) -> ExitCode {
-    let _ = eprintln!(rt; "{stop}");
+    if !matches!(stop, Stop::Closed) {
+        let _ = eprintln!(rt; "{stop}");
+    }
     ExitCode::from(stop.status())
 }
 
@@ -97,11 +100,22 @@ fn stop_told(rt: &HostRuntime, stop: &Stop<'_>) -> ExitCode {
 fn fault_told(rt: &HostRuntime, fault: &LineFault) -> ExitCode {
     match fault {
         LineFault::Line(error) => {
-            let is_written = error.print(rt).is_ok();
-            let (status, line) = refusal_ending(error.use_stderr(), is_written);
+            let printed = error.print(rt);
+            if !error.use_stderr() && is_closed(&printed) {
+                return ExitCode::from(Stop::Closed.status());
+            }
+            let (status, line) = refusal_ending(error.use_stderr(), printed.is_ok());
             told(rt, status, line)
         }
         LineFault::Memory => told(rt, 3, "memory"),
+    }
+}
+
+/// Whether what was printed was not written since its reader has gone.
+fn is_closed(printed: &io::Result<()>) -> bool {
+    match printed {
+        Ok(()) => false,
+        Err(fault) => fault.kind() == ErrorKind::BrokenPipe,
     }
 }
 

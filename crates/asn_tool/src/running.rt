@@ -3,6 +3,7 @@ use crate::asking::Asking;
 use crate::ending::ending;
 use crate::marks::with_plain_mark;
 use crate::messages::{Asked, answer_input};
+use crate::piped::Piped;
 use crate::refused::{imports_told, line_told, text_told};
 use crate::sources::{Instead, input_with, instead_of, module_of};
 use crate::stop::Stop;
@@ -20,7 +21,7 @@ pub fn run_job<'a>(
     job: &Job,
     files: &[&'a str],
     options: Options,
-    asking: Asking<'a>,
+    asking: Asking<'_, 'a>,
 ) -> Result<u8, Stop<'a>> {
     if let Some(words) = asking.unserved(job) {
         return Err(Stop::Unserved(words));
@@ -33,7 +34,7 @@ pub fn run_job<'a>(
 }
 
 /// Whether it is told of a module where it is refused: where that is asked for, or standard error is a terminal.
-fn tells_of_module(rt: &HostRuntime, asking: Asking<'_>) -> bool {
+fn tells_of_module(rt: &HostRuntime, asking: Asking<'_, '_>) -> bool {
     asking.is_explained || rt.stderr().is_terminal()
 }
 
@@ -42,7 +43,7 @@ fn run_given<'a>(
     rt: &HostRuntime,
     job: &Job,
     options: Options,
-    asking: Asking<'a>,
+    asking: Asking<'_, 'a>,
 ) -> Result<u8, Stop<'a>> {
     let given = text_given(rt, asking)?;
     let instead = instead_of(rt.alloc(), given.as_slice(), options, job)?;
@@ -54,7 +55,7 @@ fn run_given<'a>(
 }
 
 /// All of standard input. Where a form of octets is asked for, a carriage return behind the mark is left out.
-fn text_given(rt: &HostRuntime, asking: Asking<'_>) -> Result<Vec<u8>, RunFault> {
+fn text_given(rt: &HostRuntime, asking: Asking<'_, '_>) -> Result<Vec<u8>, RunFault> {
     let given = read_all(rt.alloc(), &mut Counted::new(rt.reader()))?;
     if asking.forms.given.is_none() {
         return Ok(given);
@@ -76,7 +77,7 @@ fn run_text<'a>(
     job: &Job,
     octets: &[u8],
     options: Options,
-    asking: Asking<'a>,
+    asking: Asking<'_, 'a>,
 ) -> Result<u8, Stop<'a>> {
     let (text, lines) = cut_input(octets);
     if tells_of_module(rt, asking) {
@@ -97,7 +98,7 @@ fn run_asked<'a, R: BufRead>(
     rt: &HostRuntime,
     job: &Job,
     text: &[u8],
-    asking: Asking<'a>,
+    asking: Asking<'_, 'a>,
     lines: &mut R,
 ) -> Result<Option<u8>, Stop<'a>> {
     if asking.is_plain() {
@@ -109,38 +110,48 @@ fn run_asked<'a, R: BufRead>(
     let Some(asked) = asking.of(job, &module) else {
         return Ok(None);
     };
-    let mut output = Counted::new(io::writer(rt));
-    if asking.messages.is_empty() {
-        let answer = answer_input(rt, lines, &mut output, "", asked);
-        return Ok(Some(ended(rt, &status_of(&answer))));
-    }
-    Ok(Some(run_on_files(rt, &mut output, asking.messages, asked)?))
+    let mut output = Counted::new(Piped::new(io::writer(rt)));
+    let answer = if asking.messages.is_empty() {
+        answer_input(rt, lines, &mut output, "", asked)
+    } else {
+        answer_files(rt, &mut output, asking.messages, asked)?
+    };
+    let is_closed = output.into_inner().is_closed();
+    Ok(Some(ended(rt, &status_of(&answer), is_closed)))
 }
 
-/// The exit status of a job on the messages of these files.
-fn run_on_files<'a, W: Write>(
+/// Answers the messages of these files, and tells whether no answer is a refusal.
+fn answer_files<'a, W: Write>(
     rt: &HostRuntime,
     output: &mut Counted<W>,
     files: &[&'a str],
     asked: Asked<'_>,
-) -> Result<u8, Stop<'a>> {
-    let mut status = 0;
+) -> Result<Result<bool, RunFault>, Stop<'a>> {
+    let mut all_good = true;
     for file in files {
-        let Ok(opened) = fs::open(rt, *file) else {
-            return Err(Stop::Unread(*file));
-        };
-        let Ok(mut input) = BufReader::new(rt.alloc(), opened) else {
-            return Err(Stop::Memory);
-        };
-        match answer_input(rt, &mut input, output, *file, asked) {
-            Ok(true) => {}
-            Ok(false) => status = 1,
+        match answer_file(rt, output, *file, asked)? {
+            Ok(is_good) => all_good &= is_good,
             Err(RunFault::Read) => return Err(Stop::Unread(*file)),
-            Err(RunFault::Write) => return Err(Stop::Write),
-            Err(RunFault::Memory) => return Err(Stop::Memory),
+            Err(fault) => return Ok(Err(fault)),
         }
     }
-    Ok(status)
+    Ok(Ok(all_good))
+}
+
+/// Answers the messages of this file.
+fn answer_file<'a, W: Write>(
+    rt: &HostRuntime,
+    output: &mut Counted<W>,
+    file: &'a str,
+    asked: Asked<'_>,
+) -> Result<Result<bool, RunFault>, Stop<'a>> {
+    let Ok(opened) = fs::open(rt, file) else {
+        return Err(Stop::Unread(file));
+    };
+    let Ok(mut input) = BufReader::new(rt.alloc(), opened) else {
+        return Err(Stop::Memory);
+    };
+    Ok(answer_input(rt, &mut input, output, file, asked))
 }
 
 /// How a job ended whose messages were answered so.
@@ -159,7 +170,7 @@ fn run_with_files<'a>(
     job: &Job,
     files: &[&'a str],
     options: Options,
-    asking: Asking<'a>,
+    asking: Asking<'_, 'a>,
 ) -> Result<u8, Stop<'a>> {
     let texts = texts_of(rt, files)?;
     let views = views_of(rt, texts.as_slice())?;
@@ -187,7 +198,7 @@ fn stopped<'a>(
     files: &[&'a str],
     texts: &[&str],
     fault: PublishedFault,
-    asking: Asking<'_>,
+    asking: Asking<'_, '_>,
 ) -> Result<u8, Stop<'a>> {
     if tells_of_module(rt, asking) {
         if let PublishedFault::Text { text, line, .. } = &fault {
@@ -207,7 +218,7 @@ fn run_coming<'a>(
     job: &Job,
     head: &[u8],
     options: Options,
-    asking: Asking<'a>,
+    asking: Asking<'_, 'a>,
 ) -> Result<u8, Stop<'a>> {
     let (text, _) = cut_input(head);
     if tells_of_module(rt, asking) {
@@ -223,22 +234,23 @@ fn run_coming<'a>(
         }
     }
     let mut input = Counted::new(rt.reader());
-    let mut output = Counted::new(io::writer(rt));
+    let mut output = Counted::new(Piped::new(io::writer(rt)));
     let answer = run_on_lines(rt.alloc(), head, &mut input, &mut output, job);
-    Ok(ended(rt, &answer))
+    Ok(ended(rt, &answer, output.into_inner().is_closed()))
 }
 
 /// The exit status of the job on these octets, after the line on standard error, if there is one.
 fn run_on(rt: &HostRuntime, job: &Job, octets: &[u8]) -> u8 {
     let mut input = Counted::new(octets);
-    let mut output = Counted::new(io::writer(rt));
+    let mut output = Counted::new(Piped::new(io::writer(rt)));
     let answer = run(rt.alloc(), &mut input, &mut output, job);
-    ended(rt, &answer)
+    ended(rt, &answer, output.into_inner().is_closed())
 }
 
-/// The exit status of a job that was answered so, after the line on standard error, if there is one.
-fn ended(rt: &HostRuntime, answer: &Result<Status, RunFault>) -> u8 {
-    let (status, line) = ending(answer);
+/// The exit status of a job that was answered so, after the line on standard error, if there is one; `is_closed` says
+/// whether the reader of standard output has gone.
+fn ended(rt: &HostRuntime, answer: &Result<Status, RunFault>, is_closed: bool) -> u8 {
+    let (status, line) = ending(answer, is_closed);
     if !line.is_empty() {
         let _ = rt.eprintln(line);
     }

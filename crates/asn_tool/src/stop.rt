@@ -6,6 +6,8 @@ use asn_convert::RunFault;
 use asn_module::ModuleFault;
 use asn_published::{PublishedFault, Wrong};
 use std::alloc::{AllocError, AllocFailed};
+use std::io;
+use std::io::ErrorKind;
 use thiserror::Error;
 
 /// Why the program stops before its work is done.
@@ -36,13 +38,17 @@ pub enum Stop<'a> {
     /// An output is not written.
     #[error("write failed")]
     Write,
+    /// The reader of standard output has gone.
+    #[error("")]
+    Closed,
     /// An allocation failed.
     #[error("memory")]
     Memory,
 }
 
 impl<'a> Stop<'a> {
-    /// The exit status: 2 where a text or what is asked for is refused, and 3 where reading, writing or memory failed.
+    /// The exit status: 2 where a text or what is asked for is refused, 3 where reading, writing or memory failed, and 141 where the reader of
+    /// the output has gone.
     pub fn status(&self) -> u8
         ensures { result ≡ stop_status self.now }
     {
@@ -50,6 +56,16 @@ impl<'a> Stop<'a> {
             Stop::NotText(_) | Stop::Notation { .. } | Stop::NotOfProfile(_) => 2,
             Stop::Unserved(_) => 2,
             Stop::Unread(_) | Stop::Read | Stop::Write | Stop::Memory => 3,
+            Stop::Closed => 141,
+        }
+    }
+
+    /// Why what is printed is not written.
+    pub fn of_print(fault: &io::Error) -> Stop<'static> {
+        if fault.kind() == ErrorKind::BrokenPipe {
+            Stop::Closed
+        } else {
+            Stop::Write
         }
     }
 

@@ -30,6 +30,7 @@ pub fn command<'a>(alloc: Global) -> Result<Command<'a>, AllocError>
         .after_help(help::PROGRAM)
         .no_binary_name(true)
         .subcommand_required(true)
+        .bin_name("asn_tool")?
         .subcommand(flatten(alloc)?)?
         .subcommand(module(alloc)?)?
         .subcommand(order(alloc, "show", "Shows messages as JSON", help::SHOW)?)?

@@ -10,7 +10,8 @@ returns c =
     let help_is : app_of c.after_help.result ≡ app_of c.version.result = ap app_of_fields c.after_help.ensures ∙ ap app_of_fields c.about.ensures in
     let bare_is : app_of c.no_binary_name.result ≡ on_top (λ s. record s { no_binary_name = true }) (app_of c.after_help.result) = ap app_of_fields c.no_binary_name.ensures in
     let top_is : app_of c.subcommand_required.result ≡ on_top (λ s. record s { subcommand_required = true }) (app_of c.no_binary_name.result) = ap app_of_fields c.subcommand_required.ensures in
-    let all_is = top_is ∙ ap (on_top (λ s. record s { subcommand_required = true })) (bare_is ∙ ap (on_top (λ s. record s { no_binary_name = true })) (help_is ∙ version_is)) in
+    let named_is : app_of c.in_ok-bin_name.field-0 ≡ app_of c.subcommand_required.result = ap app_of_fields c.in_ok-bin_name.ensures.0 in
+    let all_is = named_is ∙ (top_is ∙ ap (on_top (λ s. record s { subcommand_required = true })) (bare_is ∙ ap (on_top (λ s. record s { no_binary_name = true })) (help_is ∙ version_is))) in
     let flat = c.in_ok-flatten.ensures.shape in
     let show = c.in_ok-order.ensures.shape in
     let check = c.in_ok-order-2.ensures.shape in

@@ -16,7 +16,7 @@ returns-clause-shape c =
     let forms = c.in_ok-command-2.ensures.shape in
     let five = forms.4 ∙ ap (with_forms forms.0 forms.1) four in
     let parsers : Parsers = record { rules = c.rules_option.ensures.rule.0; given = forms.0; written = forms.1 } in
-    IfOk-weaker c.with_leave.result _ _ (λ d h. (parsers, (c.rules_option.ensures.rule.1, (forms.2, forms.3)), ap (λ (a : App). a.top) (h ∙ ap with_leave five))) c.with_leave.ensures.shape
+    IfOk-weaker c.with_leave.result _ _ (λ d h. (parsers, (c.rules_option.ensures.rule.1, forms.2, forms.3), ap (λ (a : App). a.top) (h ∙ ap with_leave five))) c.with_leave.ensures.shape
 
 pub returns-clause-local : goal.returns-clause-local
 returns-clause-local c =

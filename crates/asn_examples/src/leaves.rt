@@ -106,7 +106,7 @@ pub(crate) fn length_of(size: &Size, choices: &mut Choices) -> usize
     }
 }
 
-/// So many bits.
+/// This many bits.
 fn some_bits(alloc: Global, count: usize, choices: &mut Choices) -> Result<Vec<bool>, AllocError>
     ensures { IfOk result (λ v. length v.items ≡ count) }
 {
@@ -117,7 +117,7 @@ fn some_bits(alloc: Global, count: usize, choices: &mut Choices) -> Result<Vec<b
     Ok(bits)
 }
 
-/// So many octets.
+/// This many octets.
 fn some_octets(alloc: Global, count: usize, choices: &mut Choices) -> Result<Vec<u8>, AllocError>
     ensures count { IfOk result (λ v. length v.items ≡ count) }
     ensures octets { IfOk result (λ v. AllByRecursion (λ o. o < 256) v.items) }
@@ -129,7 +129,7 @@ fn some_octets(alloc: Global, count: usize, choices: &mut Choices) -> Result<Vec
     Ok(octets)
 }
 
-/// The codes of so many characters of this kind.
+/// The codes of this many characters of this kind.
 fn some_codes(
     alloc: Global,
     kind: TextKind,

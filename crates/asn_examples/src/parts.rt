@@ -99,7 +99,7 @@ fn entry(alloc: Global, field: &Field, choices: &mut Choices) -> Result<Option<V
     }
 }
 
-/// So many values of the type.
+/// This many values of the type.
 #[cycle(some_value)]
 fn elements(
     alloc: Global,

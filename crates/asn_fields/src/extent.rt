@@ -9,7 +9,7 @@ pub struct Extent {
 }
 
 impl Extent {
-    /// So many units, whatever the value is.
+    /// This many units, whatever the value is.
     pub(crate) fn fixed(units: u64) -> Extent {
         Extent {
             least: units,
@@ -17,7 +17,7 @@ impl Extent {
         }
     }
 
-    /// From so many units on, without a bound.
+    /// From this many units on, without a bound.
     pub(crate) fn from(least: u64) -> Extent {
         Extent {
             least,
@@ -55,7 +55,7 @@ impl Extent {
         }
     }
 
-    /// The units of so many parts: from `low` of them to `high`.
+    /// The units of this many parts: from `low` of them to `high`.
     pub(crate) fn times(self, low: u64, high: Option<u64>) -> Extent {
         Extent {
             least: self.least.saturating_mul(low),
@@ -67,7 +67,7 @@ impl Extent {
         }
     }
 
-    /// Octets that so many bits fill, one at least.
+    /// Octets that this many bits fill, one at least.
     pub fn in_octets(self) -> Extent {
         Extent {
             least: filled(self.least),
@@ -79,7 +79,7 @@ impl Extent {
     }
 }
 
-/// How many octets so many bits fill, one at least: those of a complete encoding of PER.
+/// How many octets this many bits fill, one at least: those of a complete encoding of PER.
 fn filled(bits: u64) -> u64 {
     bits.div_ceil(8).max(1)
 }

@@ -163,7 +163,7 @@ fn string_octets(size: &Size) -> Extent {
     }
 }
 
-/// So many octets and their length determinant.
+/// This many octets and their length determinant.
 fn with_length(octets: u64) -> u64 {
     let length = if octets < 128 {
         1

@@ -61,7 +61,7 @@ pub(crate) fn bits_of(ty: &AsnType) -> Extent {
     }
 }
 
-/// After an extension bit what the root has, or an index of so many bits and what an addition has, where there is one.
+/// After an extension bit what the root has, or an index of this many bits and what an addition has, where there is one.
 fn marked(known: Extent, index: u64, is_closed: bool, added: Extent) -> Extent {
     let mark = Extent::fixed(1);
     if is_closed {
@@ -92,7 +92,7 @@ fn number_bits(bounds: &Bounds) -> Extent {
     known
 }
 
-/// Of so many items as the size says, each of which has these bits, with what tells their count.
+/// Of as many items as the size says, each of which has these bits, with what tells their count.
 fn sized_bits(size: &Size, item: Extent) -> Extent {
     let low = u64::from(size.low);
     let length = match size.high {
@@ -163,7 +163,7 @@ pub(crate) fn one_more(any: Option<Extent>, more: Extent) -> Option<Extent> {
     }
 }
 
-/// Of an open type field around a complete encoding that has so many bits before it is filled up.
+/// Of an open type field around a complete encoding that has this many bits before it is filled up.
 fn open_bits(content: Extent) -> Extent {
     let octets = content.in_octets();
     Extent {

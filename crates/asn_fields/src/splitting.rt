@@ -22,7 +22,7 @@ pub(crate) struct Split {
     pub unused: Option<u64>,
 }
 
-/// What stands in front of the contents of a value that has so many units.
+/// What stands in front of the contents of a value that has this many units.
 pub(crate) fn split_of(unit: Unit, ty: &AsnType, value: &Value, units: u64) -> Split {
     match unit {
         Unit::Bit => split_bits(ty, value, units),

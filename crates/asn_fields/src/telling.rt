@@ -279,7 +279,7 @@ impl<'t> Walk<'t> {
         Ok(())
     }
 
-    /// Tells the length determinant of an open type field of so many octets, which ends at the unit `to`. Where the octets
+    /// Tells the length determinant of an open type field of this many octets, which ends at the unit `to`. Where the octets
     /// are in fragments, it tells the whole field, and gives false.
     pub(crate) fn tell_open_length(
         &mut self,
@@ -302,7 +302,7 @@ impl<'t> Walk<'t> {
         Ok(true)
     }
 
-    /// How many units so many octets have.
+    /// How many units this many octets have.
     pub(crate) fn units_in(&self, octets: usize) -> u64 {
         match self.unit {
             Unit::Bit => (octets as u64).saturating_mul(8),

@@ -191,7 +191,7 @@ pub(crate) fn push_column(text: &mut String, column: &str, width: usize) -> Resu
     text.push_str("  ")
 }
 
-/// Adds so many spaces.
+/// Adds this many spaces.
 fn push_spaces(text: &mut String, count: usize) -> Result<(), AllocError> {
     for _ in 0..count {
         text.push_str(" ")?;

@@ -103,8 +103,8 @@ fn build_component<R: ReadLeaves, B: Build>(
     requires few { presence.old.left ≤ 64 }
     ensures at_unit { IsSome result → R.rules.at_unit units.new }
     ensures bitmap { IsSome result → presence.new.bitmap ≡ presence.old.bitmap }
-    ensures some { IsSome result → BuildsEntry R.rules (B.listed entries.old) (B.listed entries.new) nodes.now part.now
-        presence.old.bitmap presence.old.left presence.new.left
+    ensures some { IsSome result → BuildsEntry R.rules (B.listed entries.old) (B.listed entries.new)
+        nodes.now part.now presence.old.bitmap presence.old.left presence.new.left
         (R.rules.to_units units.old) (R.rules.to_units units.new) }
 {
     match &part.presence {
@@ -212,8 +212,8 @@ fn build_addition<R: ReadLeaves, B: Build>(
     ensures at_unit { IsSome result → R.rules.at_unit units.new }
     ensures bitmap { IsSome result → presence.new.bitmap ≡ presence.old.bitmap }
     ensures some { IsSome result → BuildsAddition R.rules
-        (B.listed entries.old) (B.listed entries.new) nodes.now part.now
-        presence.old.bitmap presence.old.left presence.new.left
+        (B.listed entries.old) (B.listed entries.new)
+        nodes.now part.now presence.old.bitmap presence.old.left presence.new.left
         (R.rules.to_units units.old) (R.rules.to_units units.new) }
 {
     if presence.left == 0 {

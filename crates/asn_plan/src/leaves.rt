@@ -52,8 +52,8 @@ pub(crate) fn read_between<R: ReadLeaves>(
 ) -> Option<Value>
     requires at_unit { R.rules.at_unit units.old }
     ensures at_unit { IsSome result → R.rules.at_unit units.new }
-    ensures some { IfSome result (λ v. Reads R.rules (ValuesOf R.rules (between range.now.low range.now.high)) (datum_of v)
-        units.old units.new) }
+    ensures some { IfSome result (λ v. Reads R.rules (ValuesOf R.rules (between range.now.low range.now.high))
+        (datum_of v) units.old units.new) }
 {
     let ty = type_between(range);
     let Ok(value) = R::read_simple(alloc, &ty, units) else {

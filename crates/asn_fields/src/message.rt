@@ -81,7 +81,7 @@ fn values_of(
     }
 }
 
-/// The last unit that is told of the octets.
+/// The last unit that the fields of the octets have.
 fn end_of<R: Reads>(answer: &Result<Value, DecodeFault>, octets: &[u8]) -> u64
     ensures { result ≡ last_told R.ruling octets.now answer.now }
 {

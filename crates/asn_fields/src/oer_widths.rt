@@ -191,7 +191,7 @@ fn components_octets(fields: &[Field]) -> (u64, Extent) {
     (bits, all)
 }
 
-/// Of components after a preamble of so many bits.
+/// Of components after a preamble of this many bits.
 fn with_preamble(bits: u64, components: Extent) -> Extent {
     Extent::fixed(bits.div_ceil(8)).and(components)
 }
@@ -227,7 +227,7 @@ fn open_alternatives_octets(any: Option<Extent>, alternatives: &[Alt]) -> Option
     any
 }
 
-/// Of an open type field around so many octets.
+/// Of an open type field around this many octets.
 fn open_octets(content: Extent) -> Extent {
     Extent {
         least: with_length(content.least),

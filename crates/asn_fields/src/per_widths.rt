@@ -178,7 +178,7 @@ fn open_bits(content: Extent) -> Extent {
     }
 }
 
-/// How many octets the general length determinants of so many octets have (X.691, "general length determinant"): one of
+/// How many octets the general length determinants of this many octets have (X.691, "general length determinant"): one of
 /// each 65,536 of them, one of what is left of these in whole blocks of 16,384, and one or two of the rest.
 fn general_length(octets: u64) -> u64 {
     let fragments = octets / 65_536;

@@ -80,7 +80,7 @@ pub(crate) fn read_other<R: ReadLeaves>(
     Some(value)
 }
 
-/// Whether a CHOICE may have so many alternatives in its root, and so many extension additions.
+/// Whether a CHOICE may have this many alternatives in its root, and this many extension additions.
 #[inline(always)]
 pub(crate) fn are_few(root: usize, additions: Option<usize>) -> bool
     ensures some { result ≡ true → 0 < root }

@@ -13,7 +13,7 @@ pub(crate) enum Work {
         from: usize,
         end: usize,
     },
-    /// Components or alternatives, from one index to before another, after so many extension marks.
+    /// Components or alternatives, from one index to before another, after this many extension marks.
     Members {
         from: usize,
         end: usize,

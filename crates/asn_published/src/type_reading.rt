@@ -201,7 +201,7 @@ impl<'a, 't> Reading<'a, 't> {
         Ok(())
     }
 
-    /// Reads components or alternatives, after so many extension marks; in a group there are none.
+    /// Reads components or alternatives, after this many extension marks; in a group there are none.
     pub fn read_members(
         self,
         alloc: Global,

@@ -1,23 +1,29 @@
 #!/usr/bin/env bash
 # Makes the library for C in OUT: libtulvorn.a, libtulvorn.so, tulvorn.h and tulvorn.pc.
 #
-# usage: bindings/build.sh [--unproved | --rattle] OUT
+# usage: bindings/build.sh [--unproved | --rattle | --archive FILE] OUT
 #
 # It proves the crates of the library, or takes what is proved, and packs the archive that `rt lib` leaves with the
-# allocator of the kit. With --rattle the code is that of Rattle's own compiler in the place of LLVM's. With --unproved
-# it builds the same sources without a proof, in some two minutes, and the version that the library tells ends with
-# `not proved`; a folder ROOM, where the environment names one, keeps what a later build does not do anew.
+# allocator of the kit. With --rattle the code is that of Rattle's own compiler in the place of LLVM's. With --archive
+# it packs an archive that stands, as bindings/build_proved.py makes them. With --unproved it builds the same sources
+# without a proof, in some two minutes, and the version that the library tells ends with `not proved`; a folder ROOM,
+# where the environment names one, keeps what a later build does not do anew.
 set -euo pipefail
 usage() {
-    echo "usage: bindings/build.sh [--unproved | --rattle] OUT" >&2
+    echo "usage: bindings/build.sh [--unproved | --rattle | --archive FILE] OUT" >&2
     exit 2
 }
 here=$(cd "$(dirname "$0")" && pwd)
 top=$(dirname "$here")
-how=proved flags=()
+how=proved flags=() archive=$top/crates/tulvorn_c/out/libtulvorn_c.a
 case "${1-}" in
     --unproved) how=unproved && shift ;;
     --rattle) flags=(--backend rattle) && shift ;;
+    --archive)
+        [ $# = 3 ] && [ -f "$2" ] || usage
+        how=given archive=$(realpath "$2")
+        shift 2
+        ;;
 esac
 [ $# = 1 ] && [ "${1#-}" = "$1" ] || usage
 for it in rt gcc ld objcopy ar nm python3; do
@@ -32,8 +38,9 @@ trap 'rm -rf "$made"' EXIT
 mapfile -t names < <(python3 "$here/exports.py")
 if [ $how = proved ]; then
     (cd "$top/crates/tulvorn_c" && rt lib ${flags[@]+"${flags[@]}"})
-    objects=(--whole-archive "$top/crates/tulvorn_c/out/libtulvorn_c.a" --no-whole-archive)
-else
+fi
+objects=(--whole-archive "$archive" --no-whole-archive)
+if [ $how = unproved ]; then
     python3 "$here/build_unproved.py" "${ROOM:-$made/room}" "$made/unproved.o"
     objects=("$made/unproved.o")
 fi

@@ -34,7 +34,6 @@ of the others those whose turn it is by the number of commits, so that each is t
 take about as long as one another, by estimate (`TURNS`).
 """
 import functools
-import hashlib
 import os
 import re
 import shutil
@@ -48,6 +47,8 @@ from concurrent.futures import ThreadPoolExecutor
 sys.dont_write_bytecode = True
 sys.path.insert(0, os.path.dirname(os.path.abspath(__file__)))
 from kit import check_words, ending, linked, new_room, rt, rtlib, seeded, share_work, tried_whole
+from source_functions import blanked, functions, module_of, text_of
+from sums import sum_of
 
 EDITS, TRIED, ALONE = "tests/edits", "tests/edits/tried", "tests/edits/alone.txt"
 # the crates whose edits are tried in the same run, in parts that by estimate take about as long; the others are the last part
@@ -61,111 +62,6 @@ LIMIT = 1200
 # whether nothing that earlier checks kept is taken
 ANEW = False
 MORE = "it changes more than bodies of functions"
-
-
-def text_of(file):
-    with open(file, "rb") as it:
-        return it.read().decode(errors="replace")
-
-
-# ---- the functions of a file, as the checker names them
-
-
-def blanked(text):
-    """The text with blanks for comments, strings and characters."""
-
-    def hide(token):
-        starts = token[0][:1] in "/\"'" or token[0][:2] in ('b"', 'r"', "r#", 'c"')
-        return re.sub(r"[^\n]", " ", token[0]) if starts and len(token[0]) > 1 else token[0]
-
-    return rtlib.RUST_TOKEN.sub(hide, text)
-
-
-def closing(code, at):
-    """The place after the brace that closes the one at `at`."""
-    depth = 0
-    for place in range(at, len(code)):
-        depth += {"{": 1, "}": -1}.get(code[place], 0)
-        if not depth:
-            return place + 1
-    return len(code)
-
-
-def without_angles(text):
-    while re.search(r"<[^<>]*>", text):
-        text = re.sub(r"<[^<>]*>", " ", text)
-    return text
-
-
-def arguments_of(head):
-    """The types that an impl gives its trait, as the checker spells them: `RefStr` of `From<&str> for Type`. A parameter of
-    the impl itself is not spelled."""
-    front, depth = head.partition(" for ")[0].strip(), 0
-    if not front.endswith(">"):
-        return ""
-    for at in range(len(front) - 1, -1, -1):
-        depth += {">": 1, "<": -1}.get(front[at], 0)
-        if not depth:
-            break
-    own = re.findall(r"\w+", front[:at].rpartition(">")[0])
-    words = re.findall(r"[&\[]|\w+", re.sub(r"'\w+", "", without_angles(front[at + 1 : -1])))
-    return "".join({"&": "Ref", "[": "Slice"}.get(it) or it[0].upper() + it[1:] for it in words if it not in own)
-
-
-def owners_of(code):
-    """(start, end, name) of each impl block and trait: `Type`, `TypeTrait` for a trait's impl, with the types that it is
-    given, as `TypeFromRefStr`, and `Trait`."""
-    found = []
-    for match in re.finditer(r"\b(impl|trait)\b([^;{]*)\{", code):
-        head = re.sub(r"\bwhere\b.*", "", re.sub(r"'\w+", "", without_angles(match[2])), flags=re.S)
-        words = re.findall(r"\w+", head.partition(":")[0] if match[1] == "trait" else head)
-        if words:
-            name = words[-1] + words[words.index("for") - 1] if "for" in words else words[-1] if match[1] == "impl" else words[0]
-            name += arguments_of(match[2]) if match[1] == "impl" and "for" in words else ""
-            found.append((match.start(), closing(code, match.end() - 1), name))
-    return found
-
-
-def body_of(code, at):
-    """The place of the brace that opens the body of a function whose name ends at `at`, or None where it has none."""
-    start = at
-    while True:
-        brace = re.compile(r"[{;]").search(code, at)
-        if not brace:
-            return None
-        before = code[start : brace.start()]
-        if brace[0] == ";":
-            if before.count("[") == before.count("]"):
-                return None
-            at = brace.end()
-        elif re.search(r"(requires|ensures)(\s*\*)?(\s+\w+)?\s*$|ghost(\s+\w+)?\s*[:=]?\s*$", before):
-            # a clause
-            at = closing(code, brace.start())
-        else:
-            return brace.start()
-
-
-def module_of(path):
-    module = path[len("src/") : -len(".rt")].replace("/", "::")
-    return "" if module in ("lib", "main") else module
-
-
-@functools.lru_cache(maxsize=None)
-def functions(path, text):
-    """(name, cycle, place of the body, its end) of each function of a source file that has a body. The name is that below
-    the crate, and for a method, which the checker names by the module of its type, the type and the method."""
-    code, found = blanked(text), []
-    module = module_of(path)
-    owners = owners_of(code)
-    for match in re.finditer(r"\bfn\s+(\w+)", code):
-        body = body_of(code, match.end())
-        if body is None:
-            continue
-        owner = [name for start, end, name in owners if start < match.start() < end]
-        name = "::".join(it for it in (owner[-1] if owner else module, match[1]) if it)
-        cycle = re.search(r"#\[cycle\((\w+)\)\][^{};]*$", code[: match.start()])
-        found.append((name, cycle and cycle[1], body, closing(code, body)))
-    return found
 
 
 @functools.lru_cache(maxsize=None)
@@ -612,71 +508,6 @@ class Tries:
 
 
 # ---- which crates, and what is noted of them
-
-
-FUNCTION = re.compile(r"^ *(?:#\[[^\]]*\]\s*)*(pub(?:\([^)]*\))? )?(?:const |unsafe |extern \"C\" )*fn ", re.M)
-
-
-@functools.lru_cache(maxsize=None)
-def without_bodies(path, text):
-    """The text of a source file without the bodies of its functions, and without those that only the crate itself calls."""
-    kept, at = [], 0
-    for _, _, body, end in sorted(functions(path, text), key=lambda it: it[2]):
-        if body < at:
-            continue
-        *_, head = FUNCTION.finditer(text, at, body)
-        block = re.findall(r"^(?:\}|\S.*\{)$", text[: head.start()], re.M)[-1:]
-        own = re.search(r"\b(ensures|requires)\b", text[head.end() : body])
-        if head[1] == "pub " or re.match(r"(pub )?trait ", "".join(block)) or own and re.match(r"impl\b.* for ", "".join(block)):
-            kept += [text[at:body], "{}"]
-        else:
-            kept.append(text[at : head.start()])
-        at = end
-    return "".join(kept) + text[at:]
-
-
-def shown_above(path, text):
-    """The text of a source file as the crates above see it: without the bodies of its functions and those that are not
-    public, the fields that a type with a model keeps to itself, the imports that nothing else uses, and the names of
-    modules that are not public. A function of a trait is left out where its contract is that of the trait."""
-    text = re.sub(r"^mod \w+;\n", "", without_comments(without_bodies(path, text)), flags=re.M)
-    for name in re.findall(r"^impl(?:<[^>]*>)? Model for (\w+)", text, re.M):
-        text = re.sub(rf"struct {name}\b[^{{;]*\{{.*?^\}}",
-                      lambda it: re.sub(r"^    \w+: [^{}]*,\n", "", it[0], flags=re.M), text, flags=re.M | re.S)
-    imports = re.compile(r"^ *((?:ghost )?use [\w:.]+?)(?:::|\.)?(\w+|\{[^{}]*\});\n", re.M)
-    rest = set(re.findall(r"\w+", imports.sub("", text)))
-    names = lambda it: sorted(rest.intersection(re.findall(r"\w+", it[2])))
-    return imports.sub(lambda it: f"{it[1]} {names(it)}\n" if names(it) else "", text)
-
-
-def without_comments(text):
-    return rtlib.RUST_TOKEN.sub(lambda it: "" if it[0].startswith("//") else it[0], text)
-
-
-@functools.lru_cache(maxsize=None)
-def words_of(path, text):
-    """The words of a file without its comments, derives and what is inlined, on which no proof of an edit rests."""
-    if path.endswith(".rt"):
-        text = re.sub(r"#\[(derive|inline)\([^)]*\)\]", "", without_comments(text))
-    else:
-        text = "\n".join(line for line in text.split("\n") if not line.lstrip().startswith("--"))
-    return text.split()
-
-
-def sum_of(crate, edits):
-    """A sum of what the crate's edits are tried over."""
-    total = hashlib.sha256(text_of(f"{rt.KIT}/KIT-ID").partition("logic")[2].encode())
-    add = lambda *what: total.update(repr(what).encode())
-    for edit in edits:
-        add(edit.label, text_of(edit.file))
-    for it in [crate, *crate.below()]:
-        for file in rtlib.files_of(it.folder):
-            path, text = os.path.relpath(file, it.folder), text_of(file)
-            if it is crate or path.startswith("specs/"):
-                add(it.name, path, words_of(path, text))
-            elif path.startswith("src/") and (shown := words_of(path, shown_above(path, text))):
-                add(it.name, path, shown)
-    return total.hexdigest()[:24]
 
 
 def noted():

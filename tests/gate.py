@@ -14,8 +14,9 @@ usage: tests/gate.py [PART..]      the parts are proofs, edits and tests; all th
    and examples/run.sh, tests/versions.py, tests/published.py, published_commands.py, published_sets.py,
    published_tags.py, published_sequences.py, streaming.py and tests/installed.sh `asn_tool`, as the gate has built them;
    tests/octet_counts.py and tests/published_rows.py look at rows without a program;
-   bindings/tests.sh calls the library for C, built without a proof of its own, from four languages, and skips those
-   whose compiler is not there. Beside the proofs, those that want none of the programs that are proved begin at once.
+   bindings/tests.sh calls the library for C from four languages, as each of two compilers makes it of what is proved,
+   and skips a language whose compiler is not there. Beside the proofs, those that want none of what is proved begin at
+   once.
 
 What a step writes is shown as it comes: a line for each crate that is proved, and for each group of edits that is tried.
 The end says how many minutes of a processor each part took, and how many by the clock from its first line to its last.
@@ -51,12 +52,17 @@ class Part:
 
     def __init__(self):
         self.passed, self.failed, self.skipped, self.lost = 0, 0, 0, []
-        self.seconds, self.begun, self.ended = 0, time.time(), None
+        self.seconds, self.begun, self.ended, self.adding = 0, time.time(), None, threading.Lock()
 
     def add(self, name, passed, failed, skipped=0):
-        self.passed, self.failed, self.skipped = self.passed + passed, self.failed + failed, self.skipped + skipped
-        self.lost += [name] * (failed > 0)
-        self.ended = time.time()
+        with self.adding:
+            self.passed, self.failed, self.skipped = self.passed + passed, self.failed + failed, self.skipped + skipped
+            self.lost += [name] * (failed > 0)
+            self.ended = time.time()
+
+    def took(self, seconds):
+        with self.adding:
+            self.seconds += seconds
 
 
 def say(text):
@@ -91,7 +97,7 @@ def follow(part, ran, hear=None):
             say(line.rstrip("\n"))
         if hear:
             hear(line)
-    part.seconds += ended(ran)
+    part.took(ended(ran))
     passed, failed = (int(last[1]), int(last[2])) if last else (int(ran.returncode == 0), 0)
     failed, skipped = max(failed, int(ran.returncode != 0)), int(last[3] or 0) if last else 0
     ending = f"; it ended with status {ran.returncode}" if ran.returncode else ""
@@ -106,8 +112,9 @@ def step(part, words):
 PROVED = re.compile(r"rt: (\w+) (?:proved$|is kept: )")
 
 
-def proofs_and_edits(parts):
-    """The proofs, and the edits beside them: each crate that is proved is named to tests/edits.py."""
+def proofs_and_edits(parts, once_proved):
+    """The proofs, and the edits beside them: each crate that is proved is named to tests/edits.py. What else waits for the
+    proofs begins with their end."""
     tried = begin(["nice", "-n", "5", "tests/edits.py", "--due", "--beside"], subprocess.PIPE)
 
     def follow_edits():
@@ -132,6 +139,7 @@ def proofs_and_edits(parts):
         tried.stdin.close()
     except BrokenPipeError:
         pass
+    once_proved()
     follows.join()
 
 
@@ -165,7 +173,7 @@ def compare_one(part, words, name, given, wanted):
     with open(given, "rb") as it:
         ran = subprocess.Popen(words, stdin=it, stdout=subprocess.PIPE, stderr=subprocess.STDOUT)
     said = ran.stdout.read()
-    part.seconds += ended(ran)
+    part.took(ended(ran))
     rows = re.match(rb"(\d+) rows", wanted)
     counts = re.findall(rb"^counted: (.*)$", said, re.M)
     written = re.sub(rb"^counted: .*\n", b"", said, flags=re.M)
@@ -188,9 +196,15 @@ def tests_of_sources(part, room):
             compare(part, words, name)
     step(part, ["tests/octet_counts.py"])
     step(part, ["tests/published_rows.py"])
-    with tempfile.TemporaryDirectory(prefix="tulvorn-bindings-") as out:
-        step(part, ["bindings/build.sh", "--unproved", out])
-        step(part, ["bindings/tests.sh", out])
+
+
+def tests_of_archives(part):
+    """Calls the library for C from each language, as each of two compilers makes it of what is proved."""
+    with tempfile.TemporaryDirectory(prefix="tulvorn-bindings-") as made:
+        step(part, ["python3", "bindings/build_proved.py", "--as-they-stand", made])
+        for it in ("llvm", "rattle"):
+            step(part, ["bindings/build.sh", "--archive", f"{made}/{it}.a", f"{made}/{it}"])
+            step(part, ["bindings/tests.sh", f"{made}/{it}"])
 
 
 def tests_of_programs(part, room):
@@ -212,16 +226,24 @@ def tests(part):
     with tempfile.TemporaryDirectory(prefix="tulvorn-gate-") as room:
         tests_of_sources(part, room)
         tests_of_programs(part, room)
+        tests_of_archives(part)
 
 
 def all_parts():
     """All three parts side by side: the tests that want nothing of the proofs begin at once, the others after the proofs."""
     parts = {name: Part() for name in PARTS}
-    with tempfile.TemporaryDirectory(prefix="tulvorn-gate-") as room, ThreadPoolExecutor(1) as pool:
+    with tempfile.TemporaryDirectory(prefix="tulvorn-gate-") as room, ThreadPoolExecutor(3) as pool:
         first = pool.submit(tests_of_sources, parts["tests"], room)
-        proofs_and_edits(parts)
-        first.result()
-        tests_of_programs(parts["tests"], room)
+
+        def tests_of_room():
+            # (it calls programs that the first have built)
+            first.result()
+            tests_of_programs(parts["tests"], room)
+
+        others = []
+        proofs_and_edits(parts, lambda: others.extend(pool.submit(it) for it in (tests_of_room, lambda: tests_of_archives(parts["tests"]))))
+        for it in others:
+            it.result()
     return parts
 
 

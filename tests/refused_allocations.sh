@@ -92,9 +92,11 @@ told_of() { # what was called for, and the names of the calls of which each has 
 refuse_each "$room/test_memory" tests/programs/memory one_call_tells
 for of in message simple composed; do
   told_of "$of" Checked::new
-  told_of "$of in PER" encode decode decode_into feed
-  told_of "$of in OER" encode decode decode_into feed
+  told_of "$of in PER" encode decode decode_into Planned::new feed
+  told_of "$of in OER" encode decode decode_into Planned::new feed
 done
+told_of 'simple in PER' decode_within
+told_of 'simple in OER' decode_within
 told_of 'empty in OER' open
 told_of BitSink push push_number push_octets push_length push_general_octets push_least_octets \
   push_least_signed_octets pad
@@ -123,7 +125,7 @@ calls=$(grep -c '^memory' "$work/told")
 LD_PRELOAD="$refuse" timeout 300 "$room/test_checks" refused <tests/programs/rows/stdin >"$work/out" 2>"$work/err" ||
   fail "rows: $(cat "$work/out" "$work/err")"
 [ ! -s "$work/err" ] || fail "rows: standard error: $(head -c 200 "$work/err")"
-for name in Checked::new 'push and pad' encode decode check decode_into 'open and feed' messages 'explain, of octets' read_newer convert \
+for name in Checked::new 'push and pad' encode decode check decode_into Planned::new 'check, by a plan' 'decode, by a plan' decode_within 'open and feed' messages 'explain, of octets' read_newer convert \
   to_json from_json \
   'from_json, of another shape' read 'read, of a text that is refused' print explain \
   run,\ {show,check,encode,convert,newer,module}; do

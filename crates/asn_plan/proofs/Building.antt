@@ -1,7 +1,7 @@
 -- Where the walk of a plan stands in the components of a SEQUENCE, and what its parts make together.
 use Rattle.std.proofs.Math.Seq.{drop-cons}
 use Rattle.std.proofs.Math.Numerals.{add-one}
-use Rattle.std.proofs.Common.{◌≡◌, ◌≤◌, ◌<◌, ◌+◌, get_or, drop, ℕ, zero, suc, Bool, false, List, [], ◌∷◌, ◌++◌, length, Option, None, refl, sym, ap, subst, ◌∙◌, append_assoc, append-nil, arith}
+use Rattle.std.proofs.Common.{◌≡◌, ◌≤◌, ◌<◌, ◌+◌, ◌-◌, get_or, take, drop, ℕ, zero, suc, Bool, false, List, [], ◌∷◌, ◌++◌, length, Option, None, refl, sym, ap, subst, ◌∙◌, append_assoc, append-nil, arith}
 use Rattle.asn_values.specs.Datum.{Datum, components, components_of}
 use Rattle.asn_values.specs.Parts.{AreOfProfile}
 use Rattle.asn_values.specs.Profile.{InProfile}
@@ -14,7 +14,7 @@ use Rattle.asn_walk.specs.Coding.{Coding, PreambleOf, absent_entries, added}
 use Rattle.asn_walk.specs.Laws.{Laws}
 use Rattle.asn_walk.proofs.SequencesRead.{none_added}
 use Rattle.asn_plan.specs.declared.plan.Node.{Node}
-use Rattle.asn_plan.specs.Plans.{ArePlans, ArePlansOfMore, BuildsEntry, absents}
+use Rattle.asn_plan.specs.Plans.{ArePlans, ArePlansOfMore, BuildsEntry, absents, row}
 
 -- the components that are left, of which these nodes are plans, and what is read of all once these are read
 pub record GoesOn (c : Coding) (ns rest : List Node) (root : Fields) (count bitmap left : ℕ) (us : List ℕ)
@@ -130,6 +130,22 @@ absent_further P N es n add p =
 
 -- ---- SEQUENCE
 
+-- no node, so no component
+no_fields_left : (ns ms : List Node) (fs : Fields) → ms ≡ [] → ArePlans ns ms fs → fs ≡ no_fields
+no_fields_left ns ms no_fields e p = refl
+no_fields_left ns [] (field name demand t fs) e p = absurd p
+no_fields_left ns (m ∷ ms) (field name demand t fs) e p = absurd (cc)
+
+pub no_root : (ns all : List Node) (a b : ℕ) (fs : Fields) → b ≤ a → ArePlans ns (row a b all) fs → fs ≡ no_fields
+no_root ns all a b fs l p =
+    let none : b - a ≡ zero = omega (arith, l) in
+    no_fields_left ns (row a b all) fs (ap (λ (n : ℕ). take n (drop a all)) none) p
+
+pub no_additions : (ns all : List Node) (a b : ℕ) (more : MoreFields) → b ≤ a → ArePlansOfMore ns (row a b all) more
+    → more_fields more ≡ no_fields
+no_additions ns all a b closed l p = refl
+no_additions ns all a b (marked fs) l p = no_root ns all a b fs l p
+
 -- the preamble and the components, where no addition is present
 pub sequence_read : (c : Coding) → Laws c → (root : Fields) (more : MoreFields) → InProfile (sequence root more)
     → (count : ℕ) (listed : Option ℕ) → count ≡ bitmap_length root → listed ≡ added more → (p : Bool × ℕ) (us vs ws : List ℕ)
@@ -139,3 +155,12 @@ pub sequence_read : (c : Coding) → Laws c → (root : Fields) (more : MoreFiel
     → Spells c.ruling.fielding (Spelt c.code None (sequence root more)) (components (components_of (es ++ gs))) us ws
 sequence_read c laws root more good count listed e f p us vs ws h es k none gs same =
     rw same (none_added c laws root more good p us vs (rw (e, f) at h) es ws (rw e at k) none)
+
+-- nothing but the preamble
+pub empty_read : (c : Coding) → Laws c → (more : MoreFields) → InProfile (sequence no_fields more) → (listed : Option ℕ)
+    → listed ≡ added more → more_fields more ≡ no_fields → (p : Bool × ℕ) (us vs : List ℕ)
+    → Spells c.ruling.fielding (PreambleOf c 0 listed) p us vs → p.0 ≡ false
+    → Spells c.ruling.fielding (Spelt c.code None (sequence no_fields more)) (components (components_of [])) us vs
+empty_read c laws more good listed f same p us vs h none =
+    let read : Spells c.ruling.fielding (Listed c.code no_fields (bits 0 p.1)) [] vs vs = nothing_read c.ruling.fielding [] vs in
+    sequence_read c laws no_fields more good 0 listed refl f p us vs vs h [] read none [] (ap absent_entries (sym same))

@@ -20,17 +20,15 @@ same_row : (ns more : List Node) (a b : ℕ) → a ≤ b → b ≤ length ns →
 same_row ns more a b l h = ap (take (b - a)) (drop-append-le a ns more (omega (arith, l, h))) ∙ take-append-le (b - a) (drop a ns) more (omega (arith, l, h, length-drop a ns))
 
 pub plan_more : (ns more : List Node) (t : Shape) (k : Kind) → IsPlan ns t k → IsPlan (ns ++ more) t k
-plan_more ns more (sequence root others) kind.Other p = tt
 plan_more ns more (sequence root others) (kind.Number b) p = absurd p
 plan_more ns more (sequence root others) (kind.Leaf l) p = absurd p
 plan_more ns more (sequence root others) (kind.Sequence s) p =
-    let before : take s.begin (ns ++ more) ≡ take s.begin ns = take-append-le s.begin ns more (omega (arith, p.0, p.3)) in
-    let first = same_row ns more s.begin s.middle p.1 (omega (arith, p.2, p.3)) in
-    let rest = same_row ns more s.middle s.end p.2 p.3 in
-    (p.0, p.1, p.2, omega (arith, p.3, length-append ns more), p.4, p.5, rw (before, first) p.6, rw (before, rest) p.7)
+    let before : take s.begin (ns ++ more) ≡ take s.begin ns = take-append-le s.begin ns more (omega (arith, p.0, p.1, p.2)) in
+    let first = same_row ns more s.begin s.middle p.0 (omega (arith, p.1, p.2)) in
+    let rest = same_row ns more s.middle s.end p.1 p.2 in
+    (p.0, p.1, omega (arith, p.2, length-append ns more), p.3, p.4, rw (before, first) p.5, rw (before, rest) p.6)
 plan_more ns more (sequence root others) (kind.List l) p = absurd p
 plan_more ns more (sequence root others) (kind.Choice a) p = absurd p
-plan_more ns more (sequence_of t s) kind.Other p = tt
 plan_more ns more (sequence_of t s) (kind.Number b) p = absurd p
 plan_more ns more (sequence_of t s) (kind.Leaf l) p = absurd p
 plan_more ns more (sequence_of t s) (kind.Sequence q) p = absurd p
@@ -39,16 +37,15 @@ plan_more ns more (sequence_of t s) (kind.List l) p =
     let from : drop l.element (ns ++ more) ≡ p.2 ∷ (p.3 ++ more) = drop-append-le l.element ns more (omega (arith, p.0)) ∙ ap (λ (l : List Node). l ++ more) p.4 in
     (omega (arith, p.0, length-append ns more), p.1, p.2, p.3 ++ more, from, rw before p.5)
 plan_more ns more (sequence_of t s) (kind.Choice a) p = absurd p
-plan_more ns more (choice root others) kind.Other p = tt
 plan_more ns more (choice root others) (kind.Number b) p = absurd p
 plan_more ns more (choice root others) (kind.Leaf l) p = absurd p
 plan_more ns more (choice root others) (kind.Sequence s) p = absurd p
 plan_more ns more (choice root others) (kind.List l) p = absurd p
 plan_more ns more (choice root others) (kind.Choice a) p =
-    let before : take a.begin (ns ++ more) ≡ take a.begin ns = take-append-le a.begin ns more (omega (arith, p.0, p.3)) in
-    let first = same_row ns more a.begin a.middle p.1 (omega (arith, p.2, p.3)) in
-    let rest = same_row ns more a.middle a.end p.2 p.3 in
-    (p.0, p.1, p.2, omega (arith, p.3, length-append ns more), p.4, rw (before, first) p.5, rw (before, rest) p.6)
+    let before : take a.begin (ns ++ more) ≡ take a.begin ns = take-append-le a.begin ns more (omega (arith, p.0, p.1, p.2)) in
+    let first = same_row ns more a.begin a.middle p.0 (omega (arith, p.1, p.2)) in
+    let rest = same_row ns more a.middle a.end p.1 p.2 in
+    (p.0, p.1, omega (arith, p.2, length-append ns more), p.3, rw (before, first) p.4, rw (before, rest) p.5)
 plan_more ns more t k p = p
 
 pub plans_more : (ns more ms : List Node) (fs : Fields) → ArePlans ns ms fs → ArePlans (ns ++ more) ms fs

@@ -1,6 +1,7 @@
 pub mod Additions
 pub mod Alternatives
 pub mod Building
+pub mod Counts
 pub mod Entries
 pub mod Growing
 pub mod LeafTypes

@@ -1,5 +1,5 @@
 -- Octets whose units are a value, what fills it up, and nothing more are its encoding.
-use Rattle.std.proofs.Common.{◌≡◌, ◌≤◌, ◌-◌, ℕ, List, ◌++◌, length, take, None, Ok, sym, ap, ◌∙◌, append-nil, arith}
+use Rattle.std.proofs.Common.{◌≡◌, ◌≤◌, ◌-◌, ℕ, Bool, true, false, not, List, ◌++◌, length, take, Option, None, Some, IfSome, IsSome, Ok, Err, refl, sym, ap, ◌∙◌, append-nil, arith}
 use Rattle.std.proofs.lemmas.List.{take_all}
 use Rattle.std.specs.Prelude.{⊤}
 use Rattle.asn_values.specs.Datum.{Datum}
@@ -16,13 +16,30 @@ use Rattle.asn_rules.specs.Languages.{Spells}
 use Rattle.asn_rules.specs.Listed.{Spelt}
 use Rattle.asn_rules.specs.Padding.{Fixed}
 use Rattle.asn_rules.specs.Reading.{Wholes}
-use Rattle.asn_rules.specs.Laws.{AreOctets}
+use Rattle.asn_rules.specs.Laws.{AreOctets, RulesLaws}
 use Rattle.asn_rules.specs.Live.{Fielding}
 use Rattle.asn_rules.proofs.Sealed.Fields.{field_spells}
 use Rattle.asn_walk.specs.Coding.{Coding, OpenOf}
 use Rattle.asn_walk.specs.Laws.{Laws}
 use Rattle.asn_walk.proofs.OpenRead.{fill_leads, length_none}
+use Rattle.asn_plan.specs.declared.budget.Budget.{Budget}
+use Rattle.asn_plan.specs.declared.budget.Taken.{Taken}
+use Rattle.asn_plan.specs.declared.budget.WithinFault.TheVariants as fault
+use Rattle.asn_plan.specs.declared.plan.Plan.{Plan}
+use Rattle.asn_plan.specs.Plans.{IsPlanOf, BuildsMessage}
+use Rattle.asn_plan.specs.Taken.{Takes, IsNoMore}
+use Rattle.asn_plan.specs.Within.{DecodedWithin, IsTaken}
 
+-- a test that is turned
+pub turned_true : (b : Bool) → not b ≡ true → b ≡ false
+turned_true true e = sym e
+turned_true false e = refl
+
+pub turned_false : (b : Bool) → not b ≡ false → b ≡ true
+turned_false true e = refl
+turned_false false e = sym e
+
+-- what was read of the octets of a whole encoding
 pub whole_message : (c : Coding) → Laws c → (t : Shape) → InProfile t → (o us vs ws : List ℕ)
     → us ≡ c.ruling.units o → (d : Datum) → Spells c.ruling.fielding (Spelt c.code None t) d us vs
     → (given : ℕ) → given ≡ length us → (u : ⊤)
@@ -39,6 +56,39 @@ pub decoded : (r s : Ruling) → r ≡ s → (t : Shape) (v : Value) (o : List �
 decoded r s e t v o within d same h =
     let whole : IsEncoding s t (datum_of v) (take (length o) o) = rw (take_all (length o) o (omega arith), same, ← e) h in
     (within, (omega arith, whole))
+
+-- the octets are one, whatever its value
+pub checked : (r s : Ruling) → r ≡ s → (t : Shape) (o : List ℕ) → length o ≤ max_octets → (d : Datum) → IsEncoding r t d o
+    → (length o ≤ max_octets) × (e : Datum) × IsEncoding s t e o
+checked r s e t o within d h = (within, d, rw (← e) h)
+
+-- and this is what it takes
+pub counted : (r s : Ruling) → r ≡ s → (t : Shape) (o : List ℕ) (n : Taken) → length o ≤ max_octets → (d : Datum) → Takes n d
+    → IsEncoding r t d o → IsTaken s (Some n) t o
+counted r s e t o n within d takes h = (within, d, rw (← e) h, takes)
+
+pub counted_if : (r s : Ruling) → r ≡ s → (t : Shape) → InProfile t → (p : Plan) → IsPlanOf p t → (o : List ℕ)
+    → (m : Option Taken) → (IsSome m → length o ≤ max_octets)
+    → IfSome m (λ n. (t : Shape) → InProfile t → IsPlanOf p t → BuildsMessage r (λ n d. Takes n d) t n o) → IsTaken s m t o
+counted_if r s e t good p plan o None within some = tt
+counted_if r s e t good p plan o (Some n) within some =
+    let m = some t good plan in
+    counted r s e t o n (within refl) m.value m.of_value m.encoding
+
+-- the value that a decoder tells is the one that was counted
+pub within_told : (r : Ruling) → RulesLaws r → (t : Shape) → InProfile t → (o : List ℕ) (b : Budget) (n : Taken)
+    → IsTaken r (Some n) t o → IsNoMore n b → (v : Value) → Decoded r (Ok v) t o → DecodedWithin r b (Ok v) t o
+within_told r laws t good o b n h few v told =
+    let whole : IsEncoding r t (datum_of v) o = rw (take_all (length o) o (omega arith)) at told.1.1 in
+    let same : h.1 ≡ datum_of v = laws.one_value t h.1 (datum_of v) o good h.2 whole in
+    let takes : Takes n (datum_of v) = rw same at h.3 in
+    (told, (omega (arith, takes.0, few.0), omega (arith, takes.1, few.1)))
+
+-- the value that was counted is over the budget
+pub over_told : (r : Ruling) (t : Shape) (o : List ℕ) (b : Budget) (n : Taken) → IsTaken r (Some n) t o → (IsNoMore n b → ⊥)
+    → DecodedWithin r b (Err fault.OverBudget) t o
+over_told r t o b n h over =
+    (h.0, h.1, h.2, λ w. over (omega (arith, h.3.0, w.0), omega (arith, h.3.1, w.1)))
 
 -- an open type field that holds the octets
 same_frame : (R : Fielding) → Same (Frame R open_field) (Frame R open_field)

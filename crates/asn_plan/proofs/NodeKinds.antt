@@ -42,10 +42,10 @@ sequence_is ns (sequence root more) s p = record {
   root = root;
   more = more;
   is = refl;
-  width = p.4;
-  additions = p.5;
-  plans = p.6;
-  others = p.7;
+  width = p.3;
+  additions = p.4;
+  plans = p.5;
+  others = p.6;
 }
 sequence_is ns t s p = absurd p
 
@@ -86,8 +86,8 @@ choice_is ns (choice root more) a p = record {
   root = root;
   more = more;
   is = refl;
-  additions = p.4;
-  plans = p.5;
-  others = p.6;
+  additions = p.3;
+  plans = p.4;
+  others = p.5;
 }
 choice_is ns t a p = absurd p

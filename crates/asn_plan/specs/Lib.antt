@@ -1,2 +1,5 @@
 pub mod Plans
+pub mod Rules
 pub mod SimpleTypes
+pub mod Taken
+pub mod Within

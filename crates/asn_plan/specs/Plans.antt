@@ -23,9 +23,8 @@ use Rattle.asn_plan.specs.declared.plan.Kind.TheVariants as kind
 
 -- ---- plans
 
--- a node that reads nothing is a plan of every type; of a type without parts a node says its bounds, or holds it
+-- of a type without parts a node says its bounds, or holds it
 abbrev pub IsLeafPlan : Kind → Shape → Type 0
-IsLeafPlan kind.Other t = ⊤
 IsLeafPlan (kind.Number b) t = t ≡ between b.low b.high
 IsLeafPlan (kind.Leaf l) t = t ≡ shape_of l.ty
 IsLeafPlan (kind.Sequence s) t = ⊥
@@ -53,30 +52,27 @@ abbrev mutual
   IsPlan ns (octet_string s) k = IsLeafPlan k (octet_string s)
   IsPlan ns (restricted a s) k = IsLeafPlan k (restricted a s)
   IsPlan ns utf8_string k = IsLeafPlan k utf8_string
-  IsPlan ns (sequence root more) kind.Other = ⊤
   IsPlan ns (sequence root more) (kind.Number b) = ⊥
   IsPlan ns (sequence root more) (kind.Leaf l) = ⊥
   IsPlan ns (sequence root more) (kind.Sequence s) =
-      (s.begin < s.end) × (s.begin ≤ s.middle) × (s.middle ≤ s.end) × (s.end ≤ length ns)
+      (s.begin ≤ s.middle) × (s.middle ≤ s.end) × (s.end ≤ length ns)
       × (s.width ≡ bitmap_length root) × (s.additions ≡ added more)
       × ArePlans (take s.begin ns) (row s.begin s.middle ns) root
       × ArePlansOfMore (take s.begin ns) (row s.middle s.end ns) more
   IsPlan ns (sequence root more) (kind.List l) = ⊥
   IsPlan ns (sequence root more) (kind.Choice a) = ⊥
-  IsPlan ns (sequence_of t s) kind.Other = ⊤
   IsPlan ns (sequence_of t s) (kind.Number b) = ⊥
   IsPlan ns (sequence_of t s) (kind.Leaf l) = ⊥
   IsPlan ns (sequence_of t s) (kind.Sequence p) = ⊥
   IsPlan ns (sequence_of t s) (kind.List l) = (l.element < length ns) × (s ≡ size_range_of l.size) × (m : Node)
       × (rest : List Node) × (drop l.element ns ≡ m ∷ rest) × IsPlan (take l.element ns) t m.kind
   IsPlan ns (sequence_of t s) (kind.Choice a) = ⊥
-  IsPlan ns (choice root more) kind.Other = ⊤
   IsPlan ns (choice root more) (kind.Number b) = ⊥
   IsPlan ns (choice root more) (kind.Leaf l) = ⊥
   IsPlan ns (choice root more) (kind.Sequence s) = ⊥
   IsPlan ns (choice root more) (kind.List l) = ⊥
   IsPlan ns (choice root more) (kind.Choice a) =
-      (a.begin < a.end) × (a.begin ≤ a.middle) × (a.middle ≤ a.end) × (a.end ≤ length ns)
+      (a.begin ≤ a.middle) × (a.middle ≤ a.end) × (a.end ≤ length ns)
       × (a.additions ≡ added_alternatives more)
       × ArePlansOfEach (take a.begin ns) (row a.begin a.middle ns) root
       × ArePlansOfOthers (take a.begin ns) (row a.middle a.end ns) more

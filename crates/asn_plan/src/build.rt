@@ -29,9 +29,9 @@ pub trait Build {
         requires { IsOfProfile integer }
         ensures { built result (number integer) };
 
-    /// Of a value.
-    fn value(value: Value) -> Self::Part
-        ensures { built result (datum_of value) };
+    /// Of a value without parts; it may give up at another.
+    fn value(value: Value) -> Option<Self::Part>
+        ensures { IfSome result (λ p. built p (datum_of value)) };
 
     /// Of no entries, with room for this many.
     fn entries(alloc: Global, count: usize) -> Option<Self::Entries>
@@ -90,7 +90,9 @@ impl Build for Nothing {
     fn number(_integer: i128) {}
 
     #[inline(always)]
-    fn value(_value: Value) {}
+    fn value(_value: Value) -> Option<()> {
+        Some(())
+    }
 
     #[inline(always)]
     fn entries(_alloc: Global, _count: usize) -> Option<()> {
@@ -149,8 +151,8 @@ impl Build for Values {
     }
 
     #[inline(always)]
-    fn value(value: Value) -> Value {
-        value
+    fn value(value: Value) -> Option<Value> {
+        Some(value)
     }
 
     #[inline(always)]

@@ -3,10 +3,10 @@ ghost use Rattle.std.specs.Prelude.{◌≡◌, ◌≤◌, ◌++◌, IfSome, IsSo
 ghost use Rattle.asn_values.specs.Datum.{Datum};
 ghost use Rattle.asn_values.specs.Parts.{AreOfProfile};
 ghost use Rattle.asn_values.specs.Profile.{InProfile};
-ghost use Rattle.asn_values.specs.Shape.{Shape, Fields, demands};
+ghost use Rattle.asn_values.specs.Shape.{Shape, Fields, MoreFields, demands, sequence, no_fields, more_fields};
 ghost use Rattle.asn_bits.specs.Numbers.{bits};
 ghost use Rattle.asn_rules.specs.Listed.{bitmap_length};
-ghost use Rattle.asn_walk.specs.Coding.{OpenListed, AdditionsOf};
+ghost use Rattle.asn_walk.specs.Coding.{OpenListed, AdditionsOf, added};
 ghost use Rattle.asn_plan.specs.declared.plan.Kind.TheVariants as kind;
 ghost use Rattle.asn_plan.specs.Plans.{IsPlan, ArePlans, Builds, BuildsEntry, BuildsComponents, BuildsMore, BuildsAddition, absents};
 
@@ -35,10 +35,14 @@ pub(crate) fn build_sequence<R: ReadLeaves, B: Build>(
         → Builds R.rules B.built t p units.old units.new) }
 {
     R::keep_laws();
-    if parts.begin >= parts.end || parts.end > nodes.len() {
+    if parts.begin > parts.middle || parts.middle > parts.end || parts.end > nodes.len() {
         return None;
     }
-    if parts.begin > parts.middle || parts.middle > parts.end || parts.width > 64 {
+    if parts.begin >= parts.end {
+        let empty = build_empty::<R, B>(alloc, parts.additions, units)?;
+        return Some(empty);
+    }
+    if parts.width > 64 {
         return None;
     }
     let before = &nodes[..parts.begin];
@@ -58,6 +62,31 @@ pub(crate) fn build_sequence<R: ReadLeaves, B: Build>(
         return Some(B::sequence(entries));
     }
     build_additions::<R, B>(alloc, before, added, &mut entries, units)?;
+    Some(B::sequence(entries))
+}
+
+/// What is built of the SEQUENCE with neither components nor extension additions with which the units begin, and which
+/// is taken.
+#[inline(never)]
+fn build_empty<R: ReadLeaves, B: Build>(
+    alloc: Global,
+    additions: Option<usize>,
+    units: &mut BitCursor<'_>,
+) -> Option<B::Part>
+    requires at_unit { R.rules.at_unit units.old }
+    ensures at_unit { IsSome result → R.rules.at_unit units.new }
+    ensures some { IfSome result (λ p. (more : MoreFields) → InProfile (sequence no_fields more)
+        → more_fields more ≡ no_fields → additions ≡ added more
+        → Builds R.rules B.built (sequence no_fields more) p units.old units.new) }
+{
+    R::keep_laws();
+    let Ok(preamble) = R::read_preamble(0, additions, units) else {
+        return None;
+    };
+    if preamble.extended {
+        return None;
+    }
+    let entries = B::entries(alloc, 0)?;
     Some(B::sequence(entries))
 }
 
@@ -128,10 +157,12 @@ fn build_component<R: ReadLeaves, B: Build>(
             }
             if !presence.next() {
                 let default = copy_default(&with_default.default)?;
-                return B::present(entries, B::value(default));
+                let absent = B::value(default)?;
+                return B::present(entries, absent);
             }
             let value = read_other::<R>(with_default, units)?;
-            B::present(entries, B::value(value))
+            let part = B::value(value)?;
+            B::present(entries, part)
         }
     }
 }

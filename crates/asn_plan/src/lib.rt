@@ -1,10 +1,12 @@
 //! A plan of a type: what its values' spelling is made of, worked out once, and the walk of the plan alone.
 #![tactic(auto)]
 
+mod budget;
 mod build;
 mod choices;
 mod components;
 mod copies;
+mod counting;
 mod leaves;
 mod lists;
 mod message;
@@ -12,9 +14,12 @@ mod of;
 mod open;
 mod plan;
 mod planned;
+mod rules;
 mod walk;
 
+pub use budget::{Budget, Taken, WithinFault};
 pub use build::{Build, Nothing, Values};
+pub use counting::Counting;
 pub use message::build_octets;
 pub use of::plan_of;
 pub use plan::{
@@ -22,4 +27,5 @@ pub use plan::{
     WithDefault,
 };
 pub use planned::Planned;
+pub use rules::PlanRules;
 pub use walk::build_at;

@@ -1,15 +1,19 @@
 //! Whole messages, by a plan.
-ghost use Rattle.std.specs.Prelude.{◌≡◌, ◌≤◌, IfSome, IsSome, length};
+ghost use Rattle.std.specs.Prelude.{◌≡◌, ◌≤◌, Err, IfSome, IsSome, length};
 ghost use Rattle.asn_values.specs.Profile.{InProfile};
 ghost use Rattle.asn_values.specs.Shape.{Shape};
 ghost use Rattle.asn_values.specs.View.{shape_of};
 ghost use Rattle.asn_rules.specs.Answer.{max_octets};
 ghost use Rattle.asn_rules.specs.Codec.{Decoded};
 ghost use Rattle.asn_plan.specs.Plans.{IsPlanOf, BuildsMessage, Checks};
+ghost use Rattle.asn_plan.specs.Within.{DecodedWithin, IsTaken};
 
+use crate::budget::{Budget, Taken, WithinFault};
 use crate::build::{Build, Nothing, Values};
+use crate::counting::Counting;
 use crate::open::build_complete;
 use crate::plan::Plan;
+use crate::rules::PlanRules;
 use asn_rules::{DecodeFault, MAX_OCTETS, Rules};
 use asn_values::{Checked, Value};
 use asn_walk::ReadLeaves;
@@ -39,14 +43,13 @@ pub fn build_octets<R: ReadLeaves, B: Build>(
 /// # Errors
 /// As `asn_rules::decode`.
 #[inline(always)]
-pub(crate) fn check_by<R: ReadLeaves + Rules>(
+pub(crate) fn check_by<R: PlanRules>(
     alloc: Global,
     ty: &Checked,
     plan: &Plan,
     octets: &[u8],
 ) -> Result<(), DecodeFault>
-    requires rules { R.rules.ruling ≡ R.ruling }
-    requires plan { IsPlanOf plan.now (shape_of ty.now) }
+    requires { IsPlanOf plan.now (shape_of ty.now) }
     ensures { Checks R.ruling result (shape_of ty.now) octets.now }
 {
     ty.get();
@@ -64,14 +67,13 @@ pub(crate) fn check_by<R: ReadLeaves + Rules>(
 /// # Errors
 /// As `asn_rules::decode`.
 #[inline(always)]
-pub(crate) fn decode_by<R: ReadLeaves + Rules>(
+pub(crate) fn decode_by<R: PlanRules>(
     alloc: Global,
     ty: &Checked,
     plan: &Plan,
     octets: &[u8],
 ) -> Result<Value, DecodeFault>
-    requires rules { R.rules.ruling ≡ R.ruling }
-    requires plan { IsPlanOf plan.now (shape_of ty.now) }
+    requires { IsPlanOf plan.now (shape_of ty.now) }
     ensures { Decoded R.ruling result (shape_of ty.now) octets.now }
 {
     ty.get();
@@ -79,4 +81,59 @@ pub(crate) fn decode_by<R: ReadLeaves + Rules>(
         return Ok(value);
     }
     R::decode(alloc, ty, octets)
+}
+
+/// What the value takes whose complete encoding the octets are. Where it gives nothing, nothing is said.
+#[inline(always)]
+pub(crate) fn taken_by<R: PlanRules>(
+    alloc: Global,
+    ty: &Checked,
+    plan: &Plan,
+    octets: &[u8],
+) -> Option<Taken>
+    requires { IsPlanOf plan.now (shape_of ty.now) }
+    ensures { IsTaken R.ruling result (shape_of ty.now) octets.now }
+{
+    ty.get();
+    build_octets::<R, Counting>(alloc, plan, octets)
+}
+
+/// The fault of octets at which the walk gave up: it does so at no encoding unless memory is wanting.
+#[inline(never)]
+fn fault_of<R: Rules>(alloc: Global, ty: &Checked, octets: &[u8]) -> DecodeFault
+    ensures { Decoded R.ruling (Err result) (shape_of ty.now) octets.now }
+{
+    match R::decode(alloc, ty, octets) {
+        Ok(_) => DecodeFault::Memory,
+        Err(why) => why,
+    }
+}
+
+/// The value of the type whose complete encoding the octets are, if it takes no more than the budget.
+///
+/// # Errors
+/// `Decode` as `asn_rules::decode`; `OverBudget` where the octets are the encoding of a value that takes more.
+#[inline(always)]
+pub(crate) fn decode_within_by<R: PlanRules>(
+    alloc: Global,
+    ty: &Checked,
+    plan: &Plan,
+    octets: &[u8],
+    budget: &Budget,
+) -> Result<Value, WithinFault>
+    requires { IsPlanOf plan.now (shape_of ty.now) }
+    ensures { DecodedWithin R.ruling budget.now result (shape_of ty.now) octets.now }
+{
+    <R as Rules>::keep_laws();
+    ty.get();
+    let Some(taken) = taken_by::<R>(alloc, ty, plan, octets) else {
+        return Err(WithinFault::Decode(fault_of::<R>(alloc, ty, octets)));
+    };
+    if !taken.is_within(budget) {
+        return Err(WithinFault::OverBudget);
+    }
+    match R::decode(alloc, ty, octets) {
+        Ok(value) => Ok(value),
+        Err(why) => Err(WithinFault::Decode(why)),
+    }
 }

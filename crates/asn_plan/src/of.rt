@@ -116,9 +116,6 @@ fn place_components(
     let middle = nodes.len();
     nodes.append(&mut rest)?;
     let end = nodes.len();
-    if begin == end {
-        return Ok(Kind::Other);
-    }
     Ok(Kind::Sequence(ComponentRows {
         begin,
         middle,
@@ -185,9 +182,6 @@ fn place_alternatives(
     let middle = nodes.len();
     nodes.append(&mut rest)?;
     let end = nodes.len();
-    if begin == end {
-        return Ok(Kind::Other);
-    }
     Ok(Kind::Choice(AlternativeRows {
         begin,
         middle,

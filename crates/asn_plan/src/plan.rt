@@ -35,7 +35,7 @@ pub struct WithDefault {
 
 /// Where the nodes of the components of a SEQUENCE stand among those of the plan, counted from 0: those of the root
 /// from `begin` up to `middle`, those of the extension additions from there up to `end`. All that they need stands
-/// before `begin`.
+/// before `begin`. There may be none.
 #[derive(Debug, Clone, Copy)]
 pub struct ComponentRows {
     pub begin: usize,
@@ -81,8 +81,6 @@ pub enum Kind {
     List(ElementRow),
     /// A CHOICE.
     Choice(AlternativeRows),
-    /// A type that the plan does not read.
-    Other,
 }
 
 /// Whether a component has to be there.

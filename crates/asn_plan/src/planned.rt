@@ -1,12 +1,13 @@
 //! A type beside its plan.
 ghost use Rattle.std.specs.Prelude.{◌≡◌, IfOk};
 
-use crate::message::{check_by, decode_by};
+use crate::budget::{Budget, Taken, WithinFault};
+use crate::message::{check_by, decode_by, decode_within_by, taken_by};
 use crate::of::plan_of;
 use crate::plan::Plan;
-use asn_rules::{DecodeFault, Rules};
+use crate::rules::PlanRules;
+use asn_rules::DecodeFault;
 use asn_values::{Checked, Value};
-use asn_walk::ReadLeaves;
 use std::alloc::{AllocError, Global};
 use std::marker::Model;
 
@@ -59,6 +60,7 @@ impl Planned {
     ghost use Rattle.asn_values.specs.View.{shape_of};
     ghost use Rattle.asn_rules.specs.Codec.{Decoded};
     ghost use Rattle.asn_plan.specs.Plans.{Checks};
+    ghost use Rattle.asn_plan.specs.Within.{DecodedWithin, IsTaken};
 
     /// Whether the octets are the complete encoding of some value of the type by the rules R: `Ok` exactly where they
     /// are, unless memory is wanting, and else the fault that `decode` tells. No value is built, but where the plan
@@ -66,12 +68,7 @@ impl Planned {
     ///
     /// # Errors
     /// As `asn_rules::decode`.
-    pub fn check<R: ReadLeaves + Rules>(
-        &self,
-        alloc: Global,
-        octets: &[u8],
-    ) -> Result<(), DecodeFault>
-        requires rules { R.rules.ruling ≡ R.ruling }
+    pub fn check<R: PlanRules>(&self, alloc: Global, octets: &[u8]) -> Result<(), DecodeFault>
         ensures { Checks R.ruling result (shape_of self.now) octets.now }
     {
         check_by::<R>(alloc, &self.ty, &self.plan, octets)
@@ -81,14 +78,35 @@ impl Planned {
     ///
     /// # Errors
     /// As `asn_rules::decode`.
-    pub fn decode<R: ReadLeaves + Rules>(
-        &self,
-        alloc: Global,
-        octets: &[u8],
-    ) -> Result<Value, DecodeFault>
-        requires rules { R.rules.ruling ≡ R.ruling }
+    pub fn decode<R: PlanRules>(&self, alloc: Global, octets: &[u8]) -> Result<Value, DecodeFault>
         ensures { Decoded R.ruling result (shape_of self.now) octets.now }
     {
         decode_by::<R>(alloc, &self.ty, &self.plan, octets)
+    }
+
+    /// What the value takes whose complete encoding by the rules R the octets are. No value is built: what is taken
+    /// for the time of the call is one string or open type field of the message. `None` where the octets are no
+    /// encoding or memory is wanting; then nothing is claimed, and no other reader is asked.
+    pub fn taken<R: PlanRules>(&self, alloc: Global, octets: &[u8]) -> Option<Taken>
+        ensures { IsTaken R.ruling result (shape_of self.now) octets.now }
+    {
+        taken_by::<R>(alloc, &self.ty, &self.plan, octets)
+    }
+
+    /// The value of the type whose complete encoding by the rules R the octets are, if it takes no more than the
+    /// budget. What it takes is counted first, without a value. Octets that are no encoding are read as by
+    /// `asn_rules::decode`, in as much memory as what stands before the fault takes, whatever the budget.
+    ///
+    /// # Errors
+    /// `Decode` as `asn_rules::decode`; `OverBudget` where the octets are the encoding of a value that takes more.
+    pub fn decode_within<R: PlanRules>(
+        &self,
+        alloc: Global,
+        octets: &[u8],
+        budget: &Budget,
+    ) -> Result<Value, WithinFault>
+        ensures { DecodedWithin R.ruling budget.now result (shape_of self.now) octets.now }
+    {
+        decode_within_by::<R>(alloc, &self.ty, &self.plan, octets, budget)
     }
 }

@@ -38,15 +38,16 @@ pub fn build_at<R: ReadLeaves, B: Build>(
                 return Some(B::number(integer));
             }
             let value = read_between::<R>(alloc, range, units)?;
-            Some(B::value(value))
+            let part = B::value(value)?;
+            Some(part)
         }
         Kind::Leaf(leaf) => {
             let value = read_leaf::<R>(alloc, leaf, units)?;
-            Some(B::value(value))
+            let part = B::value(value)?;
+            Some(part)
         }
         Kind::Sequence(parts) => build_sequence::<R, B>(alloc, nodes, parts, units),
         Kind::List(list) => build_list::<R, B>(alloc, nodes, list, units),
         Kind::Choice(parts) => build_choice::<R, B>(alloc, nodes, parts, units),
-        Kind::Other => None,
     }
 }

@@ -1,7 +1,7 @@
 -- Lines of types that are marked, of one type more.
 use Rattle.std.proofs.Common.{◌≡◌, ◌<◌, ◌+◌, ◌++◌, ◌∙◌, ℕ, zero, suc, add-one, Bool, false, List, [], ◌∷◌, length, get_or, take, append_assoc, append-nil, ap, sym, arith}
 use Rattle.std.specs.Borrow.{Bor}
-use Rattle.asn_published.specs.declared.report.TypeReport.{TypeReport}
+use Rattle.asn_published_types.specs.declared.report.TypeReport.{TypeReport}
 use Rattle.asn_published.specs.Telling.{lines_if, marked_lines}
 
 one_more : (files : List (Bor (List ℕ))) (marks : List Bool) (from : ℕ) (ts : List TypeReport) (i : ℕ) (t : TypeReport) (n : ℕ) → n ≡ from + i → i < length ts → get_or ts i t ≡ t → marked_lines files marks from (take (suc i) ts) ≡ marked_lines files marks from (take i ts) ++ lines_if files (get_or marks n false) t

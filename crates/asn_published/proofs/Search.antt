@@ -5,7 +5,7 @@ use Rattle.std.proofs.lemmas.Bool.Decides.{eqb_tells}
 use Rattle.std.proofs.lemmas.List.{get_or-replicate, length-map, get_or-set_same, get_or-set_other, get_or_default, length-set, length-replicate}
 use Rattle.std.proofs.Math.ListN.{get_or-eq_default}
 use Rattle.std.proofs.lemmas.List.Elements.{Contains-append_left, Contains-append_right, Contains-append_cases}
-use Rattle.asn_published.specs.declared.report.TypeReport.{TypeReport}
+use Rattle.asn_published_types.specs.declared.report.TypeReport.{TypeReport}
 use Rattle.asn_published.specs.Parts.{uses_of, IsPart, itself, further, AreParts, Visited}
 
 -- a type is marked, or it is still to be looked at, or the report has none

@@ -1,8 +1,5 @@
-pub mod Numbers
-pub mod Left
+pub mod Faults
 pub mod Limits
 pub mod Missing
 pub mod Parts
-pub mod Statuses
 pub mod Telling
-pub mod Words

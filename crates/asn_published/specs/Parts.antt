@@ -1,6 +1,6 @@
 -- Of which types a type is made.
 use Rattle.std.specs.Prelude.{◌≡◌, ◌<◌, ◌++◌, ◌⊎◌, ℕ, Bool, true, false, List, [], Contains, MatchOption, Option, bytes_eq, get_or, length, map, position, slice_set, string_bytes}
-use Rattle.asn_published.specs.declared.report.TypeReport.{TypeReport}
+use Rattle.asn_published_types.specs.declared.report.TypeReport.{TypeReport}
 
 -- the types that the type at an index refers to
 abbrev pub uses_of : List TypeReport → ℕ → List ℕ

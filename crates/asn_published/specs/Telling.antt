@@ -3,14 +3,14 @@ use Rattle.std.specs.Prelude.{◌==◌, ◌++◌, ◌/◌, ◌%◌, ℕ, Bool, t
 use Rattle.std.specs.Borrow.{Bor}
 use Rattle.std.specs.Char.{digit_char}
 use Rattle.std.specs.Fmt.{decimal}
-use Rattle.asn_published.specs.declared.report.Note.{Note}
-use Rattle.asn_published.specs.declared.report.Remark.{Remark}
-use Rattle.asn_published.specs.declared.report.Remark.TheVariants as remark
-use Rattle.asn_published.specs.declared.report.Status.{Status}
-use Rattle.asn_published.specs.declared.report.Status.TheVariants as status
-use Rattle.asn_published.specs.declared.report.TypeReport.{TypeReport}
-use Rattle.asn_published.specs.Statuses.{distance, status_of, word_of}
-use Rattle.asn_published.specs.Words.{words_of}
+use Rattle.asn_published_types.specs.declared.report.Note.{Note}
+use Rattle.asn_published_types.specs.declared.report.Remark.{Remark}
+use Rattle.asn_published_types.specs.declared.report.Remark.TheVariants as remark
+use Rattle.asn_published_types.specs.declared.report.Status.{Status}
+use Rattle.asn_published_types.specs.declared.report.Status.TheVariants as status
+use Rattle.asn_published_types.specs.declared.report.TypeReport.{TypeReport}
+use Rattle.asn_published_types.specs.Statuses.{distance, status_of, word_of}
+use Rattle.asn_published_types.specs.Words.{words_of}
 
 -- the line `STATUS: COUNT`
 abbrev pub summary_line : List TypeReport → Status → List ℕ

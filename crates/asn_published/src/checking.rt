@@ -1,10 +1,10 @@
 //! Refuses what the profile does not take of the members of a type: too many of them, and a name of two of them.
-use crate::building::Forest;
-use crate::layout::{Layout, Placed};
-use crate::limits::{MOST_ADDITIONS, MOST_ALTERNATIVES, MOST_COMPONENTS, within};
-use crate::nodes::{Holder, MemberKind};
-use crate::refusal::{Refusal, Why, refused};
 use crate::writer::{Known, Writer};
+use asn_published_read::nodes::{Holder, MemberKind};
+use asn_published_read::refusal::{Refusal, Why, refused};
+use asn_published_types::building::Forest;
+use asn_published_types::layout::{Layout, Placed};
+use asn_published_types::limits::{MOST_ADDITIONS, MOST_ALTERNATIVES, MOST_COMPONENTS, within};
 use std::alloc::{AllocError, Global};
 use std::collections::HashMap;
 

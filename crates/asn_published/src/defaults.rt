@@ -1,10 +1,10 @@
 //! DEFAULTs that the profile takes.
-use crate::bounds::{Numbers, numbers_between};
-use crate::info::Base;
-use crate::items::items_of;
-use crate::numbers::Scope;
-use crate::refusal::Refusal;
 use crate::writer::{Known, Writer};
+use asn_published_read::refusal::Refusal;
+use asn_published_types::bounds::{Numbers, numbers_between};
+use asn_published_types::info::Base;
+use asn_published_types::items::items_of;
+use asn_published_types::numbers::Scope;
 use std::alloc::Global;
 
 /// Whether a number lies in a range that has others too.

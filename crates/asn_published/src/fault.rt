@@ -1,7 +1,7 @@
 //! Why published texts become no module of the profile.
-use crate::refusal::Refusal;
-use crate::wrong::{TextFault, Wrong};
 use asn_module::ModuleFault;
+use asn_published_read::refusal::Refusal;
+use asn_published_read::wrong::{TextFault, Wrong};
 use std::alloc::{AllocError, AllocFailed};
 use std::error::Error;
 use std::fmt;
@@ -22,7 +22,7 @@ pub enum PublishedFault {
 }
 
 impl fmt::Display for PublishedFault {
-    ghost use Rattle.asn_published.specs.Words.{fault_words};
+    ghost use Rattle.asn_published.specs.Faults.{fault_words};
 
     ghost output = { fault_words };
 

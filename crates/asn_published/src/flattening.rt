@@ -3,22 +3,22 @@ ghost use Rattle.std.specs.Prelude.{IfOk, string_bytes};
 ghost use Rattle.asn_module.specs.Accepted.{Accepted};
 ghost use Rattle.asn_module.specs.ModuleView.{types_view};
 
-use crate::building::Forest;
-use crate::class_table::Classes;
 use crate::fault::PublishedFault;
 use crate::missing::{MissingImport, missing_imports};
-use crate::modules::{What, World};
 use crate::naming::{level_mark_of, names_of};
-use crate::numbers::numbers_of;
 use crate::options::Options;
-use crate::order::{Order, order_of};
-use crate::pieces::push_pieces;
-use crate::reading::read_assignment;
 use crate::refusing::refuse;
-use crate::report::TypeReport;
 use crate::reports::reports_of;
 use crate::written::{Written, write_all};
 use asn_module::{Module, ModuleFault, read};
+use asn_published_read::class_table::Classes;
+use asn_published_read::modules::{What, World};
+use asn_published_read::reading::read_assignment;
+use asn_published_types::building::Forest;
+use asn_published_types::numbers::numbers_of;
+use asn_published_types::order::{Order, order_of};
+use asn_published_types::pieces::push_pieces;
+use asn_published_types::report::TypeReport;
 use std::alloc::{AllocError, Global};
 
 /// How often types are written again without one that the profile does not take.

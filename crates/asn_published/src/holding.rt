@@ -1,13 +1,13 @@
 //! Writes SEQUENCE, SET and CHOICE: their members in the order that the profile has.
-use crate::extents::after_tags;
-use crate::layout::{Layout, Placed, TagOrder, layout_of, sort_by_tags};
-use crate::limits::{MOST_ADDITIONS, MOST_COMPONENTS};
-use crate::nodes::{Holder, MemberKind, Need, Node, Shape};
-use crate::refusal::{Refusal, Why, refused};
-use crate::report::Remark;
-use crate::tags::is_automatic;
 use crate::writer::{Known, Task, Writer};
 use crate::writing::is_extensible;
+use asn_published_read::extents::after_tags;
+use asn_published_read::nodes::{Holder, MemberKind, Need, Node, Shape};
+use asn_published_read::refusal::{Refusal, Why, refused};
+use asn_published_types::layout::{Layout, Placed, TagOrder, layout_of, sort_by_tags};
+use asn_published_types::limits::{MOST_ADDITIONS, MOST_COMPONENTS};
+use asn_published_types::report::Remark;
+use asn_published_types::tags::is_automatic;
 use std::alloc::Global;
 
 impl<'t> Writer<'t> {

@@ -1,11 +1,11 @@
 //! The report of the types as JSON.
 ghost use Rattle.std.specs.Prelude.{◌≡◌, ◌++◌, ◌/◌, ◌%◌, ◌<◌, ◌∷◌, [], IfOk, flat_map, string_bytes};
 ghost use Rattle.std.specs.Char.{digit_char};
-ghost use Rattle.asn_published.specs.Statuses.{word_of};
+ghost use Rattle.asn_published_types.specs.Statuses.{word_of};
 ghost use Rattle.asn_published.specs.Telling.{escaped, note_json, note_object, notes_json, quoted, report_json, type_json, type_object};
 
-use crate::report::{Note, Status, TypeReport};
 use crate::telling::file_named;
+use asn_published_types::report::{Note, Status, TypeReport};
 use std::alloc::{AllocError, Global};
 
 /// Appends a hexadecimal digit.

@@ -1,6 +1,6 @@
 //! Which characters a constraint leaves (X.691, "permitted alphabet").
-use crate::nodes::Letters;
-use crate::ranges::Ranges;
+use asn_published_read::nodes::Letters;
+use asn_published_types::ranges::Ranges;
 
 /// Whether a kind of string has the character with this code.
 fn has_letter(kind: Letters, code: i128) -> bool {

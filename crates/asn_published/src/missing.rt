@@ -3,8 +3,8 @@ ghost use Rattle.std.specs.Prelude.{◌≡◌, IfOk, string_bytes};
 ghost use Rattle.asn_published.specs.Missing.{import_json, import_line, import_object, imports_json, imports_lines};
 
 use crate::json::quoted;
-use crate::modules::World;
 use crate::telling::file_named;
+use asn_published_read::modules::World;
 use std::alloc::{AllocError, Global};
 
 /// A module that is imported from and not given: which of the given texts has the import, from 0, on which line its name

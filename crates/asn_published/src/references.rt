@@ -1,13 +1,13 @@
 //! Writes lists, and names of types with further constraints.
-use crate::info::{Base, Info, State};
-use crate::layout::{alternative_named, members_behind};
-use crate::nodes::{Member, Node, Shape};
-use crate::pieces::push_pieces;
-use crate::refusal::{Refusal, Why, refused};
-use crate::report::{Remark, Status};
-use crate::seen::{Mode, Seen, intersection};
 use crate::widths::is_zero;
 use crate::writer::{Known, Task, Writer};
+use asn_published_read::nodes::{Member, Node, Shape};
+use asn_published_read::refusal::{Refusal, Why, refused};
+use asn_published_types::info::{Base, Info, State};
+use asn_published_types::layout::{alternative_named, members_behind};
+use asn_published_types::pieces::push_pieces;
+use asn_published_types::report::{Remark, Status};
+use asn_published_types::seen::{Mode, Seen, intersection};
 use std::alloc::Global;
 
 /// How many selections of an alternative a type may have.

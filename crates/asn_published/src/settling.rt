@@ -1,9 +1,9 @@
 //! What becomes of one type: its text, what is known of it, and what is said of it.
 use crate::flattening::Sources;
-use crate::info::State;
-use crate::refusal::{Refusal, Why};
-use crate::report::{Note, Remark, Status};
 use crate::writer::{Known, Writer, path_of};
+use asn_published_read::refusal::{Refusal, Why};
+use asn_published_types::info::State;
+use asn_published_types::report::{Note, Remark, Status};
 use std::alloc::{AllocError, Global};
 
 /// Writes a type, unless the profile refused it before.

@@ -1,16 +1,18 @@
 //! Writes INTEGER and strings, with what their constraints leave.
-use crate::bounds::{Numbers, lengths_between, numbers_between, write_range, write_size};
-use crate::info::{Base, Info};
 use crate::letters::{keeps_codes, name_of};
-use crate::nodes::{Letters, Node, Shape};
-use crate::numbers::Scope;
-use crate::pieces::push_pieces;
-use crate::ranges::{Ranges, is_whole};
-use crate::refusal::{Refusal, Why, refused};
-use crate::report::Remark;
-use crate::seen::{Mode, Seen};
 use crate::widths::{is_one_number, is_zero};
 use crate::writer::{Known, Writer};
+use asn_published_read::nodes::{Letters, Node, Shape};
+use asn_published_read::refusal::{Refusal, Why, refused};
+use asn_published_types::bounds::{
+    Numbers, lengths_between, numbers_between, write_range, write_size,
+};
+use asn_published_types::info::{Base, Info};
+use asn_published_types::numbers::Scope;
+use asn_published_types::pieces::push_pieces;
+use asn_published_types::ranges::{Ranges, is_whole};
+use asn_published_types::report::Remark;
+use asn_published_types::seen::{Mode, Seen};
 use std::alloc::Global;
 
 impl<'t> Writer<'t> {

@@ -1,10 +1,10 @@
 //! The report of the types as text.
 ghost use Rattle.std.specs.Prelude.{◌≡◌, ◌++◌, ◌==◌, IfOk, count_by, string_bytes};
-ghost use Rattle.asn_published.specs.Statuses.{distance};
+ghost use Rattle.asn_published_types.specs.Statuses.{distance};
 ghost use Rattle.asn_published.specs.Telling.{dot_before, file_named, note_line, report_lines, summary, summary_line};
 ghost use Rattle.asn_published.specs.Telling.{type_lines};
 
-use crate::report::{Note, Status, TypeReport};
+use asn_published_types::report::{Note, Status, TypeReport};
 use std::alloc::{AllocError, Global};
 
 /// The name of the file that a text came from.

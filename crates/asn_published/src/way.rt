@@ -4,8 +4,8 @@ ghost use Rattle.asn_published.specs.Parts.{AreParts, IsWay, Visited, type_named
 ghost use Rattle.asn_published.specs.Telling.{is_own, is_refusal, lines_if, marked_lines, own_lines, refused_lines};
 ghost use Rattle.asn_published.specs.Telling.{refused_lines_of};
 
-use crate::report::{Remark, TypeReport};
 use crate::telling::{file_named, note_line};
+use asn_published_types::report::{Remark, TypeReport};
 use std::alloc::{AllocError, Global};
 
 /// Marks a type, and gives whether the report has it and it was not marked.

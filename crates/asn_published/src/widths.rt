@@ -1,10 +1,10 @@
 //! Types of which no value has a bit in PER: the profile has no lists of them.
-use crate::bounds::{Numbers, lengths_between, numbers_between};
-use crate::info::{Base, Info};
-use crate::nodes::Need;
-use crate::refusal::{Refusal, Why, refused};
-use crate::seen::Seen;
 use crate::writer::{Known, Writer};
+use asn_published_read::nodes::Need;
+use asn_published_read::refusal::{Refusal, Why, refused};
+use asn_published_types::bounds::{Numbers, lengths_between, numbers_between};
+use asn_published_types::info::{Base, Info};
+use asn_published_types::seen::Seen;
 
 /// Whether one number is left, and no mark.
 pub(crate) fn is_one_number(seen: &Seen, line: u32) -> Result<bool, Refusal> {

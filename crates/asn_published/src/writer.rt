@@ -2,18 +2,18 @@
 ghost use Rattle.std.specs.Prelude.{◌≤◌, IfOk};
 ghost use Rattle.asn_published.specs.Limits.{most_levels, most_nodes};
 
-use crate::building::Forest;
-use crate::info::{Base, Info, State};
-use crate::limits::{MOST_LEVELS, MOST_NODES, most_of_all, within};
-use crate::nodes::{Need, Node};
-use crate::numbers::{Scope, Values};
 use crate::options::Options;
-use crate::pieces::push_pieces;
-use crate::ranges::Ranges;
-use crate::refusal::Refusal;
-use crate::report::{Note, Remark, Status};
-use crate::seen::Seen;
-use crate::tags::Tagging;
+use asn_published_read::nodes::{Need, Node};
+use asn_published_read::refusal::Refusal;
+use asn_published_types::building::Forest;
+use asn_published_types::info::{Base, Info, State};
+use asn_published_types::limits::{MOST_LEVELS, MOST_NODES, most_of_all, within};
+use asn_published_types::numbers::{Scope, Values};
+use asn_published_types::pieces::push_pieces;
+use asn_published_types::ranges::Ranges;
+use asn_published_types::report::{Note, Remark, Status};
+use asn_published_types::seen::Seen;
+use asn_published_types::tags::Tagging;
 use std::alloc::{AllocError, Global};
 
 /// What is known when a type is written.

@@ -1,10 +1,10 @@
 //! Writes one node: a simple type, the items of an ENUMERATED, or the beginning of a type that holds others.
-use crate::info::{Base, Info};
-use crate::items::{Item, Items, items_of};
-use crate::nodes::{Node, Shape};
-use crate::refusal::{Refusal, Why, refused};
-use crate::report::Remark;
 use crate::writer::{Known, Writer};
+use asn_published_read::nodes::{Node, Shape};
+use asn_published_read::refusal::{Refusal, Why, refused};
+use asn_published_types::info::{Base, Info};
+use asn_published_types::items::{Item, Items, items_of};
+use asn_published_types::report::Remark;
 use std::alloc::Global;
 
 impl<'t> Writer<'t> {

@@ -1,11 +1,11 @@
 //! The types as they are written, and what became of each.
 use crate::flattening::{Sources, text_of};
-use crate::info::State;
-use crate::numbers::Values;
 use crate::options::Options;
-use crate::report::TypeReport;
 use crate::settling::{Settled, assignment_of, outcome_of, settle_type};
 use crate::writer::Known;
+use asn_published_types::info::State;
+use asn_published_types::numbers::Values;
+use asn_published_types::report::TypeReport;
 use std::alloc::{AllocError, Global};
 
 /// How many levels of a recursive type are written at the most.

@@ -7,7 +7,7 @@ use Rattle.asn_values.specs.View.{shape_of, datum_of}
 use Rattle.asn_values.specs.declared.value.Value.{Value}
 use Rattle.asn_rules.specs.Answer.{IsEncoding, Answer, done, refused, too_long, more, max_octets}
 use Rattle.asn_rules.specs.Live.{Live}
-use Rattle.asn_rules.specs.Rereading.{TellsIfNone}
+use Rattle.asn_rules.specs.AtOnce.{TellsIfNone}
 use Rattle.asn_rules.specs.Sessions.{Past, waiting, stopped, over, all_so_far, FeedsTo, LiveUnits, Finished}
 use Rattle.asn_rules.specs.declared.fault.Why.{Why}
 use Rattle.asn_rules.specs.declared.session.FeedFault.{FeedFault}
@@ -15,7 +15,7 @@ use Rattle.asn_rules.specs.declared.session.FeedFault.TheVariants as feed
 use Rattle.asn_rules.specs.declared.session.Step.{Step}
 use Rattle.asn_rules.specs.declared.session.Step.TheVariants as step
 use Rattle.asn_rules.specs.declared.session.Truncated.{Truncated}
-use Rattle.asn_rules.proofs.Feeding.ReadAgain.{none_live, all_live, live_before, cut_short, no_units, kept_so_far}
+use Rattle.asn_rules.proofs.Feeding.SoFar.{none_live, all_live, live_before, cut_short, no_units, kept_so_far}
 use Rattle.asn_rules.proofs.Feeding.Sessions.{take_few, not_whole}
 use Rattle.asn_walk.specs.Ahead.{Ahead}
 use Rattle.asn_walk.specs.Coding.{Coding}

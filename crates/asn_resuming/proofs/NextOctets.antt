@@ -7,7 +7,7 @@ use Rattle.asn_values.specs.Profile.{InProfile}
 use Rattle.asn_rules.specs.Answer.{Ruling, Answer, done, refused, max_octets}
 use Rattle.asn_rules.specs.Languages.{Spells, Short, Refused}
 use Rattle.asn_rules.specs.Reading.{Wholes}
-use Rattle.asn_rules.proofs.Feeding.ReadAgain.{no_units}
+use Rattle.asn_rules.proofs.Feeding.SoFar.{no_units}
 use Rattle.asn_walk.specs.Ahead.{Ahead}
 use Rattle.asn_walk.specs.Coding.{Coding}
 use Rattle.asn_walk.specs.Laws.{Laws}

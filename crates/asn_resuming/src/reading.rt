@@ -2,7 +2,7 @@
 ghost use Rattle.std.specs.Prelude.{◌≡◌, ◌≤◌, ◌+◌, ℕ, List, length, IfOk};
 ghost use Rattle.asn_values.specs.View.{shape_of};
 ghost use Rattle.asn_rules.specs.Answer.{max_octets};
-ghost use Rattle.asn_rules.specs.Rereading.{FedAtOnce, TellsIfNone};
+ghost use Rattle.asn_rules.specs.AtOnce.{FedAtOnce, TellsIfNone};
 ghost use Rattle.asn_walk_feed.specs.Nodes.{nodes};
 ghost use Rattle.asn_resuming.specs.Reached.{Reached, AnswersOn};
 

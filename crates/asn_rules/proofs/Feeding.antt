@@ -1,3 +1,4 @@
--- The session that keeps all octets.
-pub mod ReadAgain
+-- What a session makes of the octets so far.
+pub mod SoFar
 pub mod Sessions
+pub mod Pieces

@@ -1,5 +1,6 @@
 //! What the crates of this repository need of this one, and its users do not: the readers and writers of fields that
-//! PER and OER share, and the session that both have.
+//! PER and OER share.
+pub use crate::at_once::{Reads, decode_at_once};
 pub use crate::bit_vectors::{bit_at, overwrite_bits, push_bits, push_octets};
 pub use crate::integer_sets::{numbers_of, offsets_of};
 pub use crate::length_reader::read_next_length;
@@ -21,7 +22,6 @@ pub use crate::octet_writer::{
     write_least_signed, write_length,
 };
 pub use crate::readings::{one_reading, readings_answer};
-pub use crate::rereading::{Reads, Rereading, decode_at_once, feed, finish, open};
 pub use crate::short_octets::try_short_octets;
 pub use crate::signed_reader::{OffsetSet, read_signed, read_unconstrained};
 pub use crate::stop::Stop;

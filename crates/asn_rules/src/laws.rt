@@ -8,7 +8,10 @@ ghost use Rattle.asn_rules.specs.Chunks.{Chunk};
 ghost use Rattle.asn_rules.specs.CodecLaws.{DecodesTheEncoded, EncodesTheDecoded, OnlyMemoryIsWanting, EqualExactly, TellsTheRest, RestFollowsOneFront, TellsTheCut, DecodersAgree};
 ghost use Rattle.asn_rules.specs.Laws.{AreOctets, RulesLaws, WholesTell, LiveIsClosed, BeginningsAreLive, BeginningsAreNotRefused, OneAnswer};
 ghost use Rattle.asn_rules.specs.Live.{Fielding};
+ghost use Rattle.asn_rules.specs.Pieces.{KeepsAllOctets, AnswersAllOctets, SettlesLaterAnswers, CutsDoNotMatter};
 ghost use Rattle.asn_rules.specs.Reading.{RulesTell};
+
+use crate::rules::Rules;
 
 /// If some encoding extends these units, one extends each prefix of them. So once no encoding extends the octets,
 /// none extends them with more octets appended.
@@ -65,3 +68,23 @@ pub fn codec_laws()
     ensures cut { (r : Ruling) → RulesLaws r → RulesTell r → TellsTheCut r }
     ensures one_answer { (r : Ruling) → RulesLaws r → DecodersAgree r }
 {}
+
+/// What follows from the clauses of `Rules::open` and `Rules::feed` for a session that takes a whole list of pieces, so
+/// that a caller need not put those of single calls together. The call does nothing: its clauses are what proofs cite.
+///
+/// - `keeps_all`: as long as `More` is answered, the session has taken the octets of all pieces, one after the other,
+///   and no others.
+/// - `answers_all`: until then the answer to the next piece is that to all these octets, with the piece at their end.
+/// - `settles_later`: the first answer that is not `More` settles what is answered to every later piece: `Spent` after
+///   `Done` and `Memory`, the same fault after `Refused` and `TooLong`.
+/// - `cuts_do_not_matter`: two sessions of a type whose pieces are the same octets, cut otherwise, answer the same to
+///   the last of them, where neither answers `Memory`: the same value that ends at the same octet of the message, or the
+///   same fault, but for the reason of a refusal.
+pub fn session_laws<R: Rules>()
+    ensures keeps_all { KeepsAllOctets R.ruling R.took }
+    ensures answers_all { AnswersAllOctets R.ruling R.took }
+    ensures settles_later { SettlesLaterAnswers R.ruling R.took }
+    ensures cuts_do_not_matter { CutsDoNotMatter R.ruling R.took }
+{
+    R::keep_laws();
+}

@@ -1,6 +1,7 @@
 //! What encoding rules are, what an encoder and a decoder answer, and the readers of fields that PER and OER share.
 #![tactic(auto)]
 
+mod at_once;
 mod bit_vectors;
 mod counting;
 mod fault;
@@ -19,7 +20,6 @@ mod octet_writer;
 mod open_session;
 mod output;
 mod readings;
-mod rereading;
 mod rules;
 mod session;
 mod short_octets;

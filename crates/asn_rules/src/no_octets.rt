@@ -2,7 +2,7 @@
 ghost use Rattle.std.specs.Prelude.{[], Err, IfOk};
 ghost use Rattle.asn_values.specs.Shape.{Shape};
 ghost use Rattle.asn_rules.specs.Answer.{Ruling};
-ghost use Rattle.asn_rules.specs.Rereading.{FedAtOnce, TellsIfNone};
+ghost use Rattle.asn_rules.specs.AtOnce.{FedAtOnce, TellsIfNone};
 
 use crate::session::{FeedFault, Step};
 use std::alloc::AllocError;

@@ -1,6 +1,6 @@
 //! The reader of messages.
 ghost use Rattle.asn_values.specs.View.{shape_of};
-ghost use Rattle.asn_rules.specs.Rereading.{FedAtOnce};
+ghost use Rattle.asn_rules.specs.AtOnce.{FedAtOnce};
 
 use crate::reader::read_complete;
 use asn_bits::BitCursor;

@@ -23,6 +23,10 @@ pub use Rattle.asn_rules.specs.Streams
 pub use Rattle.asn_rules.specs.Reasons
 pub use Rattle.asn_per.specs.Rules as PerRules
 pub use Rattle.asn_oer.specs.Rules as OerRules
+-- by a plan of the type, and within a budget
+pub use Rattle.asn_plan.specs.Plans
+pub use Rattle.asn_plan.specs.Taken
+pub use Rattle.asn_plan.specs.Within
 -- where octets are no message, other versions, conversion
 pub use Rattle.asn_explain.specs.Explains
 pub use Rattle.asn_explain.specs.Texts

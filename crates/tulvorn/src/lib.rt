@@ -16,6 +16,7 @@ pub use asn_module::{
 pub use asn_newer::{NewerFault, ReadNewer};
 pub use asn_oer::Oer;
 pub use asn_per::Per;
+pub use asn_plan::{Budget, PlanRules, Planned, Taken, WithinFault};
 pub use asn_rules::{
     Counted, CountedFault, DecodeFault, EncodeFault, EncodeIntoFault, EncodeToFault, FeedFault,
     LengthFault, MAX_OCTETS, MessageStream, Newer, OpenFault, Rules, Session, Skipped, Step,

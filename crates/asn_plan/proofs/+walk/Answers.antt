@@ -1,8 +1,8 @@
-use Rattle.std.proofs.Common.{◌≡◌, ◌/◌, ◌%◌, ◌^◌, refl, sym, ap, ◌∙◌, Bool, true, false, not, Some, None, inl, inr, length, arith}
+use Rattle.std.proofs.Common.{◌≡◌, ◌/◌, ◌%◌, ◌^◌, refl, sym, ap, ◌∙◌, Some, None, inl, inr, length, arith}
 use Rattle.std.proofs.lemmas.List.{drop_all}
 use Rattle.asn_values.specs.Datum.{number, alternative}
 use Rattle.asn_values.specs.Profile.{InProfile}
-use Rattle.asn_values.specs.Shape.{demands, sequence, sequence_of, choice}
+use Rattle.asn_values.specs.Shape.{Fields, no_fields, demands, sequence, sequence_of, choice}
 use Rattle.asn_values.specs.View.{datum_of, size_range_of}
 use Rattle.asn_values.proofs.InnerTypes.{element_of_profile}
 use Rattle.asn_values.proofs.Parts.{components_of_profile}
@@ -20,9 +20,9 @@ use Rattle.asn_walk.proofs.OpenRead.{content_of}
 use Rattle.asn_walk.proofs.Parts.{root_good}
 use Rattle.asn_plan.proofs.Additions.{present_addition, absent_addition, added_starts, added_further, added_ends, additions_read, extended_read, plans_count}
 use Rattle.asn_plan.proofs.Alternatives.{alternative_at, each_count, root_read, added_read}
-use Rattle.asn_plan.proofs.Building.{next_node, built_further, goes_ends, absents_are, sequence_read}
+use Rattle.asn_plan.proofs.Building.{next_node, built_further, goes_ends, absents_are, no_root, no_additions, sequence_read}
 use Rattle.asn_plan.proofs.Entries.{must_entry, present_entry, absent_entry, other_entry, default_entry}
-use Rattle.asn_plan.proofs.Messages.{whole_message, field_read}
+use Rattle.asn_plan.proofs.Messages.{whole_message, field_read, turned_true, turned_false}
 use Rattle.asn_plan.proofs.NodeKinds.{number_is, leaf_is, sequence_is, list_is, choice_is}
 use Rattle.asn_plan.proofs.Rows.{row_begins, row_further, listed_starts, listed_further, listed_ends, list_read}
 use Rattle.asn_plan.proofs.+walk.Goals as goal
@@ -37,16 +37,16 @@ walk::build_at-returns-in-Some-clause-some g t c s good p =
     let of_z = c.in-Some.ensures.of_integers in
     rw is (record { value = number z; of_value = rw (kept z of_z.0 of_z.1) at c.number.ensures; read = rw (kept n.low l.0 l.1, kept n.high h.0 h.1) at c.in-Some.ensures.some })
 
-pub walk::build_at-returns-in_ok-value-in-Number-clause-some : goal.walk::build_at-returns-in_ok-value-in-Number-clause-some
-walk::build_at-returns-in_ok-value-in-Number-clause-some g t c s good p =
+pub walk::build_at-returns-in_ok-part-in-Number-clause-some : goal.walk::build_at-returns-in_ok-part-in-Number-clause-some
+walk::build_at-returns-in_ok-part-in-Number-clause-some g t c s good p =
     let is = number_is c.args.nodes.now s c.in-Number.range (rw c.in-Number.is at p) in
     let still : c.try_between.new.units ≡ c.args.units.now = c.in_default.ensures.none refl in
-    rw is (record { value = datum_of c.in_ok-value-in-Number.value; of_value = c.value.ensures; read = rw still at c.in_ok-value-in-Number.ensures.some })
+    rw is (record { value = datum_of c.in_ok-value-in-Number.value; of_value = c.in_ok-part-in-Number.ensures; read = rw still at c.in_ok-value-in-Number.ensures.some })
 
-pub walk::build_at-returns-in_ok-value-in-Leaf-clause-some : goal.walk::build_at-returns-in_ok-value-in-Leaf-clause-some
-walk::build_at-returns-in_ok-value-in-Leaf-clause-some g t c s good p =
+pub walk::build_at-returns-in_ok-part-in-Leaf-clause-some : goal.walk::build_at-returns-in_ok-part-in-Leaf-clause-some
+walk::build_at-returns-in_ok-part-in-Leaf-clause-some g t c s good p =
     let is = leaf_is c.args.nodes.now s c.in-Leaf.leaf (rw c.in-Leaf.is at p) in
-    rw is (record { value = datum_of c.in_ok-value-in-Leaf.value; of_value = c.value-in-Leaf.ensures; read = c.in_ok-value-in-Leaf.ensures.some })
+    rw is (record { value = datum_of c.in_ok-value-in-Leaf.value; of_value = c.in_ok-part-in-Leaf.ensures; read = c.in_ok-value-in-Leaf.ensures.some })
 
 pub components::build_components-loop-part-preserved : goal.components::build_components-loop-part-preserved
 components::build_components-loop-part-preserved g t c =
@@ -65,14 +65,14 @@ components::build_component-returns-in_ok-value-in-Must-clause-some g t c some =
     let r = g.R.ReadLeaves.rules in
     must_entry r (g.B.Build.listed c.args.entries.now) (g.B.Build.listed c.present.new.entries) c.args.nodes.now c.args.part.now c.args.presence.now.bitmap c.args.presence.now.left (r.to_units c.args.units.now) (r.to_units c.build_at.new.units) (g.B.Build.built c.in_ok-value-in-Must.value) (λ es d l q. c.present.ensures some es d l q) c.in-Must.is (λ s good p. (let b = c.in_ok-value-in-Must.ensures.some s good p in (b.value, b.of_value, b.read)))
 
--- a test that is turned
-turned_true : (b : Bool) → not b ≡ true → b ≡ false
-turned_true true e = sym e
-turned_true false e = refl
-
-turned_false : (b : Bool) → not b ≡ false → b ≡ true
-turned_false true e = refl
-turned_false false e = sym e
+pub components::build_sequence-returns-then-parts-3-clause-some : goal.components::build_sequence-returns-then-parts-3-clause-some
+components::build_sequence-returns-then-parts-3-clause-some g t c s good p =
+    let rows = c.args.parts.now in
+    let q = sequence_is c.args.nodes.now s rows p in
+    let root : q.root ≡ no_fields = no_root _ c.args.nodes.now rows.begin rows.middle q.root (omega (arith, c.if-parts-2.false, c.if-parts-3.true)) q.plans in
+    let others = no_additions _ c.args.nodes.now rows.middle rows.end q.more (omega (arith, c.if-parts.false, c.if-parts-3.true)) q.others in
+    let is : s ≡ sequence no_fields q.more = q.is ∙ ap (λ (fs : Fields). sequence fs q.more) root in
+    rw is (c.in_ok-empty.ensures.some q.more (rw is at good) others q.additions)
 
 pub components::build_sequence-returns-then-not-preamble-clause-some : goal.components::build_sequence-returns-then-not-preamble-clause-some
 components::build_sequence-returns-then-not-preamble-clause-some g t c s good p =
@@ -136,17 +136,17 @@ components::build_component-returns-then-not-next-clause-some g t c some =
     let bit : 0 ≡ c.args.presence.now.bitmap / 2 ^ c.next.new.self.left % 2 = ap bit_of (sym c.if-not-next.true) ∙ c.next.ensures.bit.1 in
     absent_entry r (g.B.Build.listed c.args.entries.now) (g.B.Build.listed c.absent.new.entries) c.args.nodes.now c.args.part.now c.args.presence.now.bitmap c.args.presence.now.left (r.to_units c.args.units.now) (r.to_units c.args.units.now) (λ es l. c.absent.ensures some es l) c.next.new.self.left c.next.ensures.bit.0 c.in-Optional.is bit refl
 
-pub components::build_component-returns-in_ok-value-in-Default-clause-some : goal.components::build_component-returns-in_ok-value-in-Default-clause-some
-components::build_component-returns-in_ok-value-in-Default-clause-some g t c some =
+pub components::build_component-returns-in_ok-part-in-Default-clause-some : goal.components::build_component-returns-in_ok-part-in-Default-clause-some
+components::build_component-returns-in_ok-part-in-Default-clause-some g t c some =
     let r = g.R.ReadLeaves.rules in
     let bit : 1 ≡ c.args.presence.now.bitmap / 2 ^ c.next-in-Default.new.self.left % 2 = ap bit_of (sym c.if-not-next-2.false) ∙ c.next-in-Default.ensures.bit.1 in
-    other_entry r (g.B.Build.listed c.args.entries.now) (g.B.Build.listed c.present-in-Default.new.entries) c.args.nodes.now c.args.part.now c.args.presence.now.bitmap c.args.presence.now.left (r.to_units c.args.units.now) (r.to_units c.read_other.new.units) (g.B.Build.built c.value-in-Default.result) (λ es d l q. c.present-in-Default.ensures some es d l q) c.next-in-Default.new.self.left c.next-in-Default.ensures.bit.0 c.in-Default.with_default c.in-Default.is bit (datum_of c.in_ok-value-in-Default.value) c.value-in-Default.ensures c.in_ok-value-in-Default.ensures.some
+    other_entry r (g.B.Build.listed c.args.entries.now) (g.B.Build.listed c.present-in-Default.new.entries) c.args.nodes.now c.args.part.now c.args.presence.now.bitmap c.args.presence.now.left (r.to_units c.args.units.now) (r.to_units c.read_other.new.units) (g.B.Build.built c.in_ok-part-in-Default.part) (λ es d l q. c.present-in-Default.ensures some es d l q) c.next-in-Default.new.self.left c.next-in-Default.ensures.bit.0 c.in-Default.with_default c.in-Default.is bit (datum_of c.in_ok-value-in-Default.value) c.in_ok-part-in-Default.ensures c.in_ok-value-in-Default.ensures.some
 
 pub components::build_component-returns-then-not-next-2-clause-some : goal.components::build_component-returns-then-not-next-2-clause-some
 components::build_component-returns-then-not-next-2-clause-some g t c some =
     let r = g.R.ReadLeaves.rules in
     let bit : 0 ≡ c.args.presence.now.bitmap / 2 ^ c.next-in-Default.new.self.left % 2 = ap bit_of (sym c.if-not-next-2.true) ∙ c.next-in-Default.ensures.bit.1 in
-    default_entry r (g.B.Build.listed c.args.entries.now) (g.B.Build.listed c.present-then-not-next-2.new.entries) c.args.nodes.now c.args.part.now c.args.presence.now.bitmap c.args.presence.now.left (r.to_units c.args.units.now) (r.to_units c.args.units.now) (g.B.Build.built c.value.result) (λ es d l q. c.present-then-not-next-2.ensures some es d l q) c.next-in-Default.new.self.left c.next-in-Default.ensures.bit.0 c.in-Default.with_default c.in-Default.is bit (datum_of c.in_ok-default-in-Default.default) c.value.ensures c.in_ok-default-in-Default.ensures refl
+    default_entry r (g.B.Build.listed c.args.entries.now) (g.B.Build.listed c.present-then-not-next-2.new.entries) c.args.nodes.now c.args.part.now c.args.presence.now.bitmap c.args.presence.now.left (r.to_units c.args.units.now) (r.to_units c.args.units.now) (g.B.Build.built c.in_ok-absent-in-Default.absent) (λ es d l q. c.present-then-not-next-2.ensures some es d l q) c.next-in-Default.new.self.left c.next-in-Default.ensures.bit.0 c.in-Default.with_default c.in-Default.is bit (datum_of c.in_ok-default-in-Default.default) c.in_ok-absent-in-Default.ensures c.in_ok-default-in-Default.ensures refl
 
 -- ---- SEQUENCE OF
 

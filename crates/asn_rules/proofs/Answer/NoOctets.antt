@@ -2,7 +2,7 @@
 use Rattle.std.proofs.Common.{ℕ, false, Ok, Err, [], arith}
 use Rattle.asn_values.specs.Shape.{Shape}
 use Rattle.asn_rules.specs.Answer.{Ruling, NoFront}
-use Rattle.asn_rules.specs.Rereading.{FedAtOnce, TellsIfNone}
+use Rattle.asn_rules.specs.AtOnce.{FedAtOnce, TellsIfNone}
 use Rattle.asn_rules.specs.declared.fault.Why.{Why}
 use Rattle.asn_rules.specs.declared.session.Step.TheVariants as step
 use Rattle.asn_rules.specs.declared.session.FeedFault.TheVariants as feed

@@ -1,7 +1,7 @@
 use Rattle.std.proofs.Common.{◌≡◌, ◌≤◌, Ok, Err, [], length, arith}
 use Rattle.asn_values.specs.View.{shape_of, datum_of}
 use Rattle.asn_rules.specs.Answer.{max_octets}
-use Rattle.asn_rules.specs.Rereading.{FedAtOnce}
+use Rattle.asn_rules.specs.AtOnce.{FedAtOnce}
 use Rattle.asn_rules.specs.declared.session.Step.TheVariants as step
 use Rattle.asn_rules.specs.declared.session.FeedFault.TheVariants as feed
 use Rattle.asn_rules.proofs.Live.Lists.{no_length}

@@ -1,6 +1,6 @@
 use Rattle.std.proofs.Common.{Bool, true, false, subst, refl}
 use Rattle.asn_values.specs.View.{shape_of}
-use Rattle.asn_rules.specs.Rereading.{TellsIfNone}
+use Rattle.asn_rules.specs.AtOnce.{TellsIfNone}
 use Rattle.asn_resuming.proofs.Answering.{opened_whole, opened_empty}
 use Rattle.asn_resuming.proofs.session.open.Goals as goal
 use Rattle.asn_resuming.proofs.session.open.Goals.{then-branch, else-branch}

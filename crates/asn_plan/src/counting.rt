@@ -1,0 +1,134 @@
+//! A builder that counts what a value takes, and keeps nothing of it.
+ghost use Rattle.std.specs.Prelude.{◌≡◌, ◌+◌, true, false, IfSome};
+ghost use Rattle.asn_values.specs.Datum.{components, components_of, elements, elements_of};
+ghost use Rattle.asn_values.specs.View.{datum_of};
+ghost use Rattle.asn_plan.specs.Taken.{Takes, IsNoMore};
+
+use crate::budget::{Budget, Taken};
+use crate::build::Build;
+use asn_values::Value;
+use std::alloc::Global;
+
+/// Counts what a value takes. It gives up at more than 2^64 - 1 entries or octets.
+pub struct Counting;
+
+impl Taken {
+    /// What a string of this many octets takes; any other value without parts is as a string of none.
+    #[inline(always)]
+    fn of_string(octets: usize) -> Taken
+        ensures entries { result.entries ≡ 1 }
+        ensures octets { result.octets ≡ octets }
+    {
+        Taken {
+            entries: 1,
+            octets: octets as u64,
+        }
+    }
+
+    /// What both take.
+    #[inline(always)]
+    fn plus(self, other: Taken) -> Option<Taken>
+        ensures entries { IfSome result (λ n. n.entries ≡ self.entries + other.entries) }
+        ensures octets { IfSome result (λ n. n.octets ≡ self.octets + other.octets) }
+    {
+        let entries = self.entries.checked_add(other.entries)?;
+        let octets = self.octets.checked_add(other.octets)?;
+        Some(Taken { entries, octets })
+    }
+}
+
+impl Taken {
+    /// Whether this is no more than the budget.
+    pub fn is_within(&self, budget: &Budget) -> bool
+        ensures within { result ≡ true → IsNoMore self.now budget.now }
+        ensures over { result ≡ false → IsNoMore self.now budget.now → ⊥ }
+    {
+        self.entries <= budget.entries && self.octets <= budget.octets
+    }
+}
+
+/// What a value without parts takes; `None` of any other.
+fn taken_alone(value: &Value) -> Option<Taken>
+    ensures { IfSome result (λ n. Takes n (datum_of value.now)) }
+{
+    match value {
+        Value::Bool(_) | Value::Null | Value::Int(_) | Value::Enum(_) => Some(Taken::of_string(0)),
+        Value::Bits(bits) => Some(Taken::of_string(bits.len())),
+        Value::Octets(octets) => Some(Taken::of_string(octets.len())),
+        Value::Text(characters) => Some(Taken::of_string(characters.len())),
+        Value::Utf8(text) => Some(Taken::of_string(text.len())),
+        Value::Seq(_)
+        | Value::List(_)
+        | Value::Choice(..)
+        | Value::UnknownItem(_)
+        | Value::UnknownAlternative(_) => None,
+    }
+}
+
+impl Build for Counting {
+    type Part = Taken;
+
+    type Entries = Taken;
+
+    type Elements = Taken;
+
+    ghost built = { λ p d. Takes p d };
+
+    ghost listed = { λ p es. Takes p (components (components_of es)) };
+
+    ghost rowed = { λ p ds. Takes p (elements (elements_of ds)) };
+
+    #[inline(always)]
+    fn number(_integer: i128) -> Taken {
+        Taken::of_string(0)
+    }
+
+    #[inline(always)]
+    fn value(value: Value) -> Option<Taken> {
+        taken_alone(&value)
+    }
+
+    #[inline(always)]
+    fn entries(_alloc: Global, _count: usize) -> Option<Taken> {
+        Some(Taken::of_string(0))
+    }
+
+    #[inline(always)]
+    fn absent(entries: &mut Taken) -> Option<()> {
+        *entries = entries.plus(Taken::of_string(0))?;
+        Some(())
+    }
+
+    #[inline(always)]
+    fn present(entries: &mut Taken, part: Taken) -> Option<()> {
+        *entries = entries.plus(part)?;
+        Some(())
+    }
+
+    #[inline(always)]
+    fn sequence(entries: Taken) -> Taken {
+        entries
+    }
+
+    #[inline(always)]
+    fn elements(_alloc: Global) -> Taken {
+        Taken::of_string(0)
+    }
+
+    #[inline(always)]
+    fn element(row: &mut Taken, part: Taken) -> Option<()> {
+        *row = row.plus(part)?;
+        Some(())
+    }
+
+    #[inline(always)]
+    fn list(row: Taken) -> Taken {
+        row
+    }
+
+    #[inline(always)]
+    fn choice(_alloc: Global, _place: usize, part: Taken) -> Option<Taken> {
+        let chosen = part.plus(Taken::of_string(0))?;
+        Some(chosen)
+    }
+}

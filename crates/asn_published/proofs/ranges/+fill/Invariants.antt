@@ -1,4 +1,0 @@
-use Rattle.asn_published.proofs.ranges.+fill.Given as goal
-
-abbrev pub decreases-fill : goal.decreases-fill
-decreases-fill l = l.steps

@@ -1,5 +1,0 @@
-use Rattle.asn_published.proofs.Sets.{push_set}
-use Rattle.asn_published.proofs.ranges.Ranges.join_range.Goals as goal
-
-pub returns-in_ok-push : goal.returns-in_ok-push
-returns-in_ok-push c = push_set _ _ _ c.in_ok-push.ensures.items

@@ -1,0 +1,388 @@
+//! Classes as they are defined (X.681, "object class assignment"): their fields, and the syntax of their objects.
+use crate::extents::type_end;
+use crate::modules::{What, World};
+use crate::reading::{Reading, Work};
+use crate::syntax::Syntax;
+use crate::token::{Kind, Sign};
+use crate::tokens::{Tokens, next};
+use crate::value_kinds::Values;
+use crate::value_sets::ClassName;
+use crate::value_steps::value_end;
+use crate::wrong::TextFault;
+use std::alloc::Global;
+use std::collections::HashMap;
+
+/// The classes that X.681 defines itself.
+const BUILT_IN: &str = "BUILT-IN DEFINITIONS ::= BEGIN
+TYPE-IDENTIFIER ::= CLASS { &id OBJECT IDENTIFIER UNIQUE, &Type } WITH SYNTAX { &Type IDENTIFIED BY &id }
+ABSTRACT-SYNTAX ::= CLASS { &id OBJECT IDENTIFIER UNIQUE, &Type, &property BIT STRING DEFAULT {} }
+WITH SYNTAX { &Type IDENTIFIED BY &id [HAS PROPERTY &property] } END";
+
+/// What an object gives for a field.
+#[derive(Clone, Copy)]
+pub enum FieldKind {
+    Type,
+    /// A value of a type that has these.
+    Value(Values),
+    /// A set of values.
+    Set,
+    Object(ClassName),
+    Objects(ClassName),
+    /// A value or an object, where it is not known which.
+    One,
+    /// A set of values or of objects, where it is not known which.
+    Many,
+}
+
+/// A field of a class.
+#[derive(Clone, Copy)]
+pub struct ClassField<'t> {
+    pub name: &'t str,
+    pub kind: FieldKind,
+    /// The type or the class of what is given, from one index to before another, where there is one.
+    pub from: usize,
+    pub end: usize,
+    /// The type is what an object gives for another field.
+    pub is_of_field: bool,
+    /// Where what is given by default begins.
+    default: Option<usize>,
+    /// An object has to give it.
+    pub(crate) is_needed: bool,
+}
+
+/// A class that is defined.
+#[derive(Drop)]
+pub struct ClassTable<'t> {
+    pub fields: Vec<ClassField<'t>>,
+    pub(crate) by_name: HashMap<&'t str, usize>,
+    /// How many fields an object has to give.
+    pub(crate) needed: usize,
+    pub syntax: Option<Syntax<'t>>,
+}
+
+/// All classes that are defined, those of X.681 before the others.
+#[derive(Drop)]
+pub struct Classes<'t> {
+    tables: Vec<ClassTable<'t>>,
+    by_assignment: HashMap<usize, usize>,
+}
+
+/// The index after the `&` at `at` and the name of a field.
+pub(crate) fn after_field_name(tokens: &Tokens<'_>, at: usize) -> Result<usize, TextFault> {
+    let name = tokens.past(at, Sign::Ampersand, "a field of a class")?;
+    if tokens.is_kind(name, Kind::Word) {
+        Ok(next(name))
+    } else {
+        Err(tokens.expected(name, "the name of a field"))
+    }
+}
+
+/// The index after the names of fields at `from`, as `&a.&b`.
+fn after_field_names(tokens: &Tokens<'_>, from: usize) -> Result<usize, TextFault> {
+    let mut at = after_field_name(tokens, from)?;
+    for _ in 0..tokens.len() {
+        if !tokens.is(at, Sign::Dot) {
+            break;
+        }
+        at = after_field_name(tokens, next(at))?;
+    }
+    Ok(at)
+}
+
+/// Whether nothing more is said of a field at `at` than whether it may be left out.
+fn is_field_end(tokens: &Tokens<'_>, at: usize) -> bool {
+    tokens.is(at, Sign::Comma)
+        || tokens.is(at, Sign::RightBrace)
+        || tokens.is_word(at, "OPTIONAL")
+        || tokens.is_word(at, "DEFAULT")
+}
+
+/// The index after the type or the class that is said of a field whose name stands before `start`.
+fn governor_end(tokens: &Tokens<'_>, start: usize, is_one: bool) -> Result<usize, TextFault> {
+    if tokens.is(start, Sign::Ampersand) {
+        after_field_names(tokens, start)
+    } else if !is_one && is_field_end(tokens, start) {
+        Ok(start)
+    } else {
+        type_end(tokens, start)
+    }
+}
+
+/// What an object gives for a field, of which the type or the class stands from `start` to before `end`.
+fn kind_of(
+    world: &World<'_>,
+    module: usize,
+    place: (usize, usize),
+    is_one: bool,
+    is_plain: bool,
+) -> FieldKind {
+    let (start, end) = place;
+    let Some(tokens) = world.tokens_of(module) else {
+        return FieldKind::Type;
+    };
+    if start == end {
+        return FieldKind::Type;
+    }
+    let class = world.class_named(module, start, end);
+    match class {
+        Some(class) if is_one => return FieldKind::Object(class),
+        Some(class) => return FieldKind::Objects(class),
+        None => {}
+    }
+    // the type of the values may be that of another field
+    let is_type = tokens.is(start, Sign::Ampersand) || world.leads_to_type(module, start);
+    match (is_type, is_one) {
+        (true, true) => FieldKind::Value(world.values_at(module, start, is_plain)),
+        (true, false) => FieldKind::Set,
+        (false, true) => FieldKind::One,
+        (false, false) => FieldKind::Many,
+    }
+}
+
+/// The index after what a field has by default, at `at`.
+fn default_end(tokens: &Tokens<'_>, at: usize, kind: FieldKind) -> Result<usize, TextFault> {
+    match kind {
+        FieldKind::Type => type_end(tokens, at),
+        FieldKind::Value(_) | FieldKind::Object(_) | FieldKind::One => value_end(tokens, at),
+        _ => {
+            let _first = tokens.past(at, Sign::LeftBrace, "{")?;
+            Ok(tokens.after(at))
+        }
+    }
+}
+
+/// The field at `at` of a class in a module, and the index after it.
+fn field_at<'t>(
+    world: &World<'t>,
+    tokens: &Tokens<'t>,
+    module: usize,
+    at: usize,
+    is_plain: bool,
+) -> Result<(ClassField<'t>, usize), TextFault> {
+    let from = after_field_name(tokens, at)?;
+    let is_one = tokens.is_identifier(next(at));
+    let end = governor_end(tokens, from, is_one)?;
+    let kind = kind_of(world, module, (from, end), is_one, is_plain);
+    let mut behind = end;
+    if is_one && tokens.is_word(behind, "UNIQUE") {
+        behind = next(behind);
+    }
+    let default = if tokens.is_word(behind, "DEFAULT") {
+        Some(next(behind))
+    } else {
+        None
+    };
+    let is_optional = tokens.is_word(behind, "OPTIONAL");
+    let field = ClassField {
+        name: tokens.text(next(at)),
+        kind,
+        from,
+        end,
+        is_of_field: tokens.is(from, Sign::Ampersand),
+        default,
+        is_needed: !is_optional && default.is_none(),
+    };
+    match default {
+        Some(start) => Ok((field, default_end(tokens, start, kind)?)),
+        None if is_optional => Ok((field, next(behind))),
+        None => Ok((field, behind)),
+    }
+}
+
+/// The class whose braces open at `braces` in a module.
+fn table_of<'t>(
+    alloc: Global,
+    world: &World<'t>,
+    tokens: &Tokens<'t>,
+    module: usize,
+    braces: usize,
+    is_plain: bool,
+) -> Result<ClassTable<'t>, TextFault> {
+    let mut table = ClassTable {
+        fields: Vec::new(alloc),
+        by_name: HashMap::new(alloc),
+        needed: 0,
+        syntax: None,
+    };
+    let end = tokens.other(braces);
+    let mut at = next(braces);
+    for _ in 0..tokens.len() {
+        let (field, behind) = field_at(world, tokens, module, at, is_plain)?;
+        table.take(tokens, at, field)?;
+        at = behind;
+        if at >= end {
+            break;
+        }
+        at = tokens.past(at, Sign::Comma, ", or }")?;
+    }
+    let syntax = next(end);
+    if tokens.is_word(syntax, "WITH") {
+        table.take_syntax(alloc, tokens, next(next(syntax)))?;
+    }
+    Ok(table)
+}
+
+impl<'t> ClassTable<'t> {
+    /// Takes the field at `at`.
+    fn take(
+        &mut self,
+        tokens: &Tokens<'t>,
+        at: usize,
+        field: ClassField<'t>,
+    ) -> Result<(), TextFault> {
+        let index = self.fields.len();
+        if self.by_name.insert(field.name, index)?.is_some() {
+            return Err(tokens.expected(at, "a field of another name"));
+        }
+        if field.is_needed {
+            self.needed = self.needed.saturating_add(1);
+        }
+        Ok(self.fields.push(field)?)
+    }
+
+    /// Takes the syntax in the braces at `braces`, after which objects give the fields that stand there.
+    fn take_syntax(
+        &mut self,
+        alloc: Global,
+        tokens: &Tokens<'t>,
+        braces: usize,
+    ) -> Result<(), TextFault> {
+        let syntax = Syntax::new(alloc, tokens, braces, &self.by_name)?;
+        let mut needed = 0usize;
+        for (index, field) in self.fields.iter().enumerate() {
+            if field.is_needed && syntax.has_field(index) {
+                needed = needed.saturating_add(1);
+            }
+        }
+        self.needed = needed;
+        self.syntax = Some(syntax);
+        Ok(())
+    }
+
+    /// The field of a name.
+    pub fn field_named(&self, name: &str) -> Option<ClassField<'t>> {
+        self.field(*self.by_name.get(name)?)
+    }
+
+    /// The field of an index.
+    pub fn field(&self, index: usize) -> Option<ClassField<'t>> {
+        match self.fields.get(index) {
+            Some(field) => Some(*field),
+            None => None,
+        }
+    }
+}
+
+impl<'t> Classes<'t> {
+    /// No class.
+    pub fn none(alloc: Global) -> Self {
+        Classes {
+            tables: Vec::new(alloc),
+            by_assignment: HashMap::new(alloc),
+        }
+    }
+
+    /// The classes of X.681.
+    pub fn new(alloc: Global) -> Result<Self, TextFault> {
+        let mut classes = Classes::none(alloc);
+        let mut world = World::new(alloc);
+        world.add(alloc, BUILT_IN)?;
+        for index in 0..world.assignments.len() {
+            classes.take(alloc, &world, index)?;
+        }
+        classes.by_assignment.clear();
+        Ok(classes)
+    }
+
+    /// Takes the class that an assignment defines, where it does so.
+    pub fn take(
+        &mut self,
+        alloc: Global,
+        world: &World<'t>,
+        index: usize,
+    ) -> Result<(), TextFault> {
+        let Some(it) = world.assignment(index) else {
+            return Ok(());
+        };
+        let Some(tokens) = world.tokens_of(it.module) else {
+            return Ok(());
+        };
+        if it.what != What::Class || !tokens.is_word(it.start, "CLASS") {
+            return Ok(());
+        }
+        let is_plain = it.parameters.is_none();
+        let table = table_of(alloc, world, tokens, it.module, next(it.start), is_plain)?;
+        let _before = self.by_assignment.insert(index, self.tables.len())?;
+        Ok(self.tables.push(table)?)
+    }
+
+    /// The index of a class among those that are defined.
+    pub(crate) fn index_of(&self, class: ClassName) -> Option<usize> {
+        match class {
+            ClassName::TypeIdentifier => Some(0),
+            ClassName::AbstractSyntax => Some(1),
+            ClassName::Defined(assignment) => match self.by_assignment.get(&assignment) {
+                Some(index) => Some(*index),
+                None => None,
+            },
+        }
+    }
+
+    /// What a class defines.
+    pub fn of(&self, class: ClassName) -> Option<&ClassTable<'t>> {
+        self.table(self.index_of(class)?)
+    }
+
+    /// The class of an index.
+    pub(crate) fn table(&self, index: usize) -> Option<&ClassTable<'t>> {
+        self.tables.get(index)
+    }
+}
+
+impl<'a, 't> Reading<'a, 't> {
+    /// Reads the types of the fields of the class that an assignment defines, and what they have by default.
+    pub(crate) fn read_class(
+        self,
+        alloc: Global,
+        todo: &mut Vec<Work>,
+        assignment: usize,
+    ) -> Result<(), TextFault> {
+        let Some(index) = self.world.classes.index_of(ClassName::Defined(assignment)) else {
+            // the name of another class
+            return Ok(());
+        };
+        let Some(table) = self.world.classes.table(index) else {
+            return Ok(());
+        };
+        for field in &table.fields {
+            self.read_field(alloc, todo, field)?;
+        }
+        Ok(())
+    }
+
+    /// Reads the type of a field, and what it has by default.
+    fn read_field(
+        self,
+        alloc: Global,
+        todo: &mut Vec<Work>,
+        field: &ClassField<'t>,
+    ) -> Result<(), TextFault> {
+        let has_type = matches!(
+            field.kind,
+            FieldKind::Value(_) | FieldKind::Set | FieldKind::One | FieldKind::Many
+        );
+        if has_type && !field.is_of_field {
+            self.push(
+                todo,
+                Work::Type {
+                    from: field.from,
+                    end: field.end,
+                },
+            )?;
+        }
+        if let Some(start) = field.default {
+            self.read_setting(alloc, todo, field.kind, start)?;
+        }
+        Ok(())
+    }
+}

@@ -1,0 +1,210 @@
+//! The lexical items of a text, each bracket with its other.
+use crate::lexer::tokens_of;
+use crate::prefixes::mark_prefixes;
+use crate::token::{Kind, Sign, Token};
+use crate::wrong::{TextFault, Wrong};
+use std::alloc::Global;
+
+/// The lexical items of a text. An index past the end stands for no item.
+#[derive(Drop)]
+pub struct Tokens<'t> {
+    items: Vec<Token<'t>>,
+    /// Of an opening bracket the index of its other, else that of the item itself.
+    others: Vec<usize>,
+}
+
+/// The bracket that closes an opening one.
+fn closing(sign: Sign) -> Option<Sign> {
+    match sign {
+        Sign::LeftBrace => Some(Sign::RightBrace),
+        Sign::LeftParen => Some(Sign::RightParen),
+        Sign::LeftBracket => Some(Sign::RightBracket),
+        _ => None,
+    }
+}
+
+/// Whether the sign closes a bracket.
+fn is_closing(sign: Sign) -> bool {
+    matches!(
+        sign,
+        Sign::RightBrace | Sign::RightParen | Sign::RightBracket
+    )
+}
+
+/// A bracket that is open: the index of its item, and the sign that closes it.
+#[derive(Clone, Copy)]
+struct Open {
+    index: usize,
+    closing: Sign,
+}
+
+/// A bracket without its other, on this line.
+fn lone_bracket(line: u32) -> TextFault {
+    TextFault::At {
+        line,
+        wrong: Wrong::Bracket,
+    }
+}
+
+/// Takes a closing bracket: gives the innermost open one its index.
+fn close(
+    open: &mut Vec<Open>,
+    others: &mut Vec<usize>,
+    index: usize,
+    sign: Sign,
+    line: u32,
+) -> Result<(), TextFault> {
+    match open.pop() {
+        Some(last) if last.closing == sign => {
+            if let Some(other) = others.get_mut(last.index) {
+                *other = index;
+            }
+            Ok(())
+        }
+        _ => Err(lone_bracket(line)),
+    }
+}
+
+/// Of each item the index of its other bracket, or its own.
+fn others_of(alloc: Global, items: &[Token<'_>]) -> Result<Vec<usize>, TextFault> {
+    let mut others = Vec::new(alloc);
+    let mut open = Vec::new(alloc);
+    for (index, item) in items.iter().enumerate() {
+        others.push(index)?;
+        if let Kind::Sign(sign) = item.kind {
+            if let Some(closing) = closing(sign) {
+                open.push(Open { index, closing })?;
+            } else if is_closing(sign) {
+                close(&mut open, &mut others, index, sign, item.line)?;
+            }
+        }
+    }
+    match open.pop() {
+        None => Ok(others),
+        Some(last) => Err(lone_bracket(line_of(items, last.index))),
+    }
+}
+
+/// The line of an item; of the last one where there is none.
+fn line_of(items: &[Token<'_>], index: usize) -> u32 {
+    match items.get(index) {
+        Some(item) => item.line,
+        None => match items.last() {
+            Some(item) => item.line,
+            None => 1,
+        },
+    }
+}
+
+/// The index after this one.
+pub fn next(index: usize) -> usize {
+    index.saturating_add(1)
+}
+
+impl<'t> Tokens<'t> {
+    /// The lexical items of a text.
+    pub fn new(alloc: Global, text: &'t str) -> Result<Self, TextFault> {
+        let mut items = tokens_of(alloc, text)?;
+        let others = others_of(alloc, items.as_slice())?;
+        mark_prefixes(&mut items, others.as_slice());
+        Ok(Tokens { items, others })
+    }
+
+    pub fn len(&self) -> usize {
+        self.items.len()
+    }
+
+    /// The line of an item; past the end that of the last one.
+    pub fn line(&self, index: usize) -> u32 {
+        line_of(self.items.as_slice(), index)
+    }
+
+    /// The text of an item; past the end there is none.
+    pub fn text(&self, index: usize) -> &'t str {
+        match self.items.get(index) {
+            Some(item) => item.text,
+            None => "",
+        }
+    }
+
+    fn kind(&self, index: usize) -> Option<Kind> {
+        match self.items.get(index) {
+            Some(item) => Some(item.kind),
+            None => None,
+        }
+    }
+
+    /// Whether the item is this sign.
+    pub fn is(&self, index: usize, sign: Sign) -> bool {
+        match self.kind(index) {
+            Some(Kind::Sign(found)) => found == sign,
+            _ => false,
+        }
+    }
+
+    /// Whether the item is this word.
+    pub fn is_word(&self, index: usize, word: &str) -> bool {
+        match self.kind(index) {
+            Some(Kind::Word) => *self.text(index).as_bytes() == *word.as_bytes(),
+            _ => false,
+        }
+    }
+
+    /// Whether the item is of a kind that is no sign.
+    pub fn is_kind(&self, index: usize, kind: Kind) -> bool {
+        self.kind(index) == Some(kind)
+    }
+
+    /// Whether the item is a word that begins with a small letter.
+    pub fn is_identifier(&self, index: usize) -> bool {
+        self.is_kind(index, Kind::Word) && starts_small(self.text(index))
+    }
+
+    /// Whether the item is a word that begins with a capital.
+    pub fn is_capital(&self, index: usize) -> bool {
+        self.is_kind(index, Kind::Word) && !starts_small(self.text(index))
+    }
+
+    /// Whether a tag or an encoding prefix begins at `index`.
+    pub(crate) fn is_bracket(&self, index: usize) -> bool {
+        self.is(index, Sign::LeftBracket) || self.is(index, Sign::Prefix)
+    }
+
+    /// The index of the other bracket, where an opening one is at `index`; else `index`.
+    pub fn other(&self, index: usize) -> usize {
+        match self.others.get(index) {
+            Some(other) => *other,
+            None => index,
+        }
+    }
+
+    /// The index after an item, or after the group of brackets that it opens.
+    pub fn after(&self, index: usize) -> usize {
+        next(self.other(index))
+    }
+
+    /// A fault at an item: what should stand there.
+    pub fn expected(&self, index: usize, what: &'static str) -> TextFault {
+        TextFault::At {
+            line: self.line(index),
+            wrong: Wrong::Expected(what),
+        }
+    }
+
+    /// The index after this sign, which must stand at `index`.
+    pub fn past(&self, index: usize, sign: Sign, what: &'static str) -> Result<usize, TextFault> {
+        if self.is(index, sign) {
+            Ok(next(index))
+        } else {
+            Err(self.expected(index, what))
+        }
+    }
+}
+
+/// Whether the word begins with a small letter.
+fn starts_small(word: &str) -> bool {
+    match word.as_bytes().first() {
+        Some(first) => first.is_ascii_lowercase(),
+        None => false,
+    }
+}

@@ -1,0 +1,355 @@
+//! Reads types (X.680) with what they hold: tags, components, items, named numbers, parameters and constraints.
+use crate::extents::{Rest, rest_of, type_end};
+use crate::groups::{after_version, is_group};
+use crate::reading::{Reading, Work};
+use crate::token::Sign;
+use crate::tokens::{Tokens, next};
+use crate::value_forms::{after_named_number, has_named_numbers, has_tag};
+use crate::value_kinds::Values;
+use crate::value_steps::{Start, step_at};
+use crate::words::{is_reserved, is_type_word, second_word};
+use crate::wrong::TextFault;
+use std::alloc::Global;
+
+/// The index after the tags and encoding prefixes at `from`.
+fn after_read_tags(tokens: &Tokens<'_>, from: usize) -> Result<usize, TextFault> {
+    let mut at = from;
+    for _ in 0..tokens.len() {
+        if !tokens.is_bracket(at) {
+            break;
+        }
+        if !has_tag(tokens, at) {
+            return Err(tokens.expected(at, "a tag"));
+        }
+        at = tokens.after(at);
+        if tokens.is_word(at, "IMPLICIT") || tokens.is_word(at, "EXPLICIT") {
+            at = next(at);
+        }
+    }
+    Ok(at)
+}
+
+/// Reads named numbers or bits, where braces stand at `at`.
+fn read_names(tokens: &Tokens<'_>, at: usize) -> Result<(), TextFault> {
+    if !tokens.is(at, Sign::LeftBrace) || has_named_numbers(tokens, at) {
+        Ok(())
+    } else {
+        Err(tokens.expected(at, "named numbers"))
+    }
+}
+
+/// Reads ANY, with DEFINED BY and a name where they stand after it, or INSTANCE OF and the name of a class.
+fn read_old(tokens: &Tokens<'_>, at: usize) -> Result<(), TextFault> {
+    let second = next(at);
+    let third = next(second);
+    if tokens.is_word(at, "INSTANCE") {
+        if !tokens.is_word(second, "OF") {
+            return Err(tokens.expected(second, "OF"));
+        }
+        return if tokens.is_capital(third) {
+            Ok(())
+        } else {
+            Err(tokens.expected(third, "the name of a class"))
+        };
+    }
+    if !tokens.is_word(second, "DEFINED") {
+        return Ok(());
+    }
+    if tokens.is_word(third, "BY") && tokens.is_identifier(next(third)) {
+        Ok(())
+    } else {
+        Err(tokens.expected(third, "BY and the name of a component"))
+    }
+}
+
+/// The index after the name at `at`, with those that stand after it, as `Module.Name` or `Class.&Field`.
+pub(crate) fn after_names(tokens: &Tokens<'_>, from: usize) -> usize {
+    let mut at = next(from);
+    for _ in 0..tokens.len() {
+        if !tokens.is(at, Sign::Dot) {
+            break;
+        }
+        at = next(at);
+        if tokens.is(at, Sign::Ampersand) {
+            at = next(at);
+        }
+        at = next(at);
+    }
+    at
+}
+
+/// The index after an item of ENUMERATED at `at`.
+fn after_item(tokens: &Tokens<'_>, at: usize) -> Result<usize, TextFault> {
+    let behind = next(at);
+    let end = if !tokens.is_identifier(at) {
+        None
+    } else if tokens.is(behind, Sign::LeftParen) {
+        after_named_number(tokens, at)
+    } else {
+        Some(behind)
+    };
+    match end {
+        Some(end) => Ok(end),
+        None => Err(tokens.expected(at, "an item")),
+    }
+}
+
+impl<'a, 't> Reading<'a, 't> {
+    /// Asks for the type at `from`, and gives the index after it.
+    pub(crate) fn push_type(self, todo: &mut Vec<Work>, from: usize) -> Result<usize, TextFault> {
+        let end = type_end(self.tokens, from)?;
+        self.push(todo, Work::Type { from, end })?;
+        Ok(end)
+    }
+
+    /// Reads the type from `from` on, which ends before `end`.
+    pub(crate) fn read_type(
+        self,
+        alloc: Global,
+        todo: &mut Vec<Work>,
+        from: usize,
+        end: usize,
+    ) -> Result<(), TextFault> {
+        let mut at = from;
+        for _ in 0..self.tokens.len() {
+            at = after_read_tags(self.tokens, at)?;
+            match rest_of(self.tokens, at)? {
+                Rest::Type(inner) => {
+                    self.push_size(todo, at)?;
+                    at = inner;
+                }
+                Rest::Constraints(behind) => {
+                    self.push_constraints(todo, behind, end)?;
+                    return self.read_words(alloc, todo, at);
+                }
+            }
+        }
+        Err(self.tokens.expected(at, "a type"))
+    }
+
+    /// Asks for the size of the list whose first word stands at `at`.
+    fn push_size(self, todo: &mut Vec<Work>, at: usize) -> Result<(), TextFault> {
+        let second = next(at);
+        let open = if self.tokens.is_word(second, "SIZE") {
+            next(second)
+        } else {
+            second
+        };
+        self.push_constraints(todo, open, next(open))
+    }
+
+    /// Asks for the constraints in parentheses from `from` on, which begin before `end`.
+    fn push_constraints(
+        self,
+        todo: &mut Vec<Work>,
+        from: usize,
+        end: usize,
+    ) -> Result<(), TextFault> {
+        let mut open = from;
+        for _ in 0..self.tokens.len() {
+            if open >= end || !self.tokens.is(open, Sign::LeftParen) {
+                break;
+            }
+            self.push(todo, Work::Elements { open })?;
+            open = self.tokens.after(open);
+        }
+        Ok(())
+    }
+
+    /// Reads the words with which the type at `at` begins, after its tags, and what stands in braces after them.
+    fn read_words(self, alloc: Global, todo: &mut Vec<Work>, at: usize) -> Result<(), TextFault> {
+        let tokens = self.tokens;
+        let second = next(at);
+        let word = tokens.text(at);
+        match word {
+            "SEQUENCE" | "SET" | "CHOICE" => self.push(
+                todo,
+                Work::Members {
+                    from: next(second),
+                    end: tokens.other(second),
+                    is_choice: word == "CHOICE",
+                    marks: 0,
+                },
+            ),
+            "ENUMERATED" => self.read_items(alloc, todo, second),
+            "INTEGER" => read_names(tokens, second),
+            "BIT" if tokens.is_word(second, "STRING") => read_names(tokens, next(second)),
+            "BIT" => Err(tokens.expected(second, "STRING")),
+            "ANY" | "INSTANCE" => read_old(tokens, at),
+            _ => self.read_name(todo, at),
+        }
+    }
+
+    /// Reads the name of a type, or the words of one that has nothing in braces, at `at`.
+    fn read_name(self, todo: &mut Vec<Work>, at: usize) -> Result<(), TextFault> {
+        let tokens = self.tokens;
+        let word = tokens.text(at);
+        if let Some((wanted, _)) = second_word(word) {
+            return if tokens.is_word(next(at), wanted) {
+                Ok(())
+            } else {
+                Err(tokens.expected(next(at), wanted))
+            };
+        }
+        if is_reserved(word) && !is_type_word(word) {
+            return Err(tokens.expected(at, "a type"));
+        }
+        let braces = after_names(tokens, at);
+        if tokens.is(braces, Sign::LeftBrace) {
+            return self.push(todo, Work::Actual { at, braces });
+        }
+        Ok(())
+    }
+
+    /// Reads components or alternatives, after this many extension marks; in a group there are none.
+    pub(crate) fn read_members(
+        self,
+        alloc: Global,
+        todo: &mut Vec<Work>,
+        place: (usize, usize),
+        is_choice: bool,
+        marks: u32,
+    ) -> Result<(), TextFault> {
+        let tokens = self.tokens;
+        let (mut at, end) = place;
+        let mut marks = marks;
+        for _ in 0..tokens.len() {
+            if at >= end {
+                break;
+            }
+            if tokens.is(at, Sign::Dots) {
+                marks = marks.saturating_add(1);
+            }
+            if marks > 2 || is_group(tokens, at) && marks != 1 {
+                return Err(tokens.expected(at, "a component"));
+            }
+            at = self.read_member(alloc, todo, at, is_choice)?;
+            if at < end {
+                at = tokens.past(at, Sign::Comma, ", or }")?;
+                if at >= end {
+                    return Err(tokens.expected(at, "a component"));
+                }
+            }
+        }
+        Ok(())
+    }
+
+    /// Reads the component, the alternative, the mark or the group at `at`, and gives the index after it.
+    fn read_member(
+        self,
+        alloc: Global,
+        todo: &mut Vec<Work>,
+        at: usize,
+        is_choice: bool,
+    ) -> Result<usize, TextFault> {
+        let tokens = self.tokens;
+        let second = next(at);
+        if tokens.is(at, Sign::Dots) {
+            return self.read_exception(alloc, todo, second);
+        }
+        if is_group(tokens, at) {
+            return self.push_group(todo, at, is_choice);
+        }
+        if tokens.is_word(at, "COMPONENTS") {
+            return if tokens.is_word(second, "OF") {
+                self.push_type(todo, next(second))
+            } else {
+                Err(tokens.expected(second, "OF"))
+            };
+        }
+        if !tokens.is_identifier(at) {
+            return Err(tokens.expected(at, "an identifier"));
+        }
+        let behind = self.push_type(todo, second)?;
+        if is_choice {
+            Ok(behind)
+        } else {
+            self.read_need(alloc, todo, second, behind)
+        }
+    }
+
+    /// Asks for what the group at `at` holds, and gives the index after it.
+    fn push_group(
+        self,
+        todo: &mut Vec<Work>,
+        at: usize,
+        is_choice: bool,
+    ) -> Result<usize, TextFault> {
+        let inner = next(at);
+        let end = self.tokens.other(inner);
+        if next(end) != self.tokens.other(at) {
+            return Err(self.tokens.expected(next(end), "]]"));
+        }
+        self.push(
+            todo,
+            Work::Members {
+                from: after_version(self.tokens, next(inner)),
+                end,
+                is_choice,
+                marks: 2,
+            },
+        )?;
+        Ok(next(next(end)))
+    }
+
+    /// Reads whether the component may be absent whose type begins at `start` and ends before `at`, and gives the index
+    /// after that.
+    fn read_need(
+        self,
+        alloc: Global,
+        todo: &mut Vec<Work>,
+        start: usize,
+        at: usize,
+    ) -> Result<usize, TextFault> {
+        if self.tokens.is_word(at, "OPTIONAL") {
+            return Ok(next(at));
+        }
+        if !self.tokens.is_word(at, "DEFAULT") {
+            return Ok(at);
+        }
+        let values = self.world.values_at(self.module, start, self.is_plain);
+        self.read_value(alloc, todo, next(at), values)
+    }
+
+    /// Reads an exception, as `! 5` or `! Type : value`, where it stands at `at`, and gives the index after it.
+    pub(crate) fn read_exception(
+        self,
+        alloc: Global,
+        todo: &mut Vec<Work>,
+        at: usize,
+    ) -> Result<usize, TextFault> {
+        if !self.tokens.is(at, Sign::Bang) {
+            return Ok(at);
+        }
+        let start = step_at(self.tokens, next(at))?.start;
+        if matches!(start, Start::Number | Start::Name | Start::Open) {
+            self.read_value(alloc, todo, next(at), Values::Any)
+        } else {
+            Err(self.tokens.expected(next(at), "an exception"))
+        }
+    }
+
+    /// Reads the items of ENUMERATED, in the braces at `braces`.
+    fn read_items(
+        self,
+        alloc: Global,
+        todo: &mut Vec<Work>,
+        braces: usize,
+    ) -> Result<(), TextFault> {
+        let tokens = self.tokens;
+        let end = tokens.other(braces);
+        let mut at = next(braces);
+        for _ in 0..tokens.len() {
+            at = if tokens.is(at, Sign::Dots) {
+                self.read_exception(alloc, todo, next(at))?
+            } else {
+                after_item(tokens, at)?
+            };
+            if at >= end {
+                break;
+            }
+            at = tokens.past(at, Sign::Comma, ", or }")?;
+        }
+        Ok(())
+    }
+}

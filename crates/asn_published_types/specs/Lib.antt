@@ -1,0 +1,4 @@
+pub mod Numbers
+pub mod Left
+pub mod Statuses
+pub mod Words

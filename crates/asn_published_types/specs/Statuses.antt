@@ -1,0 +1,42 @@
+-- What a remark makes of its type, and how far a status is from the same.
+use Rattle.std.specs.Prelude.{ℕ, List, codes}
+use Rattle.asn_published_types.specs.declared.report.Status.{Status}
+use Rattle.asn_published_types.specs.declared.report.Status.TheVariants as status
+use Rattle.asn_published_types.specs.declared.report.Remark.{Remark}
+use Rattle.asn_published_types.specs.declared.report.Remark.TheVariants as remark
+
+-- others are taken too
+abbrev pub status_of : Remark → Status
+status_of remark.Gap = status.Wider
+status_of remark.Dropped = status.Wider
+status_of remark.Default = status.Wider
+status_of remark.SizeToMax = status.Wider
+status_of remark.Characters = status.Wider
+status_of remark.Time = status.Wider
+status_of remark.OpenType = status.Wider
+status_of remark.Level = status.Wider
+status_of (remark.Content what) = status.Wider
+-- the writer keeps a rule
+status_of remark.TrimmedBits = status.Owed
+status_of remark.EmptyGroup = status.Owed
+-- OER has other encodings
+status_of remark.OerTags = status.PerOnly
+status_of remark.OerItems = status.PerOnly
+status_of remark.Real = status.PerOnly
+status_of (remark.Holds s) = s
+status_of (remark.Refused why) = status.Refused
+
+abbrev pub distance : Status → ℕ
+distance status.Same = 0
+distance status.Wider = 1
+distance status.Owed = 2
+distance status.PerOnly = 3
+distance status.Refused = 4
+
+-- the word for a status
+abbrev pub word_of : Status → List ℕ
+word_of status.Same = codes "same"
+word_of status.Wider = codes "wider"
+word_of status.Owed = codes "owed"
+word_of status.PerOnly = codes "per only"
+word_of status.Refused = codes "refused"

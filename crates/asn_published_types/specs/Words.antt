@@ -1,0 +1,25 @@
+-- What is said of a component in words.
+use Rattle.std.specs.Prelude.{◌++◌, ℕ, List, codes}
+use Rattle.asn_published_read.specs.Words.{reason_of}
+use Rattle.asn_published_types.specs.Statuses.{word_of}
+use Rattle.asn_published_types.specs.declared.report.Remark.{Remark}
+use Rattle.asn_published_types.specs.declared.report.Remark.TheVariants as remark
+
+-- what is to be said
+abbrev pub words_of : Remark → List ℕ
+words_of remark.Gap = codes "numbers between the ranges are taken too"
+words_of remark.Dropped = codes "a constraint is not looked at"
+words_of remark.Default = codes "the default may be written out"
+words_of remark.SizeToMax = codes "sizes have no highest"
+words_of remark.Characters = codes "other characters are taken too"
+words_of remark.Time = codes "the time is not looked at"
+words_of remark.OpenType = codes "the value of the open type is not looked at"
+words_of (remark.Content what) = codes "the " ++ (what.now ++ codes " is not looked at")
+words_of remark.Real = codes "the REAL is not looked at, and OER may have no length"
+words_of remark.TrimmedBits = codes "last zeros of named bits: the writer trims them"
+words_of remark.EmptyGroup = codes "a group without components is absent: the writer leaves it out"
+words_of remark.OerTags = codes "OER tells the alternatives apart by other tags"
+words_of remark.OerItems = codes "OER writes other numbers for additional items"
+words_of remark.Level = codes "recursion ends in NULL"
+words_of (remark.Holds s) = codes "holds a type that is " ++ word_of s
+words_of (remark.Refused reason) = reason_of reason

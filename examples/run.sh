@@ -8,6 +8,7 @@
 # Of each module NAME.asn there are values as JSON (NAME.values), what `show` makes of them (NAME.json), and their octets
 # in PER and OER (NAME.per, NAME.oer), a line a message. The octets were worked out by reference.py. Of the two versions of
 # a module, meter-1.asn and meter-2.asn, there is what each reads of the messages of the other (meter-1.reads-per and so on).
+# cam.pretty is what `show --pretty --order declared` writes of cam.per, and signalling.counts what `check --stats` tells of signalling.per.
 set -euo pipefail
 program=${1:+$(realpath "$1")}
 cd "$(dirname "$0")"
@@ -56,7 +57,16 @@ if [ -n "$program" ]; then
       expect "meter-$version" Report newer "$rules" "meter-$other.$rules" "meter-$version.reads-$rules"
     done
   done
-  echo "examples: each order on four modules, and newer on two versions of one, in both encoding rules"
+  # octets in other forms: what encode writes in a form is read in it, and from a file
+  for form in hex base64 binary; do
+    "$program" encode --type Message --rules per --module cam.asn --out "$form" <cam.values >"$work/$form"
+    split=$([ "$form" = binary ] && echo --split || true)
+    "$program" show --type Message --rules per --module cam.asn --in "$form" $split --messages "$work/$form" | cmp - cam.json || fail "show --in $form"
+  done
+  # the layouts of JSON, and what is counted
+  "$program" show --type Message --rules per --module cam.asn --pretty --order declared <cam.per | cmp - cam.pretty || fail "show --pretty"
+  "$program" check --type Message --rules per --module signalling.asn --stats <signalling.per 2>&1 >"$work/counts" | cmp - signalling.counts || fail "check --stats"
+  echo "examples: each order on four modules, newer on two versions of one, in both encoding rules; the forms of octets, layouts and counts"
   ./faults.sh "$program"
   exit
 fi

@@ -34,9 +34,13 @@ completes 'summary text json' flatten --report ''
 completes 'at' show --module a
 completes '--strict' flatten --s
 completes '--explain' show --type Msg --exp
+completes 'hex hex-block base64 binary' show --in ''
+completes 'hex base64 binary' encode --out ''
+completes 'name declared' show --order ''
+completes 'at' check --messages a
 
 page=$folder/at/share/man/man1/asn_tool.1
-for word in flatten module show check encode convert newer '\-\-type' '\-\-rules' '\-\-module' '\-\-report' '\-\-levels' '\-\-explain'; do
+for word in flatten module show check encode convert newer '\-\-type' '\-\-rules' '\-\-module' '\-\-report' '\-\-levels' '\-\-explain' '\-\-messages' '\-\-in' '\-\-out' '\-\-split' '\-\-pretty' '\-\-order' '\-\-stats'; do
     if grep -qF -- "$word" "$page"; then
         passed=$((passed + 1))
     else

@@ -1,14 +1,15 @@
 -- What clap's getters give, as the rows of the matches have it.
 use Rattle.std.proofs.Common.{◌≡◌, ◌∙◌, ap, refl, ℕ, true, false, Bool, List, [], codes, Option, Some, None}
-use Rattle.std.specs.Prelude.{Result, Ok, Err, unwrap_or}
+use Rattle.std.specs.Prelude.{Result, Ok, Err, option_map, unwrap_or}
 use Rattle.std.specs.Option.{option_map_or}
 use Rattle.std.specs.Str.Parse.{ParsesUnsigned}
 use Rattle.clap.specs.Words.{ReadsOne, Row, Text, all_of, first_of, found_of, one_text, rows_of}
 use Rattle.clap.specs.declared.parser.matches.Found.{Found}
 use Rattle.clap.proofs.WalkLemmas.{one_text-rows}
+use Rattle.asn_octet_forms.specs.declared.texts.OctetForm.{OctetForm}
 use Rattle.asn_tool.specs.declared.request.Form.{Form}
 use Rattle.asn_tool.specs.declared.request.Form.TheVariants as form
-use Rattle.asn_tool.specs.Request.{AreLevels, IsFlag, Reads, files_of, form_in, form_of}
+use Rattle.asn_tool.specs.Request.{AreLevels, IsFlag, Reads, files_of, form_in, form_of, is_declared, is_declared_in, octet_form_in, octet_form_of}
 
 -- the values of an argument, and none
 pub some_files : (id : Text) (rows : List Row) (values : List Text) → Some values ≡ all_of id rows → values ≡ files_of id rows
@@ -36,3 +37,15 @@ some_form rows name f e is = is ∙ ap (λ o. option_map_or form_of o form.Summa
 
 pub no_form : (rows : List Row) → None ≡ first_of (codes "report") rows → form.Summary ≡ form_in rows
 no_form rows e = ap (λ o. option_map_or form_of o form.Summary) e
+
+pub some_octets : (id : Text) (rows : List Row) (name : Text) (f : OctetForm) → Some name ≡ first_of id rows → f ≡ octet_form_of name → Some f ≡ octet_form_in id rows
+some_octets id rows name f e is = ap Some is ∙ ap (option_map octet_form_of) e
+
+pub no_octets : (id : Text) (rows : List Row) → None ≡ first_of id rows → None ≡ octet_form_in id rows
+no_octets id rows e = ap (option_map octet_form_of) e
+
+pub some_order : (rows : List Row) (name : Text) (b : Bool) → Some name ≡ first_of (codes "order") rows → b ≡ is_declared name → b ≡ is_declared_in rows
+some_order rows name b e is = is ∙ ap (λ o. option_map_or is_declared o false) e
+
+pub no_order : (rows : List Row) → None ≡ first_of (codes "order") rows → false ≡ is_declared_in rows
+no_order rows e = ap (λ o. option_map_or is_declared o false) e

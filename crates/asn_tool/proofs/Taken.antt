@@ -1,6 +1,6 @@
 -- What clap takes as words of the command: the subcommand `flatten` or `module`, or an order with its two options.
-use Rattle.std.proofs.Common.{◌≡◌, ◌<◌, ◌∙◌, ◌⊎◌, ◌∷◌, ◌++◌, ◌||◌, ap, sym, subst, refl, arith, inl, inr, true, false, not, true≢false, Bool, cond, codes, map, List, [], Option, Some, None, ℕ}
-use Rattle.std.specs.Prelude.{find, slice_get, slice_index_or, option_and_then, option_map}
+use Rattle.std.proofs.Common.{◌≡◌, ◌∙◌, ◌⊎◌, ◌∷◌, ◌++◌, ◌&&◌, ◌||◌, ap, sym, subst, refl, inl, inr, true, false, not, true≢false, Bool, cond, codes, map, List, [], Option, Some, None, ℕ}
+use Rattle.std.specs.Prelude.{drop, find, slice_get, option_and_then, option_map}
 use Rattle.std.specs.Borrow.{Bor}
 use Rattle.std.specs.List.{list_all, list_any}
 use Rattle.std.specs.Option.{is_some, option_map_or}
@@ -9,13 +9,16 @@ use Rattle.std.proofs.lemmas.Slice.Eq.{bytes_eq-Decides}
 use Rattle.clap.specs.Kinds.{Kinds, check_kinds, value_kinds}
 use Rattle.clap.specs.Simple.{App, Shape, built, built_leaf, entered, help_shape, inherited, is_ready_leaf, is_simple, is_simple_leaf, label_of, names_of, rows_at, subcommand_of}
 use Rattle.clap.specs.Takes.{is_given}
-use Rattle.clap.specs.Walk.{Row, Rule, Text, answers_to, nothing_held, rows_after, walk, walk_from}
+use Rattle.clap.specs.Walk.{Row, Rule, Text, action_of, answers_to, nothing_held, rows_after, walk, walk_from}
 use Rattle.clap.specs.Faults.{check_fault, entered_fault, fault_of, has_free_rules, is_free_app, is_simple_and_free, level_fault}
+use Rattle.clap.specs.declared.builder.action.ArgAction.{ArgAction}
+use Rattle.clap.specs.declared.builder.action.ArgAction.TheVariants.{Append, Count, Help, HelpLong, HelpShort, Set, SetFalse, SetTrue, Version}
 use Rattle.clap.specs.declared.builder.value_parser.ValueParser.{ValueParser}
 use Rattle.clap.specs.declared.builder.value_parser.ValueParser.TheVariants.{Names}
+use Rattle.clap.specs.declared.builder.value_parser.Reading.{Reading}
 use Rattle.clap.specs.declared.error.kind.ErrorKind.TheVariants as kind
 use Rattle.clap.proofs.WalkLemmas.{list_any-map}
-use Rattle.asn_tool.specs.Command.{AreOrders, HasOptions, IsOneOf, IsTaken, IsTool, TakesNames, flatten_app, module_shape, order_names, order_shape, rule_names, tool}
+use Rattle.asn_tool.specs.Command.{AreOrders, HasOptions, IsOneOf, IsTaken, IsTool, Parsers, TakeNames, TakesNames, flatten_app, module_shape, order_names, order_shape, rule_names, tool}
 use Rattle.asn_tool.proofs.SetOptions.{Each, IsDefaulted, IsOption, check_passes, default_row, found, given_row, level_good, no_kind, none_first, none_next, set_row}
 use Rattle.asn_tool.proofs.NotHelp.{StopsElsewhere, walk_stops}
 
@@ -23,7 +26,7 @@ use Rattle.asn_tool.proofs.NotHelp.{StopsElsewhere, walk_stops}
 abbrev above : Shape
 above = record (tool None []).top { is_built = true }
 
-abbrev built_order : Text → Option ValueParser → Shape
+abbrev built_order : Text → Parsers → Shape
 built_order name p = built_leaf (inherited above (order_shape name p))
 
 abbrev built_subs : List Shape → List Shape
@@ -31,7 +34,7 @@ built_subs shapes = map built_leaf (map (inherited above) shapes ++ help_shape �
 
 -- ---- the command is a simple one
 
-each_leaf : (f : Shape → Bool) → f (built_leaf help_shape) ≡ true → ((name : Text) (p : Option ValueParser) → f (built_order name p) ≡ true)
+each_leaf : (f : Shape → Bool) → f (built_leaf help_shape) ≡ true → ((name : Text) (p : Parsers) → f (built_order name p) ≡ true)
     → (names : List Text) (shapes : List Shape) → AreOrders names shapes → list_all f (built_subs shapes) ≡ true
 each_leaf f help order [] [] are = rw help refl
 each_leaf f help order [] (s ∷ shapes) are = absurd are
@@ -65,25 +68,91 @@ abbrev HasValue : Bor (List (Bor (List ℕ))) → Row → Type 0
 HasValue names r = (r.id ≡ codes "type" → ((t : Text) × (slice_get r.values 0 ≡ Some t)))
     × (r.id ≡ codes "rules" → ((t : Text) × (slice_get r.values 0 ≡ Some t) × (value_kinds false (Names names) t ≡ [])))
 
-abbrev leaf_rules : Bor (List (Bor (List ℕ))) → List Rule
-leaf_rules names = (built_order (codes "show") (Some (Names names))).rules
+-- the parser of the option `rules` takes these names
+abbrev with_names : Parsers → Bor (List (Bor (List ℕ))) → Parsers
+with_names p names = record p { rules = Some (Names names) }
 
--- the first letter of an id
-abbrev first : Text → ℕ
-first id = slice_index_or id 0 0
+abbrev leaf_rules : Parsers → Bor (List (Bor (List ℕ))) → List Rule
+leaf_rules p names = (built_order (codes "show") (with_names p names)).rules
+
+-- ids that differ
+apart : (a b : Text) → bytes_eq a b ≡ false → a ≡ b → ⊥
+apart a b differ e = true≢false (sym ((bytes_eq-Decides a b).1 e) ∙ differ)
 
 -- a row of another option has what is said of these two
-other : (names : Bor (List (Bor (List ℕ)))) (r : Row) → (first r.id ≡ 116 → ⊥) → (first r.id ≡ 114 → ⊥) → HasValue names r
-other names r no_type no_rules = ((λ e. absurd (no_type (ap first e))), (λ e. absurd (no_rules (ap first e))))
+other : (names : Bor (List (Bor (List ℕ)))) (r : Row) → bytes_eq r.id (codes "type") ≡ false → bytes_eq r.id (codes "rules") ≡ false → HasValue names r
+other names r no_type no_rules = (
+  (λ e. absurd (apart r.id (codes "type") no_type e)),
+  (λ e. absurd (apart r.id (codes "rules") no_rules e)),
+)
 
-letters : (x : ℕ) → x < 114 → ((x ≡ 116 → ⊥) × (x ≡ 114 → ⊥))
-letters x below = ((λ e. absurd (omega arith)), (λ e. absurd (omega arith)))
+-- whether an option is set, with values or without, or asks for help
+abbrev is_set_or_help : ArgAction → Bool
+is_set_or_help Set = true
+is_set_or_help SetTrue = true
+is_set_or_help Help = true
+is_set_or_help _ = false
 
-leaf_options : (names : Bor (List (Bor (List ℕ)))) → Each (IsOption (HasValue names)) (leaf_rules names)
-leaf_options names = (inr (inl (refl, refl, λ how v vs ok. ((λ e. (v, refl)), (λ e. let bad : ◌≡◌ {A = ℕ} 116 114 = ap first e in absurd (omega arith))))), (inr (inl (refl, refl, λ how v vs ok. ((λ e. let bad : ◌≡◌ {A = ℕ} 114 116 = ap first e in absurd (omega arith)), (λ e. (v, refl, ok))))), (inr (inr (inl refl, (λ how values. other names (set_row (codes "module") how values) (letters 109 (omega arith)).0 (letters 109 (omega arith)).1))), (inr (inr (inr refl, (λ how values. other names (set_row (codes "explain") how values) (letters 101 (omega arith)).0 (letters 101 (omega arith)).1))), (inr (inr (inr refl, (λ how values. other names (set_row (codes "plain-bits") how values) (letters 112 (omega arith)).0 (letters 112 (omega arith)).1))), (inr (inr (inr refl, (λ how values. other names (set_row (codes "octets") how values) (letters 111 (omega arith)).0 (letters 111 (omega arith)).1))), (inr (inr (inl refl, (λ how values. other names (set_row (codes "levels") how values) (letters 108 (omega arith)).0 (letters 108 (omega arith)).1))), (inl refl, tt))))))))
+-- whether an option is such a one, and another than `type` and `rules`
+abbrev is_other : Rule → Bool
+is_other a = is_set_or_help (action_of a) && (not (bytes_eq a.id (codes "type")) && not (bytes_eq a.id (codes "rules")))
 
-leaf_defaults : (names : Bor (List (Bor (List ℕ)))) → Each (IsDefaulted (HasValue names)) (leaf_rules names)
-leaf_defaults names = (inl refl, (inl refl, (inl refl, (inr (λ how values. other names (default_row (codes "explain") how values) (letters 101 (omega arith)).0 (letters 101 (omega arith)).1), (inr (λ how values. other names (default_row (codes "plain-bits") how values) (letters 112 (omega arith)).0 (letters 112 (omega arith)).1), (inr (λ how values. other names (default_row (codes "octets") how values) (letters 111 (omega arith)).0 (letters 111 (omega arith)).1), (inl refl, (inl refl, tt))))))))
+both : (a b : Bool) → (a && b) ≡ true → (a ≡ true) × (b ≡ true)
+both true true e = (refl, refl)
+both true false e = absurd (true≢false (sym e))
+both false b e = absurd (true≢false (sym e))
+
+is_not : (b : Bool) → not b ≡ true → b ≡ false
+is_not true e = absurd (true≢false (sym e))
+is_not false e = refl
+
+module _ (names : Bor (List (Bor (List ℕ)))) where
+  other_row : (a : Rule) → is_other a ≡ true → (r : Row) → r.id ≡ a.id → HasValue names r
+  other_row a is r same =
+      let ids = both _ _ (both (is_set_or_help (action_of a)) _ is).1 in
+      other names r (subst (λ i. bytes_eq i (codes "type") ≡ false) (sym same) (is_not _ ids.0))
+      (subst (λ i. bytes_eq i (codes "rules") ≡ false) (sym same) (is_not _ ids.1))
+
+  other_option : (a : Rule) → is_other a ≡ true → IsOption (HasValue names) a
+  other_option a is = go (action_of a) refl (both (is_set_or_help (action_of a)) _ is).0
+    where
+      rows : (how : Reading) (values : List Text) → HasValue names (set_row a.id how values)
+      rows how values = other_row a is (set_row a.id how values) refl
+
+      go : (x : ArgAction) → action_of a ≡ x → is_set_or_help x ≡ true → IsOption (HasValue names) a
+      go Set e s = inr (inr (inl e, rows))
+      go SetTrue e s = inr (inr (inr e, rows))
+      go Help e s = inl e
+      go Append e s = absurd (true≢false (sym s))
+      go SetFalse e s = absurd (true≢false (sym s))
+      go Count e s = absurd (true≢false (sym s))
+      go HelpShort e s = absurd (true≢false (sym s))
+      go HelpLong e s = absurd (true≢false (sym s))
+      go Version e s = absurd (true≢false (sym s))
+
+  -- options of which each is another
+  other_options : (rules : List Rule) → list_all is_other rules ≡ true → Each (IsOption (HasValue names)) rules
+  other_options [] is = tt
+  other_options (a ∷ rules) is = let parts = both (is_other a) _ is in (other_option a parts.0, other_options rules parts.1)
+
+  other_defaults : (rules : List Rule) → list_all is_other rules ≡ true → Each (IsDefaulted (HasValue names)) rules
+  other_defaults [] is = tt
+  other_defaults (a ∷ rules) is =
+      let parts = both (is_other a) _ is in
+      (inr (λ how values. other_row a parts.0 (default_row a.id how values) refl), other_defaults rules parts.1)
+
+-- the two that are required, and the others
+leaf_options : (p : Parsers) (names : Bor (List (Bor (List ℕ)))) → Each (IsOption (HasValue names)) (leaf_rules p names)
+leaf_options p names = (
+  inr (inl (refl, refl, λ how v vs ok. ((λ e. (v, refl)), (λ e. absurd (apart (codes "type") (codes "rules") refl e))))),
+  (
+    inr (inl (refl, refl, λ how v vs ok. ((λ e. absurd (apart (codes "rules") (codes "type") refl e)), (λ e. (v, refl, ok))))),
+    other_options names (drop 2 (leaf_rules p names)) refl,
+  ),
+)
+
+leaf_defaults : (p : Parsers) (names : Bor (List (Bor (List ℕ)))) → Each (IsDefaulted (HasValue names)) (leaf_rules p names)
+leaf_defaults p names = (inl refl, (inl refl, other_defaults names (drop 2 (leaf_rules p names)) refl))
 
 both_given : (b c : Bool) → (not b || (not c || false)) ≡ false → (b ≡ true) × (c ≡ true)
 both_given true true e = (refl, refl)
@@ -111,14 +180,14 @@ is_rules names t are e =
     let any : list_any (λ name. bytes_eq name.now t) names.now ≡ true = accepted _ [] e in
     one_of_two t (ap (list_any (λ n. bytes_eq n t)) (sym are) ∙ (sym (list_any-map (λ n. bytes_eq n t) (λ name. name.now) names.now) ∙ any))
 
-module _ (names : Bor (List (Bor (List ℕ)))) (are : map (λ name. name.now) names.now ≡ rule_names) (name : Text) (named : IsOneOf name order_names) where
-  has_options : (words : List Text) → level_fault (built_order name (Some (Names names))) [] nothing_held words false [] ≡ []
-      → HasOptions (rows_at (built_order name (Some (Names names))) words)
+module _ (p : Parsers) (names : Bor (List (Bor (List ℕ)))) (are : map (λ name. name.now) names.now ≡ rule_names) (name : Text) (named : IsOneOf name order_names) where
+  has_options : (words : List Text) → level_fault (built_order name (with_names p names)) [] nothing_held words false [] ≡ []
+      → HasOptions (rows_at (built_order name (with_names p names)) words)
   has_options words e =
-      let s = built_order name (Some (Names names)) in
+      let s = built_order name (with_names p names) in
       let rows = rows_after s.rules [] words in
       let all : Each (HasValue names) rows =
-      level_good (HasValue names) (leaf_rules names) (leaf_options names) s [] refl refl (λ i. refl) words false [] (leaf_defaults names) e in
+      level_good (HasValue names) (leaf_rules p names) (leaf_options p names) s [] refl refl (λ i. refl) words false [] (leaf_defaults p names) e in
       let given = both_given (is_given (codes "type") rows) (is_given (codes "rules") rows) (last_kind _ (check_passes s [] words false [] e)) in
       let type = given_row (HasValue names) (codes "type") rows all given.0 in
       let rules = given_row (HasValue names) (codes "rules") rows all given.1 in
@@ -137,7 +206,7 @@ module _ (names : Bor (List (Bor (List ℕ)))) (are : map (λ name. name.now) na
 
 abbrev IsBuilt : Shape → Type 0
 IsBuilt s = (s.name ≡ codes "flatten") ⊎ ((s.name ≡ codes "module") ⊎ ((label_of s ≡ (codes "help", []))
-    ⊎ ((name : Text) × IsOneOf name order_names × ((p : Option ValueParser) × TakesNames rule_names p × (s ≡ built_order name p)))))
+    ⊎ ((name : Text) × IsOneOf name order_names × ((p : Parsers) × TakeNames p × (s ≡ built_order name p)))))
 
 each_sub : (names : List Text) (shapes : List Shape) → ((name : Text) → IsOneOf name names → IsOneOf name order_names) → AreOrders names shapes → Each IsBuilt (built_subs shapes)
 each_sub [] [] known are = (inr (inr (inl refl)), tt)
@@ -172,10 +241,11 @@ module _ (report : Option ValueParser) (shapes : List Shape) (are : AreOrders or
       same = let is : codes "help" ≡ p.0 = (bytes_eq-Decides (codes "help") p.0).0 (or_nothing _ (subst (λ l. answers_to p.0 l ≡ true) help answers)) in
           subst (λ t. bytes_eq t (codes "help") ≡ true) is refl
   taken_sub s p elsewhere (inr (inr (inr order))) answers passed =
-      let names = order.2.1.0 in
-      let is : s ≡ built_order order.0 (Some (Names names)) = order.2.2 ∙ ap (built_order order.0) order.2.1.1 in
+      let parsers = order.2.0 in
+      let names = order.2.1.0.0 in
+      let is : s ≡ built_order order.0 (with_names parsers names) = order.2.2 ∙ ap (λ r. built_order order.0 (record parsers { rules = r })) order.2.1.0.1 in
       inr (inr (subst (λ x. HasOptions (rows_at x p.1)) (sym is)
-      (has_options names order.2.1.2 order.0 order.1 p.1 (subst (λ x. level_fault x [] nothing_held p.1 false [] ≡ []) is passed))))
+      (has_options parsers names order.2.1.0.2 order.0 order.1 p.1 (subst (λ x. level_fault x [] nothing_held p.1 false [] ≡ []) is passed))))
 
   taken_tool : IsTaken (subcommand_of (tool report shapes) words)
   taken_tool = go (walk whole.top.rules (names_of whole) nothing_held words).stopped stops e

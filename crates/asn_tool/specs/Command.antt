@@ -1,5 +1,5 @@
 -- The command of the program, as clap's own words state it, and what it takes.
-use Rattle.std.specs.Prelude.{◌≡◌, ◌⊎◌, ℕ, pos, true, false, List, [], ◌∷◌, ◌++◌, codes, map, Option, Some, None, ⊤}
+use Rattle.std.specs.Prelude.{◌≡◌, ◌⊎◌, ℕ, pos, true, false, List, [], ◌∷◌, ◌++◌, codes, fold, map, Option, Some, None, ⊤}
 use Rattle.std.specs.Borrow.{Bor}
 use Rattle.clap.specs.Lexer.{usize_max}
 use Rattle.clap.specs.Words.{App, Shape, Rule, Row, Text, new_app, new_rule, with_rule, first_of}
@@ -18,6 +18,17 @@ rule_names = codes "per" ∷ codes "oer" ∷ []
 abbrev pub report_names : List Text
 report_names = codes "summary" ∷ codes "text" ∷ codes "json" ∷ []
 
+-- the forms of octets that are given, and of those that are written
+abbrev pub given_names : List Text
+given_names = codes "hex" ∷ codes "hex-block" ∷ codes "base64" ∷ codes "binary" ∷ []
+
+abbrev pub written_names : List Text
+written_names = codes "hex" ∷ codes "base64" ∷ codes "binary" ∷ []
+
+-- the orders of the members of JSON
+abbrev pub member_names : List Text
+member_names = codes "name" ∷ codes "declared" ∷ []
+
 -- the parser takes these names
 abbrev pub TakesNames : List Text → Option ValueParser → Type 0
 TakesNames words p = (names : Bor (List (Bor (List ℕ)))) × (p ≡ Some (Names names))
@@ -35,6 +46,14 @@ option_rule name = record (new_rule name) { long = Some name; action = Some Set;
 abbrev pub needed_rule : Text → Rule
 needed_rule name = record (option_rule name) { required = true }
 
+-- one whose value is one of some names
+abbrev pub names_rule : Text → Option ValueParser → Rule
+names_rule name p = record (option_rule name) { parser = p }
+
+-- one with one value and more, which are files
+abbrev pub files_rule : Text → Rule
+files_rule name = record (option_rule name) { range = Some some_values }
+
 -- an option without a value
 abbrev pub flag_rule : Text → Rule
 flag_rule name = record (new_rule name) { long = Some name; action = Some SetTrue }
@@ -45,14 +64,6 @@ type_rule = needed_rule (codes "type")
 abbrev pub rules_rule : Option ValueParser → Rule
 rules_rule p = record (needed_rule (codes "rules")) { parser = p }
 
--- the files of the module
-abbrev pub module_rule : Rule
-module_rule = record (option_rule (codes "module")) { range = Some some_values }
-
--- whether what is refused is explained
-abbrev pub explain_rule : Rule
-explain_rule = flag_rule (codes "explain")
-
 -- the files of the published modules
 abbrev pub file_rule : Rule
 file_rule = record (new_rule (codes "file")) {
@@ -62,37 +73,66 @@ file_rule = record (new_rule (codes "file")) {
   value_names = 1;
 }
 
-abbrev pub report_rule : Option ValueParser → Rule
-report_rule p = record (option_rule (codes "report")) { parser = p }
-
 abbrev pub levels_rule : Rule
 levels_rule = record (option_rule (codes "levels")) { parser = Some (Signed (pos 0) (pos 4294967295)) }
 
--- the options for what the profile does not have as it is published
-abbrev pub with_leave : App → App
-with_leave a = with_rule (with_rule (with_rule a (flag_rule (codes "plain-bits"))) (flag_rule (codes "octets"))) levels_rule
+-- ---- the options of the subcommands
+
+-- a command with these options more, in their order
+abbrev pub with_rules : App → List Rule → App
+with_rules a rules = fold with_rule a rules
+
+-- the options for the module, and for why something is refused
+abbrev pub source_rules : List Rule
+source_rules = files_rule (codes "module") ∷ flag_rule (codes "explain") ∷ []
+
+-- those for the messages and the forms of their octets
+abbrev pub form_rules : Option ValueParser → Option ValueParser → List Rule
+form_rules given written = files_rule (codes "messages") ∷ names_rule (codes "in") given ∷ flag_rule (codes "split")
+    ∷ names_rule (codes "out") written ∷ []
+
+-- those for the layout of JSON, and for what is counted
+abbrev pub answer_rules : Option ValueParser → List Rule
+answer_rules members = flag_rule (codes "pretty") ∷ names_rule (codes "order") members ∷ flag_rule (codes "stats") ∷ []
+
+-- those for what the profile does not have as it is published
+abbrev pub leave_rules : List Rule
+leave_rules = flag_rule (codes "plain-bits") ∷ flag_rule (codes "octets") ∷ levels_rule ∷ []
 
 -- the subcommand that flattens published modules
 abbrev pub flatten_app : Option ValueParser → App
-flatten_app p = with_leave (with_rule (with_rule (with_rule (new_app (codes "flatten")) file_rule) (report_rule p))
-    (flag_rule (codes "strict")))
+flatten_app p = with_rules (new_app (codes "flatten"))
+    (file_rule ∷ names_rule (codes "report") p ∷ flag_rule (codes "strict") ∷ leave_rules)
 
 abbrev pub IsFlatten : Shape → Type 0
 IsFlatten s = (p : Option ValueParser) × TakesNames report_names p × (s ≡ (flatten_app p).top)
 
 -- the subcommand of the module
 abbrev pub module_shape : Shape
-module_shape = (with_leave (with_rule (with_rule (new_app (codes "module")) module_rule) explain_rule)).top
+module_shape = (with_rules (new_app (codes "module")) (source_rules ++ leave_rules)).top
 
--- the subcommand of an order, with its two options that have to be given
-abbrev pub order_app : Text → Option ValueParser → App
-order_app name p = with_rule (with_rule (with_rule (with_rule (new_app name) type_rule) (rules_rule p)) module_rule) explain_rule
+-- the parsers of those options of an order whose values are names
+pub record Parsers : Type 0 where
+  pub rules : Option ValueParser
+  pub given : Option ValueParser
+  pub written : Option ValueParser
+  pub members : Option ValueParser
 
-abbrev pub order_shape : Text → Option ValueParser → Shape
-order_shape name p = (with_leave (order_app name p)).top
+abbrev pub TakeNames : Parsers → Type 0
+TakeNames p = TakesNames rule_names p.rules × TakesNames given_names p.given × TakesNames written_names p.written
+    × TakesNames member_names p.members
+
+-- the options of an order, of which the first two have to be given
+abbrev pub order_rules : Parsers → List Rule
+order_rules p = type_rule ∷ rules_rule p.rules ∷ source_rules ++ form_rules p.given p.written ++ answer_rules p.members
+    ++ leave_rules
+
+-- the subcommand of an order
+abbrev pub order_shape : Text → Parsers → Shape
+order_shape name p = (with_rules (new_app name) (order_rules p)).top
 
 abbrev pub IsOrder : Text → Shape → Type 0
-IsOrder name s = (p : Option ValueParser) × TakesNames rule_names p × (s ≡ order_shape name p)
+IsOrder name s = (p : Parsers) × TakeNames p × (s ≡ order_shape name p)
 
 abbrev pub AreOrders : List Text → List Shape → Type 0
 AreOrders [] [] = ⊤

@@ -1,5 +1,5 @@
 -- What words ask for, as clap states what it finds in them.
-use Rattle.std.specs.Prelude.{◌≡◌, ◌≢◌, ◌<◌, ◌^◌, ℕ, Bool, true, false, List, [], codes, map, Option, Some, None, unwrap_or, if◌then◌else◌, string_bytes, ⊤}
+use Rattle.std.specs.Prelude.{◌≡◌, ◌≢◌, ◌<◌, ◌^◌, ℕ, Bool, true, false, List, [], codes, map, option_map, Option, Some, None, unwrap_or, if◌then◌else◌, string_bytes, ⊤}
 use Rattle.std.specs.Borrow.{Bor}
 use Rattle.std.specs.Option.{option_map_or}
 use Rattle.std.specs.Str.{bytes_eq}
@@ -14,7 +14,12 @@ use Rattle.asn_convert.specs.declared.job.Order.{Order}
 use Rattle.asn_convert.specs.declared.job.Order.TheVariants as order
 use Rattle.asn_convert.specs.declared.job.RuleName.{RuleName}
 use Rattle.asn_convert.specs.declared.job.RuleName.TheVariants as rules
+use Rattle.asn_json_layout.specs.declared.layout.Layout.{Layout}
+use Rattle.asn_octet_forms.specs.declared.texts.OctetForm.{OctetForm}
+use Rattle.asn_octet_forms.specs.declared.texts.OctetForm.TheVariants as octets
 use Rattle.asn_published.specs.declared.options.Options.{Options}
+use Rattle.asn_tool.specs.declared.asking.Asking.{Asking}
+use Rattle.asn_tool.specs.declared.asking.Forms.{Forms}
 use Rattle.asn_tool.specs.declared.request.Form.{Form}
 use Rattle.asn_tool.specs.declared.request.Form.TheVariants as form
 use Rattle.asn_tool.specs.declared.request.LineFault.{LineFault}
@@ -83,15 +88,45 @@ form_of name = if bytes_eq name (codes "text") then form.Text
 abbrev pub form_in : List Row → Form
 form_in rows = option_map_or form_of (first_of (codes "report") rows) form.Summary
 
+-- ---- the messages
+
+-- the form of octets of a name, and the one that an option names
+abbrev pub octet_form_of : Text → OctetForm
+octet_form_of name = if bytes_eq name (codes "hex-block") then octets.HexBlock
+    else (if bytes_eq name (codes "base64") then octets.Base64
+    else (if bytes_eq name (codes "binary") then octets.Binary else octets.Hex))
+
+abbrev pub octet_form_in : Text → List Row → Option OctetForm
+octet_form_in id rows = option_map octet_form_of (first_of id rows)
+
+abbrev pub AreForms : List Row → Forms → Type 0
+AreForms rows f = (f.given ≡ octet_form_in (codes "in") rows) × (f.written ≡ octet_form_in (codes "out") rows)
+    × IsFlag (codes "split") rows f.is_split
+
+-- whether members are to stand in the order of the type
+abbrev pub is_declared : Text → Bool
+is_declared name = bytes_eq name (codes "declared")
+
+abbrev pub is_declared_in : List Row → Bool
+is_declared_in rows = option_map_or is_declared (first_of (codes "order") rows) false
+
+abbrev pub IsLayout : List Row → Layout → Type 0
+IsLayout rows l = (l.is_declared ≡ is_declared_in rows) × IsFlag (codes "pretty") rows l.is_pretty
+
+-- what the options ask for of the messages
+abbrev pub IsAsking : List Row → Asking → Type 0
+IsAsking rows a = IsFlag (codes "explain") rows a.is_explained
+    × (texts_of a.messages.items ≡ files_of (codes "messages") rows) × AreForms rows a.forms × IsLayout rows a.layout
+    × IsFlag (codes "stats") rows a.is_counted
+
 -- ---- the request
 
 -- what a subcommand asks for, by its name, and the values of its arguments
 abbrev pub IsRequestOf : Text × List Row → Request → Type 0
 IsRequestOf found (request.Flatten files options f) = (found.0 ≡ codes "flatten")
     × (texts_of files.items ≡ files_of (codes "file") found.1) × AreOptions found.1 options × (f ≡ form_in found.1)
-IsRequestOf found (request.Run j files options is_explained) = IsJobOf found j
-    × (texts_of files.items ≡ files_of (codes "module") found.1) × AreOptions found.1 options
-    × IsFlag (codes "explain") found.1 is_explained
+IsRequestOf found (request.Run j files options asking) = IsJobOf found j
+    × (texts_of files.items ≡ files_of (codes "module") found.1) × AreOptions found.1 options × IsAsking found.1 asking
 
 abbrev pub HasRequest : Option (Text × List Row) → Request → Type 0
 HasRequest None r = ⊥

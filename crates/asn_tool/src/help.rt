@@ -9,8 +9,21 @@ as they come. The text may be one of the profile, or a module as a standards bod
 Out: on standard output a line for each message, which begins with ! where it is refused. On standard error what is not
 the same of the published types that --type leads to, with file and line.
 
+Octets are given and written as lines of hexadecimal digits, two an octet, and nothing else. Other forms, by --in and
+--out:
+  hex         a line of hexadecimal digits, with blanks, 0x in front of a word, and comments from # on; lines without a
+              digit are passed over
+  hex-block   the same on several lines, with a line of blanks behind each message, as `xxd -p` writes them
+  base64      a line of Base64 (RFC 4648), with its padding
+  binary      the octets themselves: a message is all of the input, or of a file of --messages; what is written has
+              nothing between messages, and refusals go to standard error
+With --messages FILE .. the messages are those of files, in the place of standard input, which then has the module alone,
+unless --module names it. With --split each text, or all of the input of --in binary, has messages one after the other:
+each begins where the last ended, and is answered by a line. Behind octets that are refused nothing of that text is read.
+
 What a refusal means, of which --explain tells more on standard error:
   ! hex                 the line is not of hexadecimal digits, two an octet
+  ! base64              the line is no Base64
   ! json                the line is no JSON
   ! shape PATH          what stands at PATH in the JSON shows no value of the type there
   ! not of type         a number, a length or a character is none of the type
@@ -88,7 +101,13 @@ Example:
 writes {\"id\":5}. Of the line a1 in the place of a0, with --explain, standard output has
   ! refused at bit 8: padding
 and standard error
-  line 1: in $, SEQUENCE: the bits that fill up an octet are not all 0";
+  line 1: in $, SEQUENCE: the bits that fill up an octet are not all 0
+
+The members of objects stand in the order of their names; with --order declared in that of the type, and with --pretty on
+a line each. Of a file of messages one after the other, where m.asn has that module:
+  printf '\\240\\120' >messages
+  asn_tool show --type T --rules per --module m.asn --messages messages --in binary --split
+writes {\"id\":5} and {\"id\":2}.";
 
 /// Of `check`.
 pub static CHECK: &str = "\
@@ -102,7 +121,13 @@ the name, which the only line of output tells; 3 if reading, writing or memory f
 Example:
   printf '%s\\n' 'M DEFINITIONS AUTOMATIC TAGS ::= BEGIN' 'T ::= INTEGER (0..7)' END ==== a0 a1 |
     asn_tool check --type T --rules per
-writes `ok 1` and `! refused at bit 8: padding`.";
+writes `ok 1` and `! refused at bit 8: padding`.
+
+With blanks, 0x and a comment, where m.asn has that module:
+  echo '0xa0  # the number 5' | asn_tool check --type T --rules per --module m.asn --in hex
+writes `ok 1`. With --stats standard error has, behind the answers, how many octets the messages have, how many messages
+there are of each alternative of a CHOICE, and how many are refused for each reason, a line each, as `octets: 1`,
+`alternative cam: 12` and `refused padding: 1`.";
 
 /// Of `encode`.
 pub static ENCODE: &str = "\
@@ -116,7 +141,11 @@ the name, which the only line of output tells; 3 if reading, writing or memory f
 Example:
   printf '%s\\n' 'M DEFINITIONS AUTOMATIC TAGS ::= BEGIN' 'T ::= SEQUENCE { id INTEGER (0..7) }' END ==== '{\"id\":5}' |
     asn_tool encode --type T --rules per
-writes a0.";
+writes a0.
+
+As octets, where m.asn has that module:
+  echo '{\"id\":5}' | asn_tool encode --type T --rules per --module m.asn --out binary >message
+leaves a file of one octet.";
 
 /// Of `convert`.
 pub static CONVERT: &str = "\
@@ -131,7 +160,11 @@ of the name, which the only line of output tells; 3 if reading, writing or memor
 Example:
   printf '%s\\n' 'M DEFINITIONS AUTOMATIC TAGS ::= BEGIN' 'T ::= SEQUENCE { id INTEGER (0..7) }' END ==== a0 |
     asn_tool convert --type T --rules per
-writes 05.";
+writes 05.
+
+In Base64, where m.asn has that module:
+  echo oA== | asn_tool convert --type T --rules per --module m.asn --in base64 --out base64
+writes BQ==.";
 
 /// Of `newer`.
 pub static NEWER: &str = "\
@@ -148,4 +181,4 @@ the name, which the only line of output tells; 3 if reading, writing or memory f
 Example:
   printf '%s\\n' 'M DEFINITIONS AUTOMATIC TAGS ::= BEGIN' 'T ::= SEQUENCE { a BOOLEAN, ... }' END ==== c04041c0 |
     asn_tool newer --type T --rules per
-writes {\"a\":true} +0:07.";
+writes {\"a\":true} +0:07. With --pretty each member stands on a line of its own.";

@@ -2,17 +2,22 @@
 //! of each line.
 #![tactic(auto)]
 
+mod asking;
+mod counting;
+mod cutting;
 mod ending;
 mod explaining;
 mod flattening;
+mod fronts;
 mod help;
+mod laying;
+mod messages;
 mod piped;
 mod refused;
 mod request;
 mod running;
 mod sources;
 mod stop;
-mod telling;
 mod texts;
 mod typed;
 mod words;
@@ -68,8 +73,8 @@ fn do_request<'a>(rt: &HostRuntime, request: &Request<'a>) -> Result<u8, Stop<'a
             job,
             files,
             options,
-            is_explained,
-        } => run_job(rt, job, files.as_slice(), *options, *is_explained),
+            asking,
+        } => run_job(rt, job, files.as_slice(), *options, asking),
     }
 }
 

@@ -5,10 +5,13 @@ ghost use Rattle.asn_convert.specs.declared.job.Order.{Order};
 ghost use Rattle.asn_convert.specs.declared.job.RuleName.{RuleName};
 ghost use Rattle.asn_tool.specs.declared.request.LineFault.{LineFault};
 ghost use Rattle.asn_tool.specs.Command.{HasOptions, IsTaken};
-ghost use Rattle.asn_tool.specs.Request.{Asks, AreOptions, HasRequest, IsFlag, IsJobOf, IsRequestOf, Told, fault_by, files_of, form_in, form_of, order_name, rule_name, texts_of};
+ghost use Rattle.asn_tool.specs.Request.{AreForms, AreOptions, Asks, HasRequest, IsAsking, IsJobOf, IsLayout, IsRequestOf, Told, fault_by, files_of, form_in, form_of, is_declared_in, octet_form_in, octet_form_of, order_name, rule_name, texts_of};
 
+use crate::asking::{Asking, Forms};
 use crate::words::command;
 use asn_convert::{Job, Order, RuleName};
+use asn_json_layout::Layout;
+use asn_octet_forms::OctetForm;
 use asn_published::Options;
 use clap::ArgMatches;
 use clap::error::ErrorKind;
@@ -34,8 +37,8 @@ pub enum Request<'a> {
         files: Vec<&'a str>,
         /// What becomes of published types that the profile does not have as they are.
         options: Options,
-        /// Whether standard error tells of each line that is refused, and of a refused module, why.
-        is_explained: bool,
+        /// What is asked for of the messages.
+        asking: Asking<'a>,
     },
 }
 
@@ -115,7 +118,7 @@ fn run_in<'a>(alloc: Global, options: &ArgMatches<'a>, job: Job) -> Result<Reque
         job,
         files: files_in(alloc, options, "module")?,
         options: options_in(options),
-        is_explained: is_explained(options),
+        asking: asking_in(alloc, options)?,
     })
 }
 
@@ -174,11 +177,70 @@ fn options_in(options: &ArgMatches<'_>) -> Options
     }
 }
 
-/// Whether what is refused is explained.
-fn is_explained(options: &ArgMatches<'_>) -> bool
-    ensures { IsFlag (codes "explain") (rows_of (found_of options.now)) result }
+/// What is asked for of the messages.
+fn asking_in<'a>(alloc: Global, options: &ArgMatches<'a>) -> Result<Asking<'a>, AllocError>
+    ensures { IfOk result (λ asking. IsAsking (rows_of (found_of options.now)) asking) }
 {
-    options.get_flag("explain")
+    Ok(Asking {
+        is_explained: options.get_flag("explain"),
+        messages: files_in(alloc, options, "messages")?,
+        forms: forms_in(options),
+        layout: layout_in(options),
+        is_counted: options.get_flag("stats"),
+    })
+}
+
+/// The forms of the octets of messages.
+fn forms_in(options: &ArgMatches<'_>) -> Forms
+    ensures { AreForms (rows_of (found_of options.now)) result }
+{
+    Forms {
+        given: octet_form_in(options, "in"),
+        written: octet_form_in(options, "out"),
+        is_split: options.get_flag("split"),
+    }
+}
+
+/// The form of octets that the option of this id names, if it was used.
+fn octet_form_in(options: &ArgMatches<'_>, id: &str) -> Option<OctetForm>
+    ensures { result ≡ octet_form_in id.now (rows_of (found_of options.now)) }
+{
+    match options.get_str(id) {
+        Some(name) => Some(octet_form_named(name)),
+        None => None,
+    }
+}
+
+/// The form of octets of this name.
+fn octet_form_named(name: &str) -> OctetForm
+    ensures { result ≡ octet_form_of name.now }
+{
+    match name {
+        "hex-block" => OctetForm::HexBlock,
+        "base64" => OctetForm::Base64,
+        "binary" => OctetForm::Binary,
+        _ => OctetForm::Hex,
+    }
+}
+
+/// The layout of JSON.
+fn layout_in(options: &ArgMatches<'_>) -> Layout
+    ensures { IsLayout (rows_of (found_of options.now)) result }
+{
+    Layout {
+        is_declared: is_declared_in(options),
+        is_pretty: options.get_flag("pretty"),
+    }
+}
+
+/// Whether members are to stand in the order of the type: not where it is not said.
+fn is_declared_in(options: &ArgMatches<'_>) -> bool
+    ensures { result ≡ is_declared_in (rows_of (found_of options.now)) }
+{
+    match options.get_str("order") {
+        Some(name) => name == "declared",
+        None => false,
+    }
 }
 
 /// How it is told what became of the types: a summary where it is not said.

@@ -1,17 +1,18 @@
 //! Jobs on standard input and output.
+use crate::asking::Asking;
+use crate::counting::Counts;
 use crate::ending::ending;
+use crate::messages::{Answers, Asked, answer_input};
 use crate::piped::Piped;
 use crate::refused::{imports_told, line_told, text_told};
 use crate::sources::{Instead, input_with, instead_of, module_of};
 use crate::stop::Stop;
-use crate::telling::{Telling, answer_explained};
 use crate::texts::{texts_of, views_of};
 use asn_convert::{Job, RunFault, Status, cut_input, read_all, run, run_on_lines};
-use asn_module::Module;
 use asn_published::{Options, PublishedFault};
 use asn_rules::Counted;
-use std::io;
-use std::io::{BufRead, BufReader};
+use std::io::{BufRead, BufReader, IsTerminal, Write};
+use std::{fs, io};
 
 /// Does the job on standard input and output, its module being that of the files, or of standard input where there are
 /// none. Gives the exit status.
@@ -20,14 +21,21 @@ pub fn run_job<'a>(
     job: &Job,
     files: &[&'a str],
     options: Options,
-    is_explained: bool,
+    asking: &Asking<'a>,
 ) -> Result<u8, Stop<'a>> {
-    let telling = Telling::of(rt, is_explained);
-    if files.is_empty() {
-        run_given(rt, job, options, telling)
-    } else {
-        run_with_files(rt, job, files, options, telling)
+    if let Some(words) = asking.unserved(job) {
+        return Err(Stop::Unserved(words));
     }
+    if files.is_empty() {
+        run_given(rt, job, options, asking)
+    } else {
+        run_with_files(rt, job, files, options, asking)
+    }
+}
+
+/// Whether it is told of a module where it is refused: where that is asked for, or standard error is a terminal.
+fn tells_of_module(rt: &HostRuntime, asking: &Asking<'_>) -> bool {
+    asking.is_explained || rt.stderr().is_terminal()
 }
 
 /// Does the job, its module standing on standard input.
@@ -35,14 +43,14 @@ fn run_given<'a>(
     rt: &HostRuntime,
     job: &Job,
     options: Options,
-    telling: Telling,
+    asking: &Asking<'a>,
 ) -> Result<u8, Stop<'a>> {
     let given = read_all(rt.alloc(), &mut Counted::new(rt.reader()))?;
     let instead = instead_of(rt.alloc(), given.as_slice(), options, job)?;
-    tell_remarks(rt, instead.remarks.as_str(), telling.module);
+    tell_remarks(rt, instead.remarks.as_str(), tells_of_module(rt, asking));
     match &instead.octets {
-        Some(octets) => run_text(rt, job, octets.as_slice(), options, telling),
-        None => run_text(rt, job, given.as_slice(), options, telling),
+        Some(octets) => run_text(rt, job, octets.as_slice(), options, asking),
+        None => run_text(rt, job, given.as_slice(), options, asking),
     }
 }
 
@@ -60,47 +68,113 @@ fn run_text<'a>(
     job: &Job,
     octets: &[u8],
     options: Options,
-    telling: Telling,
+    asking: &Asking<'a>,
 ) -> Result<u8, Stop<'a>> {
     let (text, lines) = cut_input(octets);
-    if telling.module {
-        let is_all = text.len() == octets.len();
+    if tells_of_module(rt, asking) {
+        let is_all = text.len() == octets.len() && asking.messages.is_empty();
         let told = text_told(rt.alloc(), text, options, job, is_all)?;
         let _ = rt.eprint(told.as_str());
     }
-    match run_explained(rt, job, text, telling, lines)? {
+    let mut lines = lines;
+    match run_asked(rt, job, text, asking, &mut lines)? {
         Some(status) => Ok(status),
         None => Ok(run_on(rt, job, octets)),
     }
 }
 
-/// The exit status of the job on the lines in memory, each of which is told why it is refused. `None`, and nothing is
-/// done, where that is not asked for, or the text is no module with lines to answer.
-fn run_explained<'a>(
+/// The exit status of the job where more than lines of standard input is asked for: on the messages of the files, or on
+/// these lines. `None`, and nothing is done, where it is not, or the text is no module with the type of the job.
+fn run_asked<'a, R: BufRead>(
     rt: &HostRuntime,
     job: &Job,
     text: &[u8],
-    telling: Telling,
-    lines: &[u8],
+    asking: &Asking<'a>,
+    lines: &mut R,
 ) -> Result<Option<u8>, Stop<'a>> {
-    if !telling.lines {
+    if asking.is_plain() {
         return Ok(None);
     }
     let Some(module) = module_of(rt.alloc(), text)? else {
         return Ok(None);
     };
-    let mut lines = lines;
-    Ok(explained(rt, job, &module, &mut lines))
+    let Some(asked) = Asked::of(asking, job, &module) else {
+        return Ok(None);
+    };
+    let mut answers = Answers {
+        output: Counted::new(Piped::new(io::writer(rt))),
+        counts: Counts::new(rt.alloc()),
+    };
+    let files = asking.messages.as_slice();
+    let answer = if files.is_empty() {
+        answer_input(rt, lines, &mut answers, "", asked)
+    } else {
+        answer_files(rt, &mut answers, files, asked)?
+    };
+    let Answers { mut output, counts } = answers;
+    let answer = flushed(&mut output, answer);
+    if asking.is_counted && answer.is_ok() {
+        let told = counts.text(rt.alloc())?;
+        let _ = rt.eprint(told.as_str());
+    }
+    Ok(Some(ended(rt, &answer, output.into_inner().is_closed())))
 }
 
-/// Does the job, its module being that of the files. The lines of standard input are answered as they come; where the
-/// module is to be printed, standard input is not read.
+/// How a job ended whose messages were answered so, once the writer holds nothing back.
+fn flushed<W: Write>(
+    output: &mut Counted<W>,
+    answer: Result<bool, RunFault>,
+) -> Result<Status, RunFault> {
+    let all_good = answer?;
+    match output.flush() {
+        Ok(()) if all_good => Ok(Status::Good),
+        Ok(()) => Ok(Status::Marked),
+        Err(_) => Err(RunFault::Write),
+    }
+}
+
+/// Answers the messages of these files, and tells whether no answer is a refusal.
+fn answer_files<'a, W: Write>(
+    rt: &HostRuntime,
+    answers: &mut Answers<W>,
+    files: &[&'a str],
+    asked: Asked<'_>,
+) -> Result<Result<bool, RunFault>, Stop<'a>> {
+    let mut all_good = true;
+    for file in files {
+        match answer_file(rt, answers, *file, asked)? {
+            Ok(is_good) => all_good &= is_good,
+            Err(RunFault::Read) => return Err(Stop::Unread(*file)),
+            Err(fault) => return Ok(Err(fault)),
+        }
+    }
+    Ok(Ok(all_good))
+}
+
+/// Answers the messages of this file.
+fn answer_file<'a, W: Write>(
+    rt: &HostRuntime,
+    answers: &mut Answers<W>,
+    file: &'a str,
+    asked: Asked<'_>,
+) -> Result<Result<bool, RunFault>, Stop<'a>> {
+    let Ok(opened) = fs::open(rt, file) else {
+        return Err(Stop::Unread(file));
+    };
+    let Ok(mut input) = BufReader::new(rt.alloc(), opened) else {
+        return Err(Stop::Memory);
+    };
+    Ok(answer_input(rt, &mut input, answers, file, asked))
+}
+
+/// Does the job, its module being that of the files. The messages are answered as they come; where the module is to be
+/// printed, standard input is not read.
 fn run_with_files<'a>(
     rt: &HostRuntime,
     job: &Job,
     files: &[&'a str],
     options: Options,
-    telling: Telling,
+    asking: &Asking<'a>,
 ) -> Result<u8, Stop<'a>> {
     let texts = texts_of(rt, files)?;
     let views = views_of(rt, texts.as_slice())?;
@@ -113,11 +187,13 @@ fn run_with_files<'a>(
         job,
     ) {
         Ok(instead) => instead,
-        Err(fault) => return stopped(rt, files, views.as_slice(), fault, telling),
+        Err(fault) => {
+            return stopped(rt, files, views.as_slice(), fault, tells_of_module(rt, asking));
+        }
     };
-    tell_remarks(rt, remarks.as_str(), telling.module);
+    tell_remarks(rt, remarks.as_str(), tells_of_module(rt, asking));
     match octets {
-        Some(head) => run_coming(rt, job, head.as_slice(), options, telling),
+        Some(head) => run_coming(rt, job, head.as_slice(), options, asking),
         None => Ok(2),
     }
 }
@@ -128,9 +204,9 @@ fn stopped<'a>(
     files: &[&'a str],
     texts: &[&str],
     fault: PublishedFault,
-    telling: Telling,
+    is_told: bool,
 ) -> Result<u8, Stop<'a>> {
-    if telling.module {
+    if is_told {
         if let PublishedFault::Text { text, line, .. } = &fault {
             if let Some(text) = texts.get(*text) {
                 let told = line_told(rt.alloc(), *text, *line)?;
@@ -141,28 +217,26 @@ fn stopped<'a>(
     Err(Stop::of(files, fault))
 }
 
-/// The exit status of the job on the lines of standard input, the text of its module and the mark being the head, after
-/// the line on standard error, if there is one.
+/// The exit status of the job on the messages of the files or of standard input, the text of its module and the mark being
+/// the head, after the line on standard error, if there is one.
 fn run_coming<'a>(
     rt: &HostRuntime,
     job: &Job,
     head: &[u8],
     options: Options,
-    telling: Telling,
+    asking: &Asking<'a>,
 ) -> Result<u8, Stop<'a>> {
     let (text, _) = cut_input(head);
-    if telling.module {
+    if tells_of_module(rt, asking) {
         let told = text_told(rt.alloc(), text, options, job, false)?;
         let _ = rt.eprint(told.as_str());
     }
-    if telling.lines {
-        if let Some(module) = module_of(rt.alloc(), text)? {
-            let Ok(mut lines) = BufReader::new(rt.alloc(), rt.reader()) else {
-                return Err(Stop::Memory);
-            };
-            if let Some(status) = explained(rt, job, &module, &mut lines) {
-                return Ok(status);
-            }
+    if !asking.is_plain() {
+        let Ok(mut lines) = BufReader::new(rt.alloc(), rt.reader()) else {
+            return Err(Stop::Memory);
+        };
+        if let Some(status) = run_asked(rt, job, text, asking, &mut lines)? {
+            return Ok(status);
         }
     }
     let mut input = Counted::new(rt.reader());
@@ -177,19 +251,6 @@ fn run_on(rt: &HostRuntime, job: &Job, octets: &[u8]) -> u8 {
     let mut output = Counted::new(Piped::new(io::writer(rt)));
     let answer = run(rt.alloc(), &mut input, &mut output, job);
     ended(rt, &answer, output.into_inner().is_closed())
-}
-
-/// The exit status of the job on these lines, each of which is told why it is refused. `None`, and nothing is done, where
-/// the module is to be printed or has no type of the name.
-fn explained<R: BufRead>(
-    rt: &HostRuntime,
-    job: &Job,
-    module: &Module,
-    lines: &mut R,
-) -> Option<u8> {
-    let mut output = Counted::new(Piped::new(io::writer(rt)));
-    let answer = answer_explained(rt, job, module, lines, &mut output)?;
-    Some(ended(rt, &answer, output.into_inner().is_closed()))
 }
 
 /// The exit status of a job that was answered so, after the line on standard error, if there is one; `is_closed` says

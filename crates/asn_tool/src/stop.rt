@@ -29,6 +29,9 @@ pub enum Stop<'a> {
     /// The profile does not take what was written of the published modules.
     #[error("not read: {0}")]
     NotOfProfile(ModuleFault),
+    /// What is asked for of the messages is not done by the order.
+    #[error("{0}")]
+    Unserved(&'static str),
     /// Standard input is not read.
     #[error("read failed")]
     Read,
@@ -44,13 +47,14 @@ pub enum Stop<'a> {
 }
 
 impl<'a> Stop<'a> {
-    /// The exit status: 2 where a text is refused, 3 where reading, writing or memory failed, and 141 where the reader of
+    /// The exit status: 2 where a text or what is asked for is refused, 3 where reading, writing or memory failed, and 141 where the reader of
     /// the output has gone.
     pub fn status(&self) -> u8
         ensures { result ≡ stop_status self.now }
     {
         match self {
             Stop::NotText(_) | Stop::Notation { .. } | Stop::NotOfProfile(_) => 2,
+            Stop::Unserved(_) => 2,
             Stop::Unread(_) | Stop::Read | Stop::Write | Stop::Memory => 3,
             Stop::Closed => 141,
         }

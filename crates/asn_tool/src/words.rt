@@ -1,8 +1,8 @@
 //! The command line as `clap` knows it.
-ghost use Rattle.std.specs.Prelude.{◌≡◌, IfOk, false};
+ghost use Rattle.std.specs.Prelude.{◌≡◌, IfOk, codes, false};
 ghost use Rattle.clap.specs.Words.{app_of, rule_of, shape_of};
 ghost use Rattle.clap.specs.declared.builder.Command.TheViews.{out-Command};
-ghost use Rattle.asn_tool.specs.Command.{IsFlatten, IsOrder, IsTool, TakesNames, explain_rule, file_rule, flag_rule, module_rule, module_shape, report_names, report_rule, rule_names, rules_rule, type_rule, with_leave};
+ghost use Rattle.asn_tool.specs.Command.{IsFlatten, IsOrder, IsTool, TakesNames, answer_rules, file_rule, files_rule, flag_rule, form_rules, given_names, leave_rules, member_names, module_shape, names_rule, report_names, rule_names, rules_rule, source_rules, type_rule, with_rules, written_names};
 
 use crate::help;
 use clap::{Arg, ArgAction, Command, value_parser};
@@ -10,6 +10,15 @@ use std::alloc::{AllocError, Global};
 
 /// The names of the encoding rules.
 static RULES: [&str; 2] = ["per", "oer"];
+
+/// The forms of octets that are given.
+static GIVEN: [&str; 4] = ["hex", "hex-block", "base64", "binary"];
+
+/// The forms of octets that are written.
+static WRITTEN: [&str; 3] = ["hex", "base64", "binary"];
+
+/// The orders of the members of JSON.
+static MEMBERS: [&str; 2] = ["name", "declared"];
 
 /// The ways to tell what became of the types.
 static REPORTS: [&str; 3] = ["summary", "text", "json"];
@@ -78,7 +87,7 @@ fn file_argument<'a>(alloc: Global) -> Arg<'a>
 
 /// The option for the form of the report.
 fn report_option<'a>(alloc: Global) -> Arg<'a>
-    ensures rule { (p : _) × TakesNames report_names p × (rule_of result ≡ report_rule p) }
+    ensures rule { (p : _) × TakesNames report_names p × (rule_of result ≡ names_rule (codes "report") p) }
     ensures local { result.global ≡ false }
 {
     Arg::new(alloc, "report")
@@ -96,13 +105,12 @@ fn module<'a>(alloc: Global) -> Result<Command<'a>, AllocError>
 {
     let command = Command::new(alloc, "module")
         .about("Prints the module, each reference followed")
-        .after_help(help::MODULE)
-        .arg(files_option(alloc))?
-        .arg(explain_option(alloc))?;
+        .after_help(help::MODULE);
+    let command = with_source(alloc, command)?;
     with_leave(alloc, command)
 }
 
-/// The subcommand of an order, with its two options that are required.
+/// The subcommand of an order. The type and the encoding rules are required.
 fn order<'a>(
     alloc: Global,
     name: &'a str,
@@ -116,9 +124,10 @@ fn order<'a>(
         .about(about)
         .after_help(help)
         .arg(type_option(alloc))?
-        .arg(rules_option(alloc))?
-        .arg(files_option(alloc))?
-        .arg(explain_option(alloc))?;
+        .arg(rules_option(alloc))?;
+    let command = with_source(alloc, command)?;
+    let command = with_forms(alloc, command)?;
+    let command = with_answers(alloc, command)?;
     with_leave(alloc, command)
 }
 
@@ -149,34 +158,127 @@ fn rules_option<'a>(alloc: Global) -> Arg<'a>
         .help("The encoding rules of the octets that are read, or that `encode` writes")
 }
 
-/// The option for the files of the module.
-fn files_option<'a>(alloc: Global) -> Arg<'a>
-    ensures rule { rule_of result ≡ module_rule }
+/// The command with the options for the module, and for why something is refused.
+fn with_source<'a>(alloc: Global, command: Command<'a>) -> Result<Command<'a>, AllocError>
+    ensures shape { IfOk result (λ c. app_of c ≡ with_rules (app_of command.entry) source_rules) }
+    ensures local { (out-Command command.entry).has_globals ≡ false
+        → IfOk result (λ c. (out-Command c).has_globals ≡ false) }
+{
+    let files = files_option(
+        alloc,
+        "module",
+        "The texts of the module, or of the published modules, in place of standard input's",
+    );
+    let explain = flag(
+        alloc,
+        "explain",
+        "Tells on standard error why a message, or the module, is refused, and in which component",
+    );
+    command.arg(files)?.arg(explain)
+}
+
+/// The command with the options for the messages and the forms of their octets.
+fn with_forms<'a>(alloc: Global, command: Command<'a>) -> Result<Command<'a>, AllocError>
+    ensures shape { IfOk result (λ c. (p : _) × (q : _) × TakesNames given_names p × TakesNames written_names q
+        × (app_of c ≡ with_rules (app_of command.entry) (form_rules p q))) }
+    ensures local { (out-Command command.entry).has_globals ≡ false
+        → IfOk result (λ c. (out-Command c).has_globals ≡ false) }
+{
+    let files = files_option(
+        alloc,
+        "messages",
+        "The messages, in place of those on standard input",
+    );
+    let split = flag(
+        alloc,
+        "split",
+        "Each text has messages one after the other: each begins where the last ended",
+    );
+    command
+        .arg(files)?
+        .arg(given_option(alloc))?
+        .arg(split)?
+        .arg(written_option(alloc))
+}
+
+/// The option for the form of the octets that are given.
+fn given_option<'a>(alloc: Global) -> Arg<'a>
+    ensures rule { (p : _) × TakesNames given_names p × (rule_of result ≡ names_rule (codes "in") p) }
     ensures local { result.global ≡ false }
 {
-    Arg::new(alloc, "module")
-        .long("module")
+    Arg::new(alloc, "in")
+        .long("in")
+        .value_name("FORM")
+        .action(ArgAction::Set)
+        .value_parser(GIVEN.as_slice())
+        .help("How octets are given [default: a line of hexadecimal digits, two an octet]")
+}
+
+/// The option for the form of the octets that are written.
+fn written_option<'a>(alloc: Global) -> Arg<'a>
+    ensures rule { (p : _) × TakesNames written_names p × (rule_of result ≡ names_rule (codes "out") p) }
+    ensures local { result.global ≡ false }
+{
+    Arg::new(alloc, "out")
+        .long("out")
+        .value_name("FORM")
+        .action(ArgAction::Set)
+        .value_parser(WRITTEN.as_slice())
+        .help("How `encode` and `convert` write octets [default: hex]")
+}
+
+/// The command with the options for the layout of JSON, and for what is counted.
+fn with_answers<'a>(alloc: Global, command: Command<'a>) -> Result<Command<'a>, AllocError>
+    ensures shape { IfOk result (λ c. (p : _) × TakesNames member_names p
+        × (app_of c ≡ with_rules (app_of command.entry) (answer_rules p))) }
+    ensures local { (out-Command command.entry).has_globals ≡ false
+        → IfOk result (λ c. (out-Command c).has_globals ≡ false) }
+{
+    let pretty = flag(
+        alloc,
+        "pretty",
+        "`show` and `newer` write a line for each member and element",
+    );
+    let stats = flag(
+        alloc,
+        "stats",
+        "`check` counts on standard error the messages, their octets, alternatives and refusals",
+    );
+    command
+        .arg(pretty)?
+        .arg(members_option(alloc))?
+        .arg(stats)
+}
+
+/// The option for the order of the members of JSON.
+fn members_option<'a>(alloc: Global) -> Arg<'a>
+    ensures rule { (p : _) × TakesNames member_names p × (rule_of result ≡ names_rule (codes "order") p) }
+    ensures local { result.global ≡ false }
+{
+    Arg::new(alloc, "order")
+        .long("order")
+        .value_name("ORDER")
+        .action(ArgAction::Set)
+        .value_parser(MEMBERS.as_slice())
+        .help("In which order `show` writes the members of objects [default: name]")
+}
+
+/// An option for files.
+fn files_option<'a>(alloc: Global, name: &'a str, help: &'a str) -> Arg<'a>
+    ensures rule { rule_of result ≡ files_rule name.entry.now }
+    ensures local { result.global ≡ false }
+{
+    Arg::new(alloc, name)
+        .long(name)
         .value_name("FILE")
         .num_args(1..)
         .action(ArgAction::Set)
-        .help("The texts of the module, or of the published modules, in place of standard input's")
-}
-
-/// The option to explain what is refused.
-fn explain_option<'a>(alloc: Global) -> Arg<'a>
-    ensures rule { rule_of result ≡ explain_rule }
-    ensures local { result.global ≡ false }
-{
-    flag(
-        alloc,
-        "explain",
-        "Tells on standard error why a line, or the module, is refused, and in which component",
-    )
+        .help(help)
 }
 
 /// The command with the options for what the profile does not have as it is published.
 fn with_leave<'a>(alloc: Global, command: Command<'a>) -> Result<Command<'a>, AllocError>
-    ensures shape { IfOk result (λ c. app_of c ≡ with_leave (app_of command.entry)) }
+    ensures shape { IfOk result (λ c. app_of c ≡ with_rules (app_of command.entry) leave_rules) }
     ensures local { (out-Command command.entry).has_globals ≡ false
         → IfOk result (λ c. (out-Command c).has_globals ≡ false) }
 {

@@ -3,7 +3,7 @@ use Rattle.std.proofs.lemmas.Result.{IfOk-weaker}
 use Rattle.clap.specs.Simple.{app_of_fields}
 use Rattle.clap.specs.Words.{App, app_of, new_app, with_rule}
 use Rattle.clap.specs.declared.builder.Command.TheViews.{out-Command}
-use Rattle.asn_tool.specs.Command.{with_leave}
+use Rattle.asn_tool.specs.Command.{leave_rules, with_rules}
 use Rattle.asn_tool.proofs.words.flatten.Goals as goal
 
 pub returns-clause-shape : goal.returns-clause-shape
@@ -12,7 +12,7 @@ returns-clause-shape c =
     let one = c.in_ok-arg.ensures.shape c.file_argument.ensures.local ∙ ap₂ with_rule new_is c.file_argument.ensures.rule in
     let two = c.in_ok-arg-2.ensures.shape c.report_option.ensures.local ∙ ap₂ with_rule one c.report_option.ensures.rule.2 in
     let three = c.in_ok-command.ensures.shape c.flag-strict.ensures.local ∙ ap₂ with_rule two c.flag-strict.ensures.rule in
-    IfOk-weaker c.with_leave.result _ _ (λ d h. (c.report_option.ensures.rule.0, c.report_option.ensures.rule.1, ap (λ (a : App). a.top) (h ∙ ap with_leave three))) c.with_leave.ensures.shape
+    IfOk-weaker c.with_leave.result _ _ (λ d h. (c.report_option.ensures.rule.0, c.report_option.ensures.rule.1, ap (λ (a : App). a.top) (h ∙ ap (λ a. with_rules a leave_rules) three))) c.with_leave.ensures.shape
 
 pub returns-clause-local : goal.returns-clause-local
 returns-clause-local c =

@@ -1,8 +1,0 @@
-use Rattle.std.proofs.Common.{codes}
-use Rattle.clap.specs.Words.{found_of}
-use Rattle.asn_tool.proofs.Given.{flag}
-use Rattle.asn_tool.proofs.request.is_explained.Goals as goal
-
-pub returns : goal.returns
-returns c =
-    flag (found_of c.args.options.now) (codes "explain") c.get_flag.result c.get_flag.ensures.none c.get_flag.ensures.value c.get_flag.ensures.other

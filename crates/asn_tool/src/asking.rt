@@ -1,0 +1,76 @@
+//! What is asked for of the messages of a job.
+use asn_convert::{Job, Order};
+use asn_json_layout::Layout;
+use asn_octet_forms::OctetForm;
+
+/// What is asked for of the messages of a job.
+#[derive(Debug, Drop)]
+pub struct Asking<'a> {
+    /// Whether standard error tells why a message, or the module, is refused.
+    pub is_explained: bool,
+    /// The files of the messages; none where they stand on standard input.
+    pub messages: Vec<&'a str>,
+    /// The forms of their octets.
+    pub forms: Forms,
+    /// The layout of the JSON of their values.
+    pub layout: Layout,
+    /// Whether it is counted how many they are, how long, of which alternatives, and why they are refused.
+    pub is_counted: bool,
+}
+
+impl<'a> Asking<'a> {
+    /// Whether nothing is asked for, so that messages are lines of standard input.
+    pub fn is_plain(&self) -> bool {
+        self.messages.is_empty()
+            && !self.is_explained
+            && !self.is_counted
+            && !self.forms.is_octets()
+            && self.forms.written.is_none()
+            && !self.layout.is_declared
+            && !self.layout.is_pretty
+    }
+
+    /// What of it the order of the job does not do.
+    pub fn unserved(&self, job: &Job) -> Option<&'static str> {
+        let Job::Lines { order, .. } = job else {
+            return None;
+        };
+        let is_laid = self.layout.is_declared || self.layout.is_pretty;
+        match order {
+            Order::Encode if self.forms.is_octets() => {
+                Some("encode reads JSON, a value a line: --in and --split are for octets")
+            }
+            Order::Show | Order::Check | Order::Newer if self.forms.written.is_some() => {
+                Some("--out is for encode and convert, which write octets")
+            }
+            Order::Newer if self.forms.is_split => {
+                Some("--split is for show, check and convert: newer reads one message a text")
+            }
+            Order::Check | Order::Encode | Order::Convert if is_laid => {
+                Some("--pretty and --order are for show and newer, which write JSON")
+            }
+            Order::Show | Order::Encode | Order::Convert | Order::Newer if self.is_counted => {
+                Some("--stats is for check")
+            }
+            _ => None,
+        }
+    }
+}
+
+/// The forms of the octets of messages.
+#[derive(Clone, Copy, Debug, PartialEq, Eq, Drop)]
+pub struct Forms {
+    /// That of the octets that are given, if one is named.
+    pub given: Option<OctetForm>,
+    /// That of the octets that are written, if one is named.
+    pub written: Option<OctetForm>,
+    /// Whether messages stand one after the other in a text.
+    pub is_split: bool,
+}
+
+impl Forms {
+    /// Whether something is asked for of the octets that are given.
+    pub fn is_octets(&self) -> bool {
+        self.given.is_some() || self.is_split
+    }
+}

@@ -201,7 +201,7 @@ def counts(count, program, room):
     values = b'{"cam":{"z":5,"m":[]}}\n{"denm":null}\n{"cam":{"z":1,"m":[true,true]}}\n'
     octets = run([program, "encode", "--type", "C", "--rules", "per", "--module", file], values)[1].split()
     lengths = [len(it) // 2 for it in octets]
-    bad = [b"x", b"", b"00", octets[1] + b"00", b"c1"]
+    bad = [b"x", b"", b"81", octets[1] + b"00", b"c1"]
     plain = run(words[:-1], lines(octets + bad))
     ran = run(words, lines(octets + bad))
     told = dict(it.rsplit(": ", 1) for it in ran[2].decode().splitlines())

@@ -1,4 +1,7 @@
 //! What is asked for of the messages of a job.
+ghost use Rattle.std.specs.Bool.{Decides};
+ghost use Rattle.asn_tool.specs.Asking.{IsPlain};
+
 use asn_convert::{Job, Order};
 use asn_json_layout::Layout;
 use asn_octet_forms::OctetForm;
@@ -20,12 +23,20 @@ pub struct Asking<'a> {
 
 impl<'a> Asking<'a> {
     /// Whether nothing is asked for, so that messages are lines of standard input.
-    pub fn is_plain(&self) -> bool {
+    pub fn is_plain(&self) -> bool
+        ensures { Decides result (IsPlain self.now) }
+    {
+        let Forms {
+            given,
+            written,
+            is_split,
+        } = self.forms;
         self.messages.is_empty()
             && !self.is_explained
             && !self.is_counted
-            && !self.forms.is_octets()
-            && self.forms.written.is_none()
+            && given.is_none()
+            && written.is_none()
+            && !is_split
             && !self.layout.is_declared
             && !self.layout.is_pretty
     }

@@ -78,8 +78,7 @@ impl Counts {
             least,
             greatest,
         } = self.sizes;
-        let mut text = format!(
-            in alloc;
+        let mut text = format!(in alloc;
             "messages: {count}\noctets: {octets}\nleast: {least}\ngreatest: {greatest}\n"
         )?;
         push_counts(alloc, &mut text, "alternative", &self.alternatives)?;

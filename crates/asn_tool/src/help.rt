@@ -105,7 +105,7 @@ and standard error
 
 The members of objects stand in the order of their names; with --order declared in that of the type, and with --pretty on
 a line each. Of a file of messages one after the other, where m.asn has that module:
-  printf '\\240\\120' >messages
+  printf '\\240\\100' >messages
   asn_tool show --type T --rules per --module m.asn --messages messages --in binary --split
 writes {\"id\":5} and {\"id\":2}.";
 

@@ -2,6 +2,7 @@
 //! of each line.
 #![tactic(auto)]
 
+mod answering;
 mod asking;
 mod counting;
 mod cutting;

@@ -1,8 +1,9 @@
 //! Jobs on standard input and output.
+use crate::answering::{Answers, Asked};
 use crate::asking::Asking;
 use crate::counting::Counts;
 use crate::ending::ending;
-use crate::messages::{Answers, Asked, answer_input};
+use crate::messages::answer_input;
 use crate::piped::Piped;
 use crate::refused::{imports_told, line_told, text_told};
 use crate::sources::{Instead, input_with, instead_of, module_of};
@@ -188,7 +189,13 @@ fn run_with_files<'a>(
     ) {
         Ok(instead) => instead,
         Err(fault) => {
-            return stopped(rt, files, views.as_slice(), fault, tells_of_module(rt, asking));
+            return stopped(
+                rt,
+                files,
+                views.as_slice(),
+                fault,
+                tells_of_module(rt, asking),
+            );
         }
     };
     tell_remarks(rt, remarks.as_str(), tells_of_module(rt, asking));

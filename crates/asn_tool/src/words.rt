@@ -244,10 +244,7 @@ fn with_answers<'a>(alloc: Global, command: Command<'a>) -> Result<Command<'a>, 
         "stats",
         "`check` counts on standard error the messages, their octets, alternatives and refusals",
     );
-    command
-        .arg(pretty)?
-        .arg(members_option(alloc))?
-        .arg(stats)
+    command.arg(pretty)?.arg(members_option(alloc))?.arg(stats)
 }
 
 /// The option for the order of the members of JSON.

@@ -1,0 +1,292 @@
+//! The answer to one message, in the form and the layout that is asked for, while standard error tells why it is refused.
+use crate::asking::{Asking, Forms};
+use crate::counting::Counts;
+use crate::explaining::why_refused;
+use crate::laying::laid_text;
+use asn_convert::{Job, Order, RuleName, RunFault, answer_line};
+use asn_json_layout::Layout;
+use asn_module::Module;
+use asn_octet_forms::{OctetForm, octets_in, text_of};
+use asn_rules::Counted;
+use asn_stats::CountFault;
+use asn_values::Checked;
+use std::io::Write;
+
+/// What is made of messages.
+#[derive(Clone, Copy)]
+pub struct Asked<'t> {
+    pub ty: &'t Checked,
+    pub order: Order,
+    pub rules: RuleName,
+    pub forms: Forms,
+    pub layout: Layout,
+    /// Whether standard error tells why a message is refused.
+    pub is_explained: bool,
+    /// Whether messages are counted.
+    pub is_counted: bool,
+}
+
+impl<'t> Asked<'t> {
+    /// What is made of the messages of a job; `None` where the module has no type of the name, or is to be printed.
+    pub fn of(asking: &Asking<'_>, job: &Job, module: &'t Module) -> Option<Asked<'t>> {
+        let Job::Lines {
+            order,
+            type_name,
+            rules,
+        } = job
+        else {
+            return None;
+        };
+        let ty = module.type_named(type_name.as_str())?;
+        Some(Asked {
+            ty,
+            order: *order,
+            rules: *rules,
+            forms: asking.forms,
+            layout: asking.layout,
+            is_explained: asking.is_explained,
+            is_counted: asking.is_counted,
+        })
+    }
+
+    /// Whether JSON is laid out.
+    fn is_laid(&self) -> bool {
+        self.layout.is_declared || self.layout.is_pretty
+    }
+
+    /// Whether an answer is written as it is.
+    fn is_as_it_is(&self) -> bool {
+        let is_hexadecimal = matches!(
+            self.forms.written,
+            None | Some(OctetForm::Hex | OctetForm::HexBlock)
+        );
+        is_hexadecimal && !self.is_counted && !self.is_laid()
+    }
+}
+
+/// Where the answers go, and what is counted of them.
+#[derive(Drop)]
+pub struct Answers<W> {
+    pub output: Counted<W>,
+    pub counts: Counts,
+}
+
+/// Where a message stands.
+#[derive(Clone, Copy)]
+pub struct Place<'a> {
+    /// The name of the file; empty for standard input.
+    pub file: &'a str,
+    /// The line at which its text begins, from 1.
+    pub line: u64,
+    /// Which message of that text it is, from 1; 0 where it is the only one.
+    pub message: u64,
+}
+
+/// Answers one line of hexadecimal or JSON, and tells whether that is no refusal.
+///
+/// # Errors
+/// `Write` where the writer answered a fault, `Memory` where an allocation failed.
+pub fn answer_one<W: Write>(
+    rt: &HostRuntime,
+    answers: &mut Answers<W>,
+    place: Place<'_>,
+    line: &[u8],
+    asked: Asked<'_>,
+) -> Result<bool, RunFault> {
+    let is_good = if asked.is_as_it_is() {
+        answer_to(rt, &mut answers.output, line, asked)?
+    } else {
+        answer_otherwise(rt, answers, place, line, asked)?
+    };
+    if !is_good && asked.is_explained {
+        let words = why_refused(rt.alloc(), asked.ty, asked.order, asked.rules, line)?;
+        tell(rt, place, words.as_str())?;
+    }
+    Ok(is_good)
+}
+
+/// Answers one line of hexadecimal or JSON by a line, as it is answered where nothing is asked for.
+fn answer_to<W: Write>(
+    rt: &HostRuntime,
+    output: &mut Counted<W>,
+    line: &[u8],
+    asked: Asked<'_>,
+) -> Result<bool, RunFault> {
+    answer_line(rt.alloc(), output, asked.ty, asked.order, asked.rules, line)
+}
+
+/// Answers one line of hexadecimal or JSON, what is written being laid out, in another form or counted.
+fn answer_otherwise<W: Write>(
+    rt: &HostRuntime,
+    answers: &mut Answers<W>,
+    place: Place<'_>,
+    line: &[u8],
+    asked: Asked<'_>,
+) -> Result<bool, RunFault> {
+    let mut answer = Counted::new(Vec::new(rt.alloc()));
+    let is_good = answer_to(rt, &mut answer, line, asked)?;
+    let answer = answer.into_inner();
+    let answer = answer.as_slice();
+    if !is_good {
+        put_refusal(rt, answers, place, answer, asked)?;
+    } else if asked.is_counted {
+        count_message(rt, answers, line, asked)?;
+        put(&mut answers.output, answer)?;
+    } else if asked.is_laid() {
+        put_laid(rt, &mut answers.output, line, asked)?;
+    } else {
+        put_octets(rt, &mut answers.output, text_in(answer), asked.forms)?;
+    }
+    Ok(is_good)
+}
+
+/// Writes the JSON of the message that a line of hexadecimal is, in the layout that is asked for.
+fn put_laid<W: Write>(
+    rt: &HostRuntime,
+    output: &mut Counted<W>,
+    line: &[u8],
+    asked: Asked<'_>,
+) -> Result<(), RunFault> {
+    let Asked {
+        ty,
+        order,
+        rules,
+        layout,
+        ..
+    } = asked;
+    match laid_text(rt.alloc(), ty, order, rules, line, layout)? {
+        Some(mut text) => {
+            text.push('\n')?;
+            put(output, text.as_bytes())
+        }
+        None => Err(RunFault::Memory),
+    }
+}
+
+/// Counts the message that a line of hexadecimal is.
+fn count_message<W>(
+    rt: &HostRuntime,
+    answers: &mut Answers<W>,
+    line: &[u8],
+    asked: Asked<'_>,
+) -> Result<(), RunFault> {
+    match octets_in(rt.alloc(), OctetForm::Hex, line)? {
+        Some(octets) => {
+            let octets = octets.as_slice();
+            counted(
+                answers
+                    .counts
+                    .add_message(rt.alloc(), asked.ty, asked.rules, octets),
+            )
+        }
+        None => Err(RunFault::Memory),
+    }
+}
+
+/// The fault of a run whose messages are not counted. (A count of 2^64 is not reached.)
+fn counted(answer: Result<(), CountFault>) -> Result<(), RunFault> {
+    match answer {
+        Ok(()) => Ok(()),
+        Err(CountFault::Full | CountFault::Memory) => Err(RunFault::Memory),
+    }
+}
+
+/// Writes the octets of these hexadecimal digits in the form that is asked for. Base64 has a line of its own.
+fn put_octets<W: Write>(
+    rt: &HostRuntime,
+    output: &mut Counted<W>,
+    digits: &[u8],
+    forms: Forms,
+) -> Result<(), RunFault> {
+    let form = match forms.written {
+        Some(form) => form,
+        None => OctetForm::Hex,
+    };
+    let Some(octets) = octets_in(rt.alloc(), OctetForm::Hex, digits)? else {
+        return Err(RunFault::Memory);
+    };
+    let mut text = text_of(rt.alloc(), form, octets.as_slice())?;
+    if form != OctetForm::Binary {
+        text.push(b'\n')?;
+    }
+    put(output, text.as_slice())
+}
+
+/// Writes this line of a refusal; on standard error, with its place, where octets alone are written. Counts it, if that is
+/// asked for.
+fn put_refusal<W: Write>(
+    rt: &HostRuntime,
+    answers: &mut Answers<W>,
+    place: Place<'_>,
+    refusal: &[u8],
+    asked: Asked<'_>,
+) -> Result<(), RunFault> {
+    let Ok(words) = std::str::from_utf8(text_in(refusal)) else {
+        return put(&mut answers.output, refusal);
+    };
+    if asked.is_counted {
+        counted(answers.counts.add_refusal(rt.alloc(), words))?;
+    }
+    if asked.forms.written == Some(OctetForm::Binary) {
+        return tell(rt, place, words);
+    }
+    put(&mut answers.output, refusal)
+}
+
+/// What a line has, without its LF.
+fn text_in(line: &[u8]) -> &[u8] {
+    match line {
+        [text @ .., b'\n'] => text,
+        _ => line,
+    }
+}
+
+/// Refuses a text in which no octets of its form stand.
+///
+/// # Errors
+/// `Write` where the writer answered a fault, `Memory` where an allocation failed.
+pub fn refuse_text<W: Write>(
+    rt: &HostRuntime,
+    answers: &mut Answers<W>,
+    place: Place<'_>,
+    form: OctetForm,
+    asked: Asked<'_>,
+) -> Result<bool, RunFault> {
+    let (refusal, words) = match form {
+        OctetForm::Base64 => ("! base64\n", "no Base64 (RFC 4648), with its padding"),
+        _ => ("! hex\n", "no hexadecimal digits, two an octet"),
+    };
+    put_refusal(rt, answers, place, refusal.as_bytes(), asked)?;
+    if asked.is_explained {
+        tell(rt, place, words)?;
+    }
+    Ok(false)
+}
+
+/// Writes all of these octets.
+fn put<W: Write>(output: &mut Counted<W>, octets: &[u8]) -> Result<(), RunFault> {
+    match output.write_all(octets) {
+        Ok(()) => Ok(()),
+        Err(_) => Err(RunFault::Write),
+    }
+}
+
+/// Tells on standard error of the message that stands there.
+fn tell(rt: &HostRuntime, place: Place<'_>, words: &str) -> Result<(), RunFault> {
+    let Place {
+        file,
+        line,
+        message,
+    } = place;
+    let mut told = if file.is_empty() {
+        format!(in rt.alloc(); "line {line}")?
+    } else {
+        format!(in rt.alloc(); "{file}:{line}")?
+    };
+    if message > 0 {
+        let which = format!(in rt.alloc(); ", message {message}")?;
+        told.push_str(which.as_str())?;
+    }
+    let _ = eprintln!(rt; "{told}: {words}");
+    Ok(())
+}

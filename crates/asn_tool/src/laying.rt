@@ -1,7 +1,7 @@
 //! JSON of messages in the layout that is asked for.
 ghost use Rattle.std.specs.Prelude.{IfOk, IfSome, string_bytes};
-ghost use Rattle.asn_values.specs.View.{shape_of};
-ghost use Rattle.asn_tool.specs.Laying.{ShowsSame};
+ghost use Rattle.asn_values.specs.View.{datum_of, shape_of};
+ghost use Rattle.asn_tool.specs.Laying.{ReadsAs, ShowsSame};
 
 use asn_convert::{Order, RuleName};
 use asn_json::to_json;
@@ -9,6 +9,7 @@ use asn_json_layout::{Layout, laid_out};
 use asn_newer::{NewerFault, ReadNewer};
 use asn_oer::Oer;
 use asn_per::Per;
+use asn_rules::laws::are_octets;
 use asn_rules::{DecodeFault, Rules, Skipped, decode};
 use asn_values::{Checked, Value};
 use hex::FromHexError;
@@ -50,11 +51,12 @@ fn shown_text<R: Rules>(
 ) -> Result<Option<String>, AllocError>
     ensures { IfOk result (λ o. IfSome o (λ text. ShowsSame R.ruling (shape_of ty.now) octets.now (string_bytes text))) }
 {
+    are_octets(octets);
     match decode::<R>(alloc, ty, octets) {
-        Ok(value) => match to_json(alloc, ty, &value) {
-            Ok(json) => Ok(Some(laid_out(alloc, ty, &json, layout)?)),
-            Err(_) => Err(AllocError),
-        },
+        Ok(value) => {
+            let text = value_text(alloc, ty, &value, layout)?;
+            Ok(Some(text))
+        }
         Err(DecodeFault::Memory) => Err(AllocError),
         Err(_) => Ok(None),
     }
@@ -84,7 +86,9 @@ fn value_text(
     ty: &Checked,
     value: &Value,
     layout: Layout,
-) -> Result<String, AllocError> {
+) -> Result<String, AllocError>
+    ensures { IfOk result (λ text. ReadsAs (shape_of ty.now) (datum_of value.now) (string_bytes text)) }
+{
     match to_json(alloc, ty, value) {
         Ok(json) => laid_out(alloc, ty, &json, layout),
         Err(_) => Err(AllocError),

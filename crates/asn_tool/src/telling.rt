@@ -2,6 +2,7 @@
 use crate::explaining::why_refused;
 use asn_convert::{Job, Order, RuleName, RunFault, Status, answer_line};
 use asn_module::Module;
+use asn_plan::Planned;
 use asn_rules::Counted;
 use asn_values::Checked;
 use std::alloc::AllocError;
@@ -60,13 +61,14 @@ fn answer_lines<R: BufRead, W: Write>(
     rules: RuleName,
 ) -> Result<Status, RunFault> {
     let alloc = rt.alloc();
+    let planned = Planned::new(alloc, ty.copy()?)?;
     let mut line = Vec::new(alloc);
     let mut status = Status::Good;
     for number in 1..u64::MAX {
         if !read_line(lines, &mut line)? {
             return flushed(output, status);
         }
-        if !answer_line(alloc, output, ty, order, rules, line.as_slice())? {
+        if !answer_line(alloc, output, &planned, order, rules, line.as_slice())? {
             status = Status::Marked;
             tell(rt, number, ty, order, rules, line.as_slice())?;
         }

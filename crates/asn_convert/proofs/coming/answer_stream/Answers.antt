@@ -1,4 +1,4 @@
-use Rattle.std.proofs.Common.{rules, ◌≡◌, true, refl, sym, subst, take}
+use Rattle.std.proofs.Common.{rules, ◌≡◌, [], true, refl, sym, subst, take}
 use Rattle.std.proofs.lemmas.Result.{err_from_is_err_and}
 use Rattle.asn_values.specs.View.{shape_of}
 use Rattle.asn_rules.specs.Faults.{state_of}
@@ -20,6 +20,15 @@ returns-in-Err-clause-begun g c =
     let w = terms (rulings g.A.Rules.ruling g.B.Rules.ruling g.A.OtherVersions.loose) c.args.rules c.args.order (shape_of c.args.ty.now) in
     let each = c.lines_have_answers.ensures c.args.order c.args.rules in
     reading_failed w each (state_of g.R.Read.remaining c.args.input.now) (state_of g.R.Read.remaining c.loop.input) (state_of g.R.Read.remaining c.read.new.self) c.loop.held.items c.loop.all_good (state_of g.W.Write.contents c.args.output.now) (state_of g.W.Write.contents c.loop.output) c.loop.invariant c.in-Err.ensures.bytes (flush_rose _ _ c.in-Err.ensures.faults)
+
+pub returns-in_err-planned-clause-begun : goal.returns-in_err-planned-clause-begun
+returns-in_err-planned-clause-begun g c =
+    let w = terms (rulings g.A.Rules.ruling g.B.Rules.ruling g.A.OtherVersions.loose) c.args.rules c.args.order (shape_of c.args.ty.now) in
+    let each = c.lines_have_answers.ensures c.args.order c.args.rules in
+    let from = state_of g.R.Read.remaining c.args.input.now in
+    let old = state_of g.W.Write.contents c.args.output.now in
+    let p = err_from_is_err_and c.from_residual.result c.from_residual.ensures.1 in
+    rw p.1 (out_of_memory w each from from [] true old old _ p.2 (none_come w from old))
 
 pub returns-in_err-is_good-clause-begun : goal.returns-in_err-is_good-clause-begun
 returns-in_err-is_good-clause-begun g c =

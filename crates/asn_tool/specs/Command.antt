@@ -1,5 +1,5 @@
 -- The command of the program, as clap's own words state it, and what it takes.
-use Rattle.std.specs.Prelude.{◌≡◌, ◌⊎◌, ℕ, pos, true, false, List, [], ◌∷◌, ◌++◌, codes, map, Option, Some, None, ⊤}
+use Rattle.std.specs.Prelude.{◌≡◌, ◌⊎◌, ℕ, Bool, pos, true, false, List, [], ◌∷◌, ◌++◌, codes, map, Option, Some, None, ⊤}
 use Rattle.std.specs.Borrow.{Bor}
 use Rattle.clap.specs.Lexer.{usize_max}
 use Rattle.clap.specs.Words.{App, Shape, Rule, Row, Text, new_app, new_rule, with_rule, first_of}
@@ -8,9 +8,13 @@ use Rattle.clap.specs.declared.builder.ValueParser.TheVariants.{Names, Signed}
 use Rattle.clap.specs.declared.builder.ValueRange.{ValueRange}
 use Rattle.clap.specs.declared.builder.ArgAction.TheVariants.{Append, Set, SetTrue}
 
--- the names of the subcommands that have a type and encoding rules
+-- the subcommands that have a type and encoding rules: their names, and whether what values take may be bounded
+abbrev pub orders : List (Text × Bool)
+orders = (codes "show", true) ∷ (codes "check", true) ∷ (codes "encode", false) ∷ (codes "convert", true)
+    ∷ (codes "newer", false) ∷ []
+
 abbrev pub order_names : List Text
-order_names = codes "show" ∷ codes "check" ∷ codes "encode" ∷ codes "convert" ∷ codes "newer" ∷ []
+order_names = map (λ o. o.0) orders
 
 abbrev pub rule_names : List Text
 rule_names = codes "per" ∷ codes "oer" ∷ []
@@ -65,8 +69,16 @@ file_rule = record (new_rule (codes "file")) {
 abbrev pub report_rule : Option ValueParser → Rule
 report_rule p = record (option_rule (codes "report")) { parser = p }
 
+-- an option whose value is a number of 32 bits
+abbrev pub number_rule : Text → Rule
+number_rule name = record (option_rule name) { parser = Some (Signed (pos 0) (pos 4294967295)) }
+
 abbrev pub levels_rule : Rule
-levels_rule = record (option_rule (codes "levels")) { parser = Some (Signed (pos 0) (pos 4294967295)) }
+levels_rule = number_rule (codes "levels")
+
+-- the most that the value of a message may take
+abbrev pub budget_rule : Rule
+budget_rule = number_rule (codes "budget")
 
 -- the options for what the profile does not have as it is published
 abbrev pub with_leave : App → App
@@ -86,19 +98,28 @@ module_shape = (with_leave (with_rule (with_rule (new_app (codes "module")) modu
 
 -- the subcommand of an order, with its two options that have to be given
 abbrev pub order_app : Text → Option ValueParser → App
-order_app name p = with_rule (with_rule (with_rule (with_rule (new_app name) type_rule) (rules_rule p)) module_rule) explain_rule
+order_app name p = with_leave (with_rule (with_rule (with_rule (with_rule (new_app name) type_rule) (rules_rule p)) module_rule)
+    explain_rule)
 
-abbrev pub order_shape : Text → Option ValueParser → Shape
-order_shape name p = (with_leave (order_app name p)).top
+abbrev pub IsOrderApp : Text → App → Type 0
+IsOrderApp name a = (p : Option ValueParser) × TakesNames rule_names p × (a ≡ order_app name p)
 
-abbrev pub IsOrder : Text → Shape → Type 0
-IsOrder name s = (p : Option ValueParser) × TakesNames rule_names p × (s ≡ order_shape name p)
+-- with the option for what values may take, where there is one
+abbrev pub with_budget : Bool → App → App
+with_budget true a = with_rule a budget_rule
+with_budget false a = a
 
-abbrev pub AreOrders : List Text → List Shape → Type 0
+abbrev pub order_shape : Text × Bool → Option ValueParser → Shape
+order_shape o p = (with_budget o.1 (order_app o.0 p)).top
+
+abbrev pub IsOrder : Text × Bool → Shape → Type 0
+IsOrder o s = (p : Option ValueParser) × TakesNames rule_names p × (s ≡ order_shape o p)
+
+abbrev pub AreOrders : List (Text × Bool) → List Shape → Type 0
 AreOrders [] [] = ⊤
-AreOrders (name ∷ names) (s ∷ shapes) = IsOrder name s × AreOrders names shapes
+AreOrders (o ∷ os) (s ∷ shapes) = IsOrder o s × AreOrders os shapes
 AreOrders [] (s ∷ shapes) = ⊥
-AreOrders (name ∷ names) [] = ⊥
+AreOrders (o ∷ os) [] = ⊥
 
 -- the command, with its subcommands
 abbrev pub tool : Option ValueParser → List Shape → App
@@ -114,7 +135,7 @@ tool report shapes = record {
 
 -- the command is that of the program
 abbrev pub IsTool : App → Type 0
-IsTool a = (report : Option ValueParser) × (shapes : List Shape) × TakesNames report_names report × AreOrders order_names shapes
+IsTool a = (report : Option ValueParser) × (shapes : List Shape) × TakesNames report_names report × AreOrders orders shapes
     × (a ≡ tool report shapes)
 
 -- ---- what it takes

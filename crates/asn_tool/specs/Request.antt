@@ -66,10 +66,13 @@ abbrev pub Reads : Text → Option ℕ → Type 0
 Reads t (Some n) = IsNumber t × (n ≡ digits_value 10 (without_leading_plus t))
 Reads t None = IsNumber t → ⊥
 
+-- the number that is given as the value of an option, if one is given
+abbrev pub IsNumberOf : Text → List Row → Option ℕ → Type 0
+IsNumberOf id rows read = (one_of id rows ≡ None → read ≡ None) × ((t : Text) → one_of id rows ≡ Some t → Reads t read)
+
 -- the number that is given as the levels, 0 where there is none
 abbrev pub AreLevels : List Row → ℕ → Type 0
-AreLevels rows n = (read : Option ℕ) × (n ≡ unwrap_or read 0) × (one_of (codes "levels") rows ≡ None → read ≡ None)
-    × ((t : Text) → one_of (codes "levels") rows ≡ Some t → Reads t read)
+AreLevels rows n = (read : Option ℕ) × (n ≡ unwrap_or read 0) × IsNumberOf (codes "levels") rows read
 
 abbrev pub AreOptions : List Row → Options → Type 0
 AreOptions rows o = IsFlag (codes "plain-bits") rows o.plain_bits × IsFlag (codes "octets") rows o.octets
@@ -89,9 +92,9 @@ form_in rows = option_map_or form_of (first_of (codes "report") rows) form.Summa
 abbrev pub IsRequestOf : Text × List Row → Request → Type 0
 IsRequestOf found (request.Flatten files options f) = (found.0 ≡ codes "flatten")
     × (texts_of files.items ≡ files_of (codes "file") found.1) × AreOptions found.1 options × (f ≡ form_in found.1)
-IsRequestOf found (request.Run j files options is_explained) = IsJobOf found j
+IsRequestOf found (request.Run j files options is_explained budget) = IsJobOf found j
     × (texts_of files.items ≡ files_of (codes "module") found.1) × AreOptions found.1 options
-    × IsFlag (codes "explain") found.1 is_explained
+    × IsFlag (codes "explain") found.1 is_explained × IsNumberOf (codes "budget") found.1 budget
 
 abbrev pub HasRequest : Option (Text × List Row) → Request → Type 0
 HasRequest None r = ⊥

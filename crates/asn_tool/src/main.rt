@@ -2,6 +2,7 @@
 //! of each line.
 #![tactic(auto)]
 
+mod budget;
 mod ending;
 mod explaining;
 mod flattening;
@@ -25,6 +26,7 @@ use std::io::ErrorKind;
 use std::process::ExitCode;
 use std::{env, io};
 use stop::Stop;
+use telling::Telling;
 
 /// Does what the words after the program's name ask for. The exit status is 0 where all is well, after help and the
 /// version too; 1 where a line or a type is refused; 2 where the words, a text or the module is; and 3 where reading,
@@ -69,7 +71,11 @@ fn do_request<'a>(rt: &HostRuntime, request: &Request<'a>) -> Result<u8, Stop<'a
             files,
             options,
             is_explained,
-        } => run_job(rt, job, files.as_slice(), *options, *is_explained),
+            budget,
+        } => {
+            let telling = Telling::of(rt, *is_explained, *budget);
+            run_job(rt, job, files.as_slice(), *options, telling)
+        }
     }
 }
 

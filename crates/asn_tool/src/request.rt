@@ -5,7 +5,7 @@ ghost use Rattle.asn_convert.specs.declared.job.Order.{Order};
 ghost use Rattle.asn_convert.specs.declared.job.RuleName.{RuleName};
 ghost use Rattle.asn_tool.specs.declared.request.LineFault.{LineFault};
 ghost use Rattle.asn_tool.specs.Command.{HasOptions, IsTaken};
-ghost use Rattle.asn_tool.specs.Request.{Asks, AreOptions, HasRequest, IsFlag, IsJobOf, IsRequestOf, Told, fault_by, files_of, form_in, form_of, order_name, rule_name, texts_of};
+ghost use Rattle.asn_tool.specs.Request.{Asks, AreOptions, HasRequest, IsFlag, IsJobOf, IsNumberOf, IsRequestOf, Told, fault_by, files_of, form_in, form_of, order_name, rule_name, texts_of};
 
 use crate::words::command;
 use asn_convert::{Job, Order, RuleName};
@@ -36,6 +36,8 @@ pub enum Request<'a> {
         options: Options,
         /// Whether standard error tells of each line that is refused, and of a refused module, why.
         is_explained: bool,
+        /// The most entries, and octets of strings, that the value of a message may take.
+        budget: Option<u32>,
     },
 }
 
@@ -116,6 +118,7 @@ fn run_in<'a>(alloc: Global, options: &ArgMatches<'a>, job: Job) -> Result<Reque
         files: files_in(alloc, options, "module")?,
         options: options_in(options),
         is_explained: is_explained(options),
+        budget: budget_in(options),
     })
 }
 
@@ -179,6 +182,13 @@ fn is_explained(options: &ArgMatches<'_>) -> bool
     ensures { IsFlag (codes "explain") (rows_of (found_of options.now)) result }
 {
     options.get_flag("explain")
+}
+
+/// What the value of a message may take, if there is a bound. A subcommand without `--budget` has none.
+fn budget_in(options: &ArgMatches<'_>) -> Option<u32>
+    ensures { IsNumberOf (codes "budget") (rows_of (found_of options.now)) result }
+{
+    options.get_one("budget")
 }
 
 /// How it is told what became of the types: a summary where it is not said.

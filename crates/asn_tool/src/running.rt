@@ -4,7 +4,7 @@ use crate::piped::Piped;
 use crate::refused::{imports_told, line_told, text_told};
 use crate::sources::{Instead, input_with, instead_of, module_of};
 use crate::stop::Stop;
-use crate::telling::{Telling, answer_explained};
+use crate::telling::{Telling, answer_each};
 use crate::texts::{texts_of, views_of};
 use asn_convert::{Job, RunFault, Status, cut_input, read_all, run, run_on_lines};
 use asn_module::Module;
@@ -20,9 +20,8 @@ pub fn run_job<'a>(
     job: &Job,
     files: &[&'a str],
     options: Options,
-    is_explained: bool,
+    telling: Telling,
 ) -> Result<u8, Stop<'a>> {
-    let telling = Telling::of(rt, is_explained);
     if files.is_empty() {
         run_given(rt, job, options, telling)
     } else {
@@ -68,29 +67,29 @@ fn run_text<'a>(
         let told = text_told(rt.alloc(), text, options, job, is_all)?;
         let _ = rt.eprint(told.as_str());
     }
-    match run_explained(rt, job, text, telling, lines)? {
+    match run_by_line(rt, job, text, telling, lines)? {
         Some(status) => Ok(status),
         None => Ok(run_on(rt, job, octets)),
     }
 }
 
-/// The exit status of the job on the lines in memory, each of which is told why it is refused. `None`, and nothing is
-/// done, where that is not asked for, or the text is no module with lines to answer.
-fn run_explained<'a>(
+/// The exit status of the job on the lines in memory, each of which is answered by itself. `None`, and nothing is done,
+/// where that is not asked for, or the text is no module with lines to answer.
+fn run_by_line<'a>(
     rt: &HostRuntime,
     job: &Job,
     text: &[u8],
     telling: Telling,
     lines: &[u8],
 ) -> Result<Option<u8>, Stop<'a>> {
-    if !telling.lines {
+    if !telling.is_by_line() {
         return Ok(None);
     }
     let Some(module) = module_of(rt.alloc(), text)? else {
         return Ok(None);
     };
     let mut lines = lines;
-    Ok(explained(rt, job, &module, &mut lines))
+    Ok(each_answered(rt, job, &module, telling, &mut lines))
 }
 
 /// Does the job, its module being that of the files. The lines of standard input are answered as they come; where the
@@ -155,12 +154,12 @@ fn run_coming<'a>(
         let told = text_told(rt.alloc(), text, options, job, false)?;
         let _ = rt.eprint(told.as_str());
     }
-    if telling.lines {
+    if telling.is_by_line() {
         if let Some(module) = module_of(rt.alloc(), text)? {
             let Ok(mut lines) = BufReader::new(rt.alloc(), rt.reader()) else {
                 return Err(Stop::Memory);
             };
-            if let Some(status) = explained(rt, job, &module, &mut lines) {
+            if let Some(status) = each_answered(rt, job, &module, telling, &mut lines) {
                 return Ok(status);
             }
         }
@@ -179,16 +178,17 @@ fn run_on(rt: &HostRuntime, job: &Job, octets: &[u8]) -> u8 {
     ended(rt, &answer, output.into_inner().is_closed())
 }
 
-/// The exit status of the job on these lines, each of which is told why it is refused. `None`, and nothing is done, where
-/// the module is to be printed or has no type of the name.
-fn explained<R: BufRead>(
+/// The exit status of the job on these lines, each of which is answered by itself. `None`, and nothing is done, where the
+/// module is to be printed or has no type of the name.
+fn each_answered<R: BufRead>(
     rt: &HostRuntime,
     job: &Job,
     module: &Module,
+    telling: Telling,
     lines: &mut R,
 ) -> Option<u8> {
     let mut output = Counted::new(Piped::new(io::writer(rt)));
-    let answer = answer_explained(rt, job, module, lines, &mut output)?;
+    let answer = answer_each(rt, job, module, telling, lines, &mut output)?;
     Some(ended(rt, &answer, output.into_inner().is_closed()))
 }
 

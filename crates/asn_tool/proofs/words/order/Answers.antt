@@ -1,19 +1,19 @@
 use Rattle.std.proofs.Common.{ap, ap₂, false, ◌≡◌, ◌∙◌, ◌||◌}
 use Rattle.std.proofs.lemmas.Result.{IfOk-weaker}
 use Rattle.clap.specs.Simple.{app_of_fields}
-use Rattle.clap.specs.Words.{App, app_of, new_app, with_rule}
+use Rattle.clap.specs.Words.{app_of, new_app, with_rule}
 use Rattle.clap.specs.declared.builder.Command.TheViews.{out-Command}
 use Rattle.asn_tool.specs.Command.{with_leave}
 use Rattle.asn_tool.proofs.words.order.Goals as goal
 
-pub returns-clause-shape : goal.returns-clause-shape
-returns-clause-shape c =
+pub returns-clause-app : goal.returns-clause-app
+returns-clause-app c =
     let new_is : app_of c.after_help.result ≡ new_app c.args.name.now = ap app_of_fields c.after_help.ensures ∙ (ap app_of_fields c.about.ensures ∙ c.new.ensures.app) in
     let one = c.in_ok-arg.ensures.shape c.type_option.ensures.local ∙ ap₂ with_rule new_is c.type_option.ensures.rule in
     let two = c.in_ok-arg-2.ensures.shape c.rules_option.ensures.local ∙ ap₂ with_rule one c.rules_option.ensures.rule.2 in
     let three = c.in_ok-arg-3.ensures.shape c.files_option.ensures.local ∙ ap₂ with_rule two c.files_option.ensures.rule in
     let four = c.in_ok-command.ensures.shape c.explain_option.ensures.local ∙ ap₂ with_rule three c.explain_option.ensures.rule in
-    IfOk-weaker c.with_leave.result _ _ (λ d h. (c.rules_option.ensures.rule.0, c.rules_option.ensures.rule.1, ap (λ (a : App). a.top) (h ∙ ap with_leave four))) c.with_leave.ensures.shape
+    IfOk-weaker c.with_leave.result _ _ (λ d h. (c.rules_option.ensures.rule.0, c.rules_option.ensures.rule.1, h ∙ ap with_leave four)) c.with_leave.ensures.shape
 
 pub returns-clause-local : goal.returns-clause-local
 returns-clause-local c =

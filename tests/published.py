@@ -14,6 +14,7 @@ The last line is 'N passed, M failed'.
 import importlib.util
 import json
 import os
+import re
 import subprocess
 import sys
 import tempfile
@@ -360,6 +361,29 @@ def hostile(count, program):
         count.add(two[3] <= TIMES * one[3] + SECONDS, f"{name}: {one[3]:.2f} s, and twice as much {two[3]:.2f} s")
 
 
+def grown(published):
+    """A text of 14 KB whose module comes to more than 10,000,000: names of 1,000 letters, in types inside others."""
+    long = ", ".join(f"a{chr(98 + it) * 999} NULL" for it in range(10))
+    many = "".join(f"D{it} ::= SEQUENCE {{ c C }}\n" for it in range(20))
+    value = "n INTEGER ::= 7\n" if published else ""
+    return f"{HEAD}{value}B ::= SEQUENCE {{ {long} }}\nC ::= SEQUENCE {{ {', '.join(f'b{it} B' for it in range(60))} }}\n{many}END\n".encode()
+
+
+def too_large(count, program):
+    """A module that grows too large is refused by each command, in little memory, and told on standard error."""
+    for published in (False, True):
+        text = grown(published)
+        with tempfile.NamedTemporaryFile(suffix=".asn") as file:
+            file.write(text)
+            file.flush()
+            show = ["show", "--type", "B", "--rules", "per"]
+            for words, given in ((["module"], text), ([*show], text + b"====\n00\n"), (["module", "--module", file.name], b""), ([*show, "--module", file.name], b"00\n"), (["flatten", file.name], b"")):
+                ran = run(program, words, given)
+                line = rb"not read: at D\d+ its types come to more than 10000000, references followed\n"
+                count.add(ran[0] == 2 and not ran[1] and bool(re.fullmatch(line, ran[2])), f"{words}, too large: {ran[:3]}")
+                count.add(ran[4] < 100, f"{words}, too large: {ran[4]:.0f} MB")
+
+
 def main(words):
     if len(words) != 1:
         print(__doc__, file=sys.stderr)
@@ -371,6 +395,7 @@ def main(words):
     second_implementation(count)
     told(count, program)
     hostile(count, program)
+    too_large(count, program)
     print(f"published modules: {time.time() - start:.0f} s by the clock")
     print(f"{count.passed} passed, {count.failed} failed")
     return 1 if count.failed else 0

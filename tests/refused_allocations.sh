@@ -170,6 +170,8 @@ answered_to() { # what is read, and the words
 module='M DEFINITIONS AUTOMATIC TAGS ::= BEGIN N ::= NULL END\n'
 answered_to "$module" module
 answered_to "$module====\n00\nzz\n" check --type N --rules per
+answered_to "$module====\n00\nzz\n" check --type N --rules per --budget 0
+answered_to "$module====\n00\n" show --type N --rules oer --budget 1
 answered_to "$module====\nnull\n" encode --rules=oer --type=N
 answered_to "$module====\n00\n" convert --type N --rules per
 answered_to "$module====\n00\n" newer --type X --rules per

@@ -68,6 +68,9 @@ def messages(count, program):
                 count.add(run([*words, "--module", file], last) == wanted, f"{name} {order} {rules}")
             for way, text in ((["--module", file], given), ([], octets_of(file) + b"====\n" + given)):
                 count.add(run([*words, *way, "--explain"], text) == wanted, f"{name} {order} {rules} {way} --explain")
+            if order in ("show", "check", "convert"):
+                for way, text in ((["--module", file], given), ([], octets_of(file) + b"====\n" + given)):
+                    count.add(run([*words, *way, "--budget", "4294967295"], text) == wanted, f"{name} {order} {rules} {way} --budget")
             count.add(run_in_pieces([*words, "--module", file], given[:2000], 3)[1] == run(words, octets_of(file) + b"====\n" + given[:2000])[1], f"{name} {order} {rules} in pieces")
 
 
@@ -95,6 +98,28 @@ def as_they_come(count, program, file):
         count.add(answer == wanted, f"{line}: {answer}")
     ran.stdin.close()
     count.add(ran.wait() == 1 and ran.stdout.read() == b"", "the end of the lines that come")
+
+
+def over_budget(count, program):
+    """A message of 8 KB whose value has 4,194,241 entries is told to be over the budget, and not built."""
+    nulls = ", ".join(f"n{it} NULL" for it in range(62))
+    with tempfile.NamedTemporaryFile(suffix=".asn") as file:
+        file.write(f"M DEFINITIONS AUTOMATIC TAGS ::= BEGIN T ::= SEQUENCE (SIZE (0..65535)) OF SEQUENCE {{ b BOOLEAN, {nulls} }} END\n".encode())
+        file.flush()
+        for order in ("show", "check", "convert"):
+            for most, wanted in ((4194240, b"! over budget: 4194241 entries, 0 octets\n"), (1, b"! over budget: 4194241 entries, 0 octets\n")):
+                with tempfile.TemporaryFile() as given:
+                    given.write(b"ffff" + b"00" * 8192 + b"\n")
+                    given.seek(0)
+                    words = [program, order, "--type", "T", "--rules", "per", "--module", file.name, "--budget", str(most)]
+                    ran = subprocess.Popen(words, stdin=given, stdout=subprocess.PIPE)
+                    said = ran.stdout.read()
+                    _, status, used = os.wait4(ran.pid, 0)
+                    ran.returncode = os.waitstatus_to_exitcode(status)
+                count.add((ran.returncode, said) == (1, wanted), f"{order} over the budget {most}: status {ran.returncode}, {said[:100]}")
+                count.add(used.ru_maxrss < 30_000, f"{order} over the budget: {used.ru_maxrss} KB")
+            enough = run([program, "check", "--type", "T", "--rules", "per", "--module", file.name, "--budget", "4194241"], b"ffff" + b"00" * 8192 + b"\n")
+            count.add(enough == (0, b"ok 8194\n", b""), f"within the budget: {enough}")
 
 
 def memory(count, program, file):
@@ -143,6 +168,7 @@ def main(words):
             it.write(MODULE)
         messages(count, program)
         explained(count, program)
+        over_budget(count, program)
         as_they_come(count, program, file)
         memory(count, program, file)
         faults(count, program, file)

@@ -15,6 +15,7 @@ use crate::newer::newer_octets;
 use crate::texts::{Answer, Reply, decode_refusal, json_refusal, refusal};
 use asn_json::{from_json, to_json};
 use asn_newer::ReadNewer;
+use asn_plan::{PlanRules, Planned};
 use asn_rules::laws::are_octets;
 use asn_rules::{Rules, decode};
 use asn_values::{Checked, Value};
@@ -22,15 +23,16 @@ use serde_json::Value as Json;
 use std::alloc::{AllocError, Global};
 
 /// What is answered to one line.
-pub(crate) fn answer_to<A: ReadNewer, B: Rules>(
+pub(crate) fn answer_to<A: ReadNewer + PlanRules, B: Rules>(
     alloc: Global,
-    ty: &Checked,
+    planned: &Planned,
     order: Order,
     rules: RuleName,
     line: &[u8],
 ) -> Result<Reply, AllocError>
-    ensures { IfOk result (LineReply A.ruling B.ruling A.loose rules order ty.now line.now) }
+    ensures { IfOk result (LineReply A.ruling B.ruling A.loose rules order planned.now line.now) }
 {
+    let ty = planned.get();
     if let Order::Encode = order {
         return answer_json(alloc, ty, line);
     }
@@ -41,7 +43,7 @@ pub(crate) fn answer_to<A: ReadNewer, B: Rules>(
     let octets = octets.as_slice();
     match order {
         Order::Show => Ok(Reply::Text(show_octets::<A>(alloc, ty, rules, octets)?)),
-        Order::Check => Ok(Reply::Text(check_octets::<A>(alloc, ty, rules, octets)?)),
+        Order::Check => Ok(Reply::Text(check_octets::<A>(alloc, planned, rules, octets)?)),
         Order::Convert => convert_octets::<A>(alloc, ty, rules, octets),
         Order::Newer => Ok(Reply::Text(newer_octets::<A>(alloc, ty, octets)?)),
         Order::Encode => unreachable!(),
@@ -96,18 +98,18 @@ pub(crate) fn json_text(alloc: Global, ty: &Checked, value: &Value) -> Result<St
 }
 
 /// How many the octets are, where they encode a value.
-fn check_octets<A: Rules>(
+fn check_octets<A: PlanRules>(
     alloc: Global,
-    ty: &Checked,
+    planned: &Planned,
     rules: RuleName,
     octets: &[u8],
 ) -> Result<Answer, AllocError>
-    ensures { IfOk result (λ a. AnswersCheck A.ruling rules (shape_of ty.now) octets.now
+    ensures { IfOk result (λ a. AnswersCheck A.ruling rules (shape_of planned.now) octets.now
         (string_bytes a.text) a.is_good) }
 {
     are_octets(octets);
-    match decode::<A>(alloc, ty, octets) {
-        Ok(_) => {
+    match planned.check::<A>(alloc, octets) {
+        Ok(()) => {
             let count = octets.len();
             let text = format!(in alloc; "ok {count}")?;
             Ok(Answer {

@@ -9,8 +9,8 @@ use crate::running;
 use crate::running::run_with;
 use asn_oer::Oer;
 use asn_per::Per;
+use asn_plan::Planned;
 use asn_rules::Counted;
-use asn_values::Checked;
 use std::alloc::Global;
 use std::io::{Read, Write};
 
@@ -75,17 +75,21 @@ pub fn run_on_lines<R: Read, W: Write>(
 pub fn answer_line<W: Write>(
     alloc: Global,
     output: &mut Counted<W>,
-    ty: &Checked,
+    planned: &Planned,
     order: Order,
     rules: RuleName,
     line: &[u8],
 ) -> Result<bool, RunFault>
-    ensures told { Wrote result W.contents output.old output.new (OneTold rules order ty.now line.now) }
-    ensures begun { Broke result W.contents output.old output.new (OneBegun rules order ty.now line.now) }
+    ensures told { Wrote result W.contents output.old output.new (OneTold rules order planned.now line.now) }
+    ensures begun { Broke result W.contents output.old output.new (OneBegun rules order planned.now line.now) }
 {
     match rules {
-        RuleName::Per => running::answer_line::<Per, Oer, W>(alloc, output, ty, order, rules, line),
-        RuleName::Oer => running::answer_line::<Oer, Per, W>(alloc, output, ty, order, rules, line),
+        RuleName::Per => {
+            running::answer_line::<Per, Oer, W>(alloc, output, planned, order, rules, line)
+        }
+        RuleName::Oer => {
+            running::answer_line::<Oer, Per, W>(alloc, output, planned, order, rules, line)
+        }
     }
 }
 

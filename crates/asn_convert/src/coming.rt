@@ -8,9 +8,10 @@ use crate::cut::cut_input;
 use crate::job::{Job, Order, RuleName, RunFault, Status};
 use crate::laws::lines_have_answers;
 use crate::put::put;
-use crate::running::{answer_lines, answer_module, module_in};
+use crate::running::{answer_lines, answer_module, module_in, with_plan};
 use asn_module::Module;
 use asn_newer::ReadNewer;
+use asn_plan::{PlanRules, Planned};
 use asn_rules::{Counted, Rules};
 use asn_values::Checked;
 use std::alloc::Global;
@@ -21,7 +22,7 @@ const PIECE: usize = 8192;
 
 /// Writes the text of the job for the module in front of the mark and the lines that the reader gives, octets being those
 /// of the rules A, or converted to those of B.
-pub(crate) fn run_coming<A: ReadNewer, B: Rules, R: Read, W: Write>(
+pub(crate) fn run_coming<A: ReadNewer + PlanRules, B: Rules, R: Read, W: Write>(
     alloc: Global,
     head: &[u8],
     input: &mut Counted<R>,
@@ -45,7 +46,7 @@ pub(crate) fn run_coming<A: ReadNewer, B: Rules, R: Read, W: Write>(
 }
 
 /// Writes the text of the job for this module and the lines that the reader gives.
-fn answer_coming<A: ReadNewer, B: Rules, R: Read, W: Write>(
+fn answer_coming<A: ReadNewer + PlanRules, B: Rules, R: Read, W: Write>(
     alloc: Global,
     input: &mut Counted<R>,
     output: &mut Counted<W>,
@@ -93,7 +94,7 @@ fn type_for<'a>(job: &Job, accepted: &'a Module) -> Option<(&'a Checked, Order, 
 
 /// Answers each line that the reader gives, those of a piece once it has come, and tells whether no answer is a refusal.
 /// Of the input no more is kept than a piece and the line that has begun.
-fn answer_stream<A: ReadNewer, B: Rules, R: Read, W: Write>(
+fn answer_stream<A: ReadNewer + PlanRules, B: Rules, R: Read, W: Write>(
     alloc: Global,
     input: &mut Counted<R>,
     output: &mut Counted<W>,
@@ -107,6 +108,7 @@ fn answer_stream<A: ReadNewer, B: Rules, R: Read, W: Write>(
         (LinesBegunBy A.ruling B.ruling A.loose rules order ty.now) }
 {
     lines_have_answers::<A, B>(ty);
+    let planned = with_plan(alloc, ty)?;
     let mut held = Vec::new(alloc);
     let mut all_good = true;
     let mut piece = [0; PIECE];
@@ -116,13 +118,14 @@ fn answer_stream<A: ReadNewer, B: Rules, R: Read, W: Write>(
             Err(_) => return Err(RunFault::Read),
         };
         if count == 0 {
-            let is_good = answer_held::<A, B, W>(alloc, output, ty, order, rules, held.as_slice())?;
+            let held = held.as_slice();
+            let is_good = answer_held::<A, B, W>(alloc, output, &planned, order, rules, held)?;
             return Ok(all_good & is_good);
         }
         let is_good = answer_piece::<A, B, W>(
             alloc,
             output,
-            ty,
+            &planned,
             order,
             rules,
             &mut held,
@@ -136,19 +139,19 @@ fn answer_stream<A: ReadNewer, B: Rules, R: Read, W: Write>(
 
 /// Answers the lines that end within a piece, the first of which begins with what is held. What begins the next line is
 /// held then.
-fn answer_piece<A: ReadNewer, B: Rules, W: Write>(
+fn answer_piece<A: ReadNewer + PlanRules, B: Rules, W: Write>(
     alloc: Global,
     output: &mut Counted<W>,
-    ty: &Checked,
+    planned: &Planned,
     order: Order,
     rules: RuleName,
     held: &mut Vec<u8>,
     piece: &[u8],
 ) -> Result<bool, RunFault>
     ensures told { Took result W.contents output.old output.new held.old.items piece.now held.new.items
-        (LinesTold A.ruling B.ruling A.loose rules order ty.now) }
+        (LinesTold A.ruling B.ruling A.loose rules order planned.now) }
     ensures begun { TookPart result W.contents output.old output.new held.old.items piece.now
-        (LinesBegun A.ruling B.ruling A.loose rules order ty.now) }
+        (LinesBegun A.ruling B.ruling A.loose rules order planned.now) }
 {
     let (ended, begun) = cut_last_line(piece);
     if ended.is_empty() {
@@ -156,27 +159,27 @@ fn answer_piece<A: ReadNewer, B: Rules, W: Write>(
         return Ok(true);
     }
     held.extend_from_slice(ended)?;
-    let is_good = answer_held::<A, B, W>(alloc, output, ty, order, rules, held.as_slice())?;
+    let is_good = answer_held::<A, B, W>(alloc, output, planned, order, rules, held.as_slice())?;
     held.clear();
     held.extend_from_slice(begun)?;
     Ok(is_good)
 }
 
 /// Answers the lines that are held, and lets the writer hold nothing back.
-fn answer_held<A: ReadNewer, B: Rules, W: Write>(
+fn answer_held<A: ReadNewer + PlanRules, B: Rules, W: Write>(
     alloc: Global,
     output: &mut Counted<W>,
-    ty: &Checked,
+    planned: &Planned,
     order: Order,
     rules: RuleName,
     held: &[u8],
 ) -> Result<bool, RunFault>
     ensures told { Wrote result W.contents output.old output.new
-        (LinesTold A.ruling B.ruling A.loose rules order ty.now held.now) }
+        (LinesTold A.ruling B.ruling A.loose rules order planned.now held.now) }
     ensures begun { Broke result W.contents output.old output.new
-        (LinesBegun A.ruling B.ruling A.loose rules order ty.now held.now) }
+        (LinesBegun A.ruling B.ruling A.loose rules order planned.now held.now) }
 {
-    let is_good = answer_lines::<A, B, W>(alloc, output, ty, order, rules, held)?;
+    let is_good = answer_lines::<A, B, W>(alloc, output, planned, order, rules, held)?;
     put_through(output)?;
     Ok(is_good)
 }

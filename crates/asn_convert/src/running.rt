@@ -14,13 +14,14 @@ use crate::reading::read_all;
 use crate::texts::Reply;
 use asn_module::{Module, ModuleFault, read};
 use asn_newer::ReadNewer;
+use asn_plan::{PlanRules, Planned};
 use asn_rules::{Counted, Rules};
 use asn_values::Checked;
 use std::alloc::{AllocError, Global};
 use std::io::{Read, Write};
 
 /// Reads all, and writes the text of the job, octets being those of the rules A, or converted to those of B.
-pub(crate) fn run_with<A: ReadNewer, B: Rules, R: Read, W: Write>(
+pub(crate) fn run_with<A: ReadNewer + PlanRules, B: Rules, R: Read, W: Write>(
     alloc: Global,
     input: &mut Counted<R>,
     output: &mut Counted<W>,
@@ -36,7 +37,7 @@ pub(crate) fn run_with<A: ReadNewer, B: Rules, R: Read, W: Write>(
 }
 
 /// Writes the text of the job for this input, and lets the writer hold nothing back.
-fn write_text<A: ReadNewer, B: Rules, W: Write>(
+fn write_text<A: ReadNewer + PlanRules, B: Rules, W: Write>(
     alloc: Global,
     output: &mut Counted<W>,
     job: &Job,
@@ -55,7 +56,7 @@ fn write_text<A: ReadNewer, B: Rules, W: Write>(
 }
 
 /// Writes the text of the job for this input.
-fn answer_input<A: ReadNewer, B: Rules, W: Write>(
+fn answer_input<A: ReadNewer + PlanRules, B: Rules, W: Write>(
     alloc: Global,
     output: &mut Counted<W>,
     job: &Job,
@@ -115,7 +116,7 @@ fn words_of(alloc: Global, fault: ModuleFault) -> Result<String, AllocError>
 }
 
 /// Writes the text of the job for this module and these lines.
-pub(crate) fn answer_module<A: ReadNewer, B: Rules, W: Write>(
+pub(crate) fn answer_module<A: ReadNewer + PlanRules, B: Rules, W: Write>(
     alloc: Global,
     output: &mut Counted<W>,
     job: &Job,
@@ -139,7 +140,7 @@ pub(crate) fn answer_module<A: ReadNewer, B: Rules, W: Write>(
             rules,
         } => match accepted.type_named(type_name.as_str()) {
             Some(ty) => {
-                if answer_lines::<A, B, W>(alloc, output, ty, *order, *rules, lines)? {
+                if answer_all::<A, B, W>(alloc, output, ty, *order, *rules, lines)? {
                     Ok(Status::Good)
                 } else {
                     Ok(Status::Marked)
@@ -154,8 +155,8 @@ pub(crate) fn answer_module<A: ReadNewer, B: Rules, W: Write>(
     }
 }
 
-/// Answers each line, and tells whether no answer is a refusal.
-pub(crate) fn answer_lines<A: ReadNewer, B: Rules, W: Write>(
+/// Answers each line by a plan of the type, and tells whether no answer is a refusal.
+fn answer_all<A: ReadNewer + PlanRules, B: Rules, W: Write>(
     alloc: Global,
     output: &mut Counted<W>,
     ty: &Checked,
@@ -169,10 +170,37 @@ pub(crate) fn answer_lines<A: ReadNewer, B: Rules, W: Write>(
         (LinesBegun A.ruling B.ruling A.loose rules order ty.now lines.now) }
 {
     lines_have_answers::<A, B>(ty);
+    let planned = with_plan(alloc, ty)?;
+    answer_lines::<A, B, W>(alloc, output, &planned, order, rules, lines)
+}
+
+/// The type with its plan, which is worked out once for all lines.
+pub(crate) fn with_plan(alloc: Global, ty: &Checked) -> Result<Planned, RunFault>
+    ensures planned { IfOk result (λ p. p ≡ ty.now) }
+    ensures fault { IfErr result (λ fault. fault ≡ RunFault.Memory) }
+{
+    Ok(Planned::new(alloc, ty.copy()?)?)
+}
+
+/// Answers each line, and tells whether no answer is a refusal.
+pub(crate) fn answer_lines<A: ReadNewer + PlanRules, B: Rules, W: Write>(
+    alloc: Global,
+    output: &mut Counted<W>,
+    planned: &Planned,
+    order: Order,
+    rules: RuleName,
+    lines: &[u8],
+) -> Result<bool, RunFault>
+    ensures told { Wrote result W.contents output.old output.new
+        (LinesTold A.ruling B.ruling A.loose rules order planned.now lines.now) }
+    ensures begun { Broke result W.contents output.old output.new
+        (LinesBegun A.ruling B.ruling A.loose rules order planned.now lines.now) }
+{
+    lines_have_answers::<A, B>(planned.get());
     let mut rest = lines;
     let mut all_good = true;
     while let Some((line, later)) = next_line(rest) {
-        let is_good = answer_line::<A, B, W>(alloc, output, ty, order, rules, line)?;
+        let is_good = answer_line::<A, B, W>(alloc, output, planned, order, rules, line)?;
         all_good &= is_good;
         rest = later;
     }
@@ -180,22 +208,22 @@ pub(crate) fn answer_lines<A: ReadNewer, B: Rules, W: Write>(
 }
 
 /// Answers one line, and tells whether the answer is no refusal. What is answered is let go at the end.
-pub(crate) fn answer_line<A: ReadNewer, B: Rules, W: Write>(
+pub(crate) fn answer_line<A: ReadNewer + PlanRules, B: Rules, W: Write>(
     alloc: Global,
     output: &mut Counted<W>,
-    ty: &Checked,
+    planned: &Planned,
     order: Order,
     rules: RuleName,
     line: &[u8],
 ) -> Result<bool, RunFault>
     ensures told { Wrote result W.contents output.old output.new
-        (LineTold A.ruling B.ruling A.loose rules order ty.now line.now) }
+        (LineTold A.ruling B.ruling A.loose rules order planned.now line.now) }
     ensures begun { Broke result W.contents output.old output.new
-        (LineBegun A.ruling B.ruling A.loose rules order ty.now line.now) }
+        (LineBegun A.ruling B.ruling A.loose rules order planned.now line.now) }
 {
-    match answer_to::<A, B>(alloc, ty, order, rules, line)? {
+    match answer_to::<A, B>(alloc, planned, order, rules, line)? {
         Reply::Text(answer) => put_answer(output, answer),
-        Reply::Encoded(value) => put_octets::<A, W>(output, ty, &value),
-        Reply::Converted(value) => put_octets::<B, W>(output, ty, &value),
+        Reply::Encoded(value) => put_octets::<A, W>(output, planned.get(), &value),
+        Reply::Converted(value) => put_octets::<B, W>(output, planned.get(), &value),
     }
 }

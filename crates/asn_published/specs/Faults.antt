@@ -1,5 +1,5 @@
 -- What is said of texts that become no module, in words.
-use Rattle.std.specs.Prelude.{◌++◌, ℕ, List, Option, Some, None, codes}
+use Rattle.std.specs.Prelude.{◌++◌, ℕ, List, Option, Some, None, codes, string_bytes}
 use Rattle.std.specs.Fmt.{decimal}
 use Rattle.asn_published_read.specs.Words.{wrong_words}
 use Rattle.asn_published.specs.declared.fault.PublishedFault.{PublishedFault}
@@ -9,4 +9,6 @@ use Rattle.asn_published.specs.declared.fault.PublishedFault.TheVariants as faul
 abbrev pub fault_words : PublishedFault → Option (List ℕ)
 fault_words (fault.Text text line w) = Some (codes "line " ++ (decimal line ++ (codes ": " ++ wrong_words w)))
 fault_words (fault.Unread other) = None
+fault_words (fault.TooLarge most name) =
+    Some (codes "larger than " ++ (decimal most ++ (codes " at " ++ string_bytes name)))
 fault_words fault.Memory = Some (codes "memory")

@@ -1,5 +1,5 @@
 //! Why published texts become no module of the profile.
-use asn_module::ModuleFault;
+use asn_module::{BoundFault, ModuleFault};
 use asn_published_read::refusal::Refusal;
 use asn_published_read::wrong::{TextFault, Wrong};
 use std::alloc::{AllocError, AllocFailed};
@@ -17,6 +17,11 @@ pub enum PublishedFault {
     },
     /// The profile does not take what was written.
     Unread(ModuleFault),
+    /// The module is larger than was allowed, as `asn_module::read_within` counts it; `name` is that with whose type it is.
+    TooLarge {
+        most: u32,
+        name: String,
+    },
     /// An allocation failed.
     Memory,
 }
@@ -30,6 +35,7 @@ impl fmt::Display for PublishedFault {
         match self {
             PublishedFault::Text { line, wrong, .. } => write!(f, "line {line}: {wrong}"),
             PublishedFault::Unread(fault) => write!(f, "not read: {fault}"),
+            PublishedFault::TooLarge { most, name } => write!(f, "larger than {most} at {name}"),
             PublishedFault::Memory => f.write_str("memory"),
         }
     }
@@ -64,6 +70,15 @@ impl From<ModuleFault> for PublishedFault {
         match fault {
             ModuleFault::Memory => PublishedFault::Memory,
             fault => PublishedFault::Unread(fault),
+        }
+    }
+}
+
+impl From<BoundFault> for PublishedFault {
+    fn from(fault: BoundFault) -> PublishedFault {
+        match fault {
+            BoundFault::TooLarge { most, name } => PublishedFault::TooLarge { most, name },
+            BoundFault::Module(fault) => PublishedFault::from(fault),
         }
     }
 }

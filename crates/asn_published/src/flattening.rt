@@ -1,7 +1,8 @@
 //! From published texts to one module of the profile.
-ghost use Rattle.std.specs.Prelude.{IfOk, string_bytes};
+ghost use Rattle.std.specs.Prelude.{◌≤◌, IfOk, string_bytes};
 ghost use Rattle.asn_module.specs.Accepted.{Accepted};
 ghost use Rattle.asn_module.specs.ModuleView.{types_view};
+ghost use Rattle.asn_module.specs.Sizes.{IsAtMost, types_size};
 
 use crate::fault::PublishedFault;
 use crate::missing::{MissingImport, missing_imports};
@@ -10,7 +11,7 @@ use crate::options::Options;
 use crate::refusing::refuse;
 use crate::reports::reports_of;
 use crate::written::{Written, write_all};
-use asn_module::{Module, ModuleFault, read};
+use asn_module::{Module, read, read_within};
 use asn_published_read::class_table::Classes;
 use asn_published_read::modules::{What, World};
 use asn_published_read::reading::read_assignment;
@@ -237,27 +238,37 @@ fn text_written(
     Ok(text)
 }
 
-/// The module that a text is, and its text as it is printed.
-fn read_back(alloc: Global, text: &str) -> Result<(String, Module), ModuleFault>
-    ensures { IfOk result (λ r. Accepted (string_bytes r.0) (types_view r.1)) }
+/// The module that a text is, and its text as it is printed. Where there is a bound, the module is no larger.
+fn read_back(
+    alloc: Global,
+    text: &str,
+    most: Option<u32>,
+) -> Result<(String, Module), PublishedFault>
+    ensures accepted { IfOk result (λ r. Accepted (string_bytes r.0) (types_view r.1)) }
+    ensures within { IfOk result (λ r. IsAtMost most (types_size (types_view r.1).types)) }
 {
-    let module = read(alloc, text)?;
+    let module = match most {
+        Some(most) => read_within(alloc, text, most)?,
+        None => read(alloc, text)?,
+    };
     let printed = module.print(alloc)?;
     Ok((printed, module))
 }
 
-/// Writes all types but those that are refused, and reads them back.
+/// Writes all types but those that are refused, and reads them back. Where there is a bound, the module is no larger.
 fn attempt(
     alloc: Global,
     sources: &Sources<'_>,
     options: Options,
     refused: &[bool],
+    most: Option<u32>,
 ) -> Result<Flattened, PublishedFault>
-    ensures { IfOk result (λ f. Accepted (string_bytes f.text) (types_view f.module)) }
+    ensures accepted { IfOk result (λ f. Accepted (string_bytes f.text) (types_view f.module)) }
+    ensures within { IfOk result (λ f. IsAtMost most (types_size (types_view f.module).types)) }
 {
     let written = write_all(alloc, sources, options, refused)?;
     let text = text_written(alloc, sources, &written)?;
-    let (text, module) = read_back(alloc, text.as_str())?;
+    let (text, module) = read_back(alloc, text.as_str(), most)?;
     Ok(Flattened {
         text,
         module,
@@ -278,15 +289,44 @@ pub fn flatten(alloc: Global, texts: &[&str], options: Options) -> Result<Flatte
     // The text is one that `asn_module` accepts, as the module that is beside it.
     ensures { IfOk result (λ f. Accepted (string_bytes f.text) (types_view f.module)) }
 {
+    flattened(alloc, texts, options, None)
+}
+
+/// What `flatten` answers, of a module that is no larger than `most`, as `asn_module::read_within` counts it.
+///
+/// # Errors
+/// `TooLarge` where the module is larger; those of `flatten`.
+pub fn flatten_within(
+    alloc: Global,
+    texts: &[&str],
+    options: Options,
+    most: u32,
+) -> Result<Flattened, PublishedFault>
+    ensures accepted { IfOk result (λ f. Accepted (string_bytes f.text) (types_view f.module)) }
+    ensures within { IfOk result (λ f. types_size (types_view f.module).types ≤ most) }
+{
+    flattened(alloc, texts, options, Some(most))
+}
+
+/// The module, which is no larger where there is a bound.
+fn flattened(
+    alloc: Global,
+    texts: &[&str],
+    options: Options,
+    most: Option<u32>,
+) -> Result<Flattened, PublishedFault>
+    ensures accepted { IfOk result (λ f. Accepted (string_bytes f.text) (types_view f.module)) }
+    ensures within { IfOk result (λ f. IsAtMost most (types_size (types_view f.module).types)) }
+{
     let sources = sources_of(alloc, texts)?;
     let mut refused = vec![in alloc; false; sources.names.len()]?;
     for _ in 1..MOST_TRIES {
-        match attempt(alloc, &sources, options, refused.as_slice()) {
+        match attempt(alloc, &sources, options, refused.as_slice(), most) {
             Err(PublishedFault::Unread(fault)) => {
                 refuse(alloc, &sources, options, &mut refused, fault)?;
             }
             answer => return answer,
         }
     }
-    attempt(alloc, &sources, options, refused.as_slice())
+    attempt(alloc, &sources, options, refused.as_slice(), most)
 }

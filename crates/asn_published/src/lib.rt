@@ -27,7 +27,7 @@ pub use asn_published_read::refusal::Why;
 pub use asn_published_read::wrong::Wrong;
 pub use asn_published_types::report::{Note, Remark, Status, TypeReport};
 pub use fault::PublishedFault;
-pub use flattening::{Flattened, flatten};
+pub use flattening::{Flattened, flatten, flatten_within};
 pub use json::report_json;
 pub use missing::{MissingImport, missing_json, missing_text};
 pub use options::Options;

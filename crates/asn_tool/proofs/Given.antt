@@ -9,7 +9,7 @@ use Rattle.clap.proofs.WalkLemmas.{one_text-rows}
 use Rattle.asn_octet_forms.specs.declared.texts.OctetForm.{OctetForm}
 use Rattle.asn_tool.specs.declared.request.Form.{Form}
 use Rattle.asn_tool.specs.declared.request.Form.TheVariants as form
-use Rattle.asn_tool.specs.Request.{AreLevels, IsFlag, Reads, files_of, form_in, form_of, is_declared, is_declared_in, octet_form_in, octet_form_of}
+use Rattle.asn_tool.specs.Request.{AreLevels, IsFlag, IsNumberOf, Reads, files_of, form_in, form_of, is_declared, is_declared_in, octet_form_in, octet_form_of}
 
 -- the values of an argument, and none
 pub some_files : (id : Text) (rows : List Row) (values : List Text) → Some values ≡ all_of id rows → values ≡ files_of id rows
@@ -27,10 +27,13 @@ number : {E : Type 0} (gives : List ℕ → Result ℕ E → Type 0) → ((bs : 
 number gives parses t (Some n) g = parses t (Ok n) g
 number gives parses t None g = parses t (Err g.0) g.1
 
-pub levels : {E : Type 0} (gives : List ℕ → Result ℕ E → Type 0) → ((bs : List ℕ) (r : Result ℕ E) → gives bs r → ParsesUnsigned 32 10 bs r)
-    → (f : Found) (read : Option ℕ) → (one_text f (codes "levels") ≡ None → read ≡ None)
-    → ((t : Text) → one_text f (codes "levels") ≡ Some t → ReadsOne gives t read) → AreLevels (rows_of f) (unwrap_or read 0)
-levels gives parses f read none some = (read, refl, (λ e. none (one_text-rows f (codes "levels") ∙ e)), λ t e. number gives parses t read (some t (one_text-rows f (codes "levels") ∙ e)))
+pub number_of : {E : Type 0} (gives : List ℕ → Result ℕ E → Type 0) → ((bs : List ℕ) (r : Result ℕ E) → gives bs r → ParsesUnsigned 32 10 bs r)
+    → (f : Found) (id : Text) (read : Option ℕ) → (one_text f id ≡ None → read ≡ None)
+    → ((t : Text) → one_text f id ≡ Some t → ReadsOne gives t read) → IsNumberOf id (rows_of f) read
+number_of gives parses f id read none some = ((λ e. none (one_text-rows f id ∙ e)), λ t e. number gives parses t read (some t (one_text-rows f id ∙ e)))
+
+pub levels : (rows : List Row) (read : Option ℕ) → IsNumberOf (codes "levels") rows read → AreLevels rows (unwrap_or read 0)
+levels rows read is = (read, refl, is)
 
 pub some_form : (rows : List Row) (name : Text) (f : Form) → Some name ≡ first_of (codes "report") rows → f ≡ form_of name → f ≡ form_in rows
 some_form rows name f e is = is ∙ ap (λ o. option_map_or form_of o form.Summary) e

@@ -1,3 +1,4 @@
+pub mod Budgets
 pub mod Exactly
 pub mod FoundJob
 pub mod Given

@@ -18,7 +18,7 @@ use Rattle.clap.specs.declared.builder.value_parser.ValueParser.TheVariants.{Nam
 use Rattle.clap.specs.declared.builder.value_parser.Reading.{Reading}
 use Rattle.clap.specs.declared.error.kind.ErrorKind.TheVariants as kind
 use Rattle.clap.proofs.WalkLemmas.{list_any-map}
-use Rattle.asn_tool.specs.Command.{AreOrders, HasOptions, IsOneOf, IsTaken, IsTool, Parsers, TakeNames, TakesNames, flatten_app, module_shape, order_names, order_shape, rule_names, tool}
+use Rattle.asn_tool.specs.Command.{AreOrders, HasOptions, IsOneOf, IsTaken, IsTool, Parsers, TakeNames, TakesNames, flatten_app, module_shape, order_names, order_shape, orders, rule_names, tool}
 use Rattle.asn_tool.proofs.SetOptions.{Each, IsDefaulted, IsOption, check_passes, default_row, found, given_row, level_good, no_kind, none_first, none_next, set_row}
 use Rattle.asn_tool.proofs.NotHelp.{StopsElsewhere, walk_stops}
 
@@ -26,39 +26,49 @@ use Rattle.asn_tool.proofs.NotHelp.{StopsElsewhere, walk_stops}
 abbrev above : Shape
 above = record (tool None []).top { is_built = true }
 
-abbrev built_order : Text → Parsers → Shape
-built_order name p = built_leaf (inherited above (order_shape name p))
+abbrev built_order : Text × Bool → Parsers → Shape
+built_order o p = built_leaf (inherited above (order_shape o p))
 
 abbrev built_subs : List Shape → List Shape
 built_subs shapes = map built_leaf (map (inherited above) shapes ++ help_shape ∷ [])
 
 -- ---- the command is a simple one
 
-each_leaf : (f : Shape → Bool) → f (built_leaf help_shape) ≡ true → ((name : Text) (p : Parsers) → f (built_order name p) ≡ true)
-    → (names : List Text) (shapes : List Shape) → AreOrders names shapes → list_all f (built_subs shapes) ≡ true
+-- of an order with the option for a budget, and of one without
+each_order : (f : Shape → Bool) → ((name : Text) (p : Parsers) → f (built_order (name, true) p) ≡ true)
+    → ((name : Text) (p : Parsers) → f (built_order (name, false) p) ≡ true) → (o : Text × Bool) (p : Parsers) → f (built_order o p) ≡ true
+each_order f reads writes (name, true) p = reads name p
+each_order f reads writes (name, false) p = writes name p
+
+each_leaf : (f : Shape → Bool) → f (built_leaf help_shape) ≡ true → ((o : Text × Bool) (p : Parsers) → f (built_order o p) ≡ true)
+    → (os : List (Text × Bool)) (shapes : List Shape) → AreOrders os shapes → list_all f (built_subs shapes) ≡ true
 each_leaf f help order [] [] are = rw help refl
 each_leaf f help order [] (s ∷ shapes) are = absurd are
-each_leaf f help order (name ∷ names) [] are = absurd are
-each_leaf f help order (name ∷ names) (s ∷ shapes) are =
-    let here : f (built_leaf (inherited above s)) ≡ true = subst (λ x. f (built_leaf (inherited above x)) ≡ true) (sym are.0.2) (order name are.0.0) in
-    rw here (each_leaf f help order names shapes are.1)
+each_leaf f help order (o ∷ os) [] are = absurd are
+each_leaf f help order (o ∷ os) (s ∷ shapes) are =
+    let here : f (built_leaf (inherited above s)) ≡ true = subst (λ x. f (built_leaf (inherited above x)) ≡ true) (sym are.0.2) (order o are.0.0) in
+    rw here (each_leaf f help order os shapes are.1)
 
-each_given : (names : List Text) (shapes : List Shape) → AreOrders names shapes → list_all is_simple_leaf shapes ≡ true
+given_simple : (o : Text × Bool) (p : Parsers) → is_simple_leaf (order_shape o p) ≡ true
+given_simple (name, true) p = refl
+given_simple (name, false) p = refl
+
+each_given : (os : List (Text × Bool)) (shapes : List Shape) → AreOrders os shapes → list_all is_simple_leaf shapes ≡ true
 each_given [] [] are = refl
 each_given [] (s ∷ shapes) are = absurd are
-each_given (name ∷ names) [] are = absurd are
-each_given (name ∷ names) (s ∷ shapes) are =
-    let here : is_simple_leaf s ≡ true = subst (λ x. is_simple_leaf x ≡ true) (sym are.0.2) refl in
-    rw here (each_given names shapes are.1)
+each_given (o ∷ os) [] are = absurd are
+each_given (o ∷ os) (s ∷ shapes) are =
+    let here : is_simple_leaf s ≡ true = subst (λ x. is_simple_leaf x ≡ true) (sym are.0.2) (given_simple o are.0.0) in
+    rw here (each_given os shapes are.1)
 
 pub tool_simple : (a : App) → IsTool a → is_simple a ≡ true
 tool_simple a t = subst (λ x. is_simple x ≡ true) (sym t.4)
-    (rw (each_given order_names t.1 t.3, each_leaf is_ready_leaf refl (λ name p. refl) order_names t.1 t.3) refl)
+    (rw (each_given orders t.1 t.3, each_leaf is_ready_leaf refl (each_order is_ready_leaf (λ name p. refl) (λ name p. refl)) orders t.1 t.3) refl)
 
 pub tool_free : (a : App) → IsTool a → is_simple_and_free a ≡ true
 tool_free a t =
     let free : is_free_app (built a) ≡ true = subst (λ x. is_free_app (built x) ≡ true) (sym t.4)
-    (rw (each_leaf has_free_rules refl (λ name p. refl) order_names t.1 t.3) refl) in
+    (rw (each_leaf has_free_rules refl (each_order has_free_rules (λ name p. refl) (λ name p. refl)) orders t.1 t.3) refl) in
     rw (tool_simple a t, free) refl
 
 -- ---- the options of an order
@@ -72,8 +82,8 @@ HasValue names r = (r.id ≡ codes "type" → ((t : Text) × (slice_get r.values
 abbrev with_names : Parsers → Bor (List (Bor (List ℕ))) → Parsers
 with_names p names = record p { rules = Some (Names names) }
 
-abbrev leaf_rules : Parsers → Bor (List (Bor (List ℕ))) → List Rule
-leaf_rules p names = (built_order (codes "show") (with_names p names)).rules
+abbrev leaf_rules : Bool → Parsers → Bor (List (Bor (List ℕ))) → List Rule
+leaf_rules b p names = (built_order (codes "show", b) (with_names p names)).rules
 
 -- ids that differ
 apart : (a b : Text) → bytes_eq a b ≡ false → a ≡ b → ⊥
@@ -142,17 +152,25 @@ module _ (names : Bor (List (Bor (List ℕ)))) where
       (inr (λ how values. other_row a parts.0 (default_row a.id how values) refl), other_defaults rules parts.1)
 
 -- the two that are required, and the others
-leaf_options : (p : Parsers) (names : Bor (List (Bor (List ℕ)))) → Each (IsOption (HasValue names)) (leaf_rules p names)
-leaf_options p names = (
+leaf_options : (b : Bool) (p : Parsers) (names : Bor (List (Bor (List ℕ)))) → Each (IsOption (HasValue names)) (leaf_rules b p names)
+leaf_options true p names = (
   inr (inl (refl, refl, λ how v vs ok. ((λ e. (v, refl)), (λ e. absurd (apart (codes "type") (codes "rules") refl e))))),
   (
     inr (inl (refl, refl, λ how v vs ok. ((λ e. absurd (apart (codes "rules") (codes "type") refl e)), (λ e. (v, refl, ok))))),
-    other_options names (drop 2 (leaf_rules p names)) refl,
+    other_options names (drop 2 (leaf_rules true p names)) refl,
+  ),
+)
+leaf_options false p names = (
+  inr (inl (refl, refl, λ how v vs ok. ((λ e. (v, refl)), (λ e. absurd (apart (codes "type") (codes "rules") refl e))))),
+  (
+    inr (inl (refl, refl, λ how v vs ok. ((λ e. absurd (apart (codes "rules") (codes "type") refl e)), (λ e. (v, refl, ok))))),
+    other_options names (drop 2 (leaf_rules false p names)) refl,
   ),
 )
 
-leaf_defaults : (p : Parsers) (names : Bor (List (Bor (List ℕ)))) → Each (IsDefaulted (HasValue names)) (leaf_rules p names)
-leaf_defaults p names = (inl refl, (inl refl, other_defaults names (drop 2 (leaf_rules p names)) refl))
+leaf_defaults : (b : Bool) (p : Parsers) (names : Bor (List (Bor (List ℕ)))) → Each (IsDefaulted (HasValue names)) (leaf_rules b p names)
+leaf_defaults true p names = (inl refl, (inl refl, other_defaults names (drop 2 (leaf_rules true p names)) refl))
+leaf_defaults false p names = (inl refl, (inl refl, other_defaults names (drop 2 (leaf_rules false p names)) refl))
 
 both_given : (b c : Bool) → (not b || (not c || false)) ≡ false → (b ≡ true) × (c ≡ true)
 both_given true true e = (refl, refl)
@@ -180,17 +198,12 @@ is_rules names t are e =
     let any : list_any (λ name. bytes_eq name.now t) names.now ≡ true = accepted _ [] e in
     one_of_two t (ap (list_any (λ n. bytes_eq n t)) (sym are) ∙ (sym (list_any-map (λ n. bytes_eq n t) (λ name. name.now) names.now) ∙ any))
 
-module _ (p : Parsers) (names : Bor (List (Bor (List ℕ)))) (are : map (λ name. name.now) names.now ≡ rule_names) (name : Text) (named : IsOneOf name order_names) where
-  has_options : (words : List Text) → level_fault (built_order name (with_names p names)) [] nothing_held words false [] ≡ []
-      → HasOptions (rows_at (built_order name (with_names p names)) words)
-  has_options words e =
-      let s = built_order name (with_names p names) in
-      let rows = rows_after s.rules [] words in
-      let all : Each (HasValue names) rows =
-      level_good (HasValue names) (leaf_rules p names) (leaf_options p names) s [] refl refl (λ i. refl) words false [] (leaf_defaults p names) e in
-      let given = both_given (is_given (codes "type") rows) (is_given (codes "rules") rows) (last_kind _ (check_passes s [] words false [] e)) in
-      let type = given_row (HasValue names) (codes "type") rows all given.0 in
-      let rules = given_row (HasValue names) (codes "rules") rows all given.1 in
+module _ (p : Parsers) (names : Bor (List (Bor (List ℕ)))) (are : map (λ name. name.now) names.now ≡ rule_names) where
+  values_given : (found : Text × List Row) → IsOneOf found.0 order_names → Each (HasValue names) found.1
+      → (is_given (codes "type") found.1 ≡ true) × (is_given (codes "rules") found.1 ≡ true) → HasOptions found
+  values_given found named all given =
+      let type = given_row (HasValue names) (codes "type") found.1 all given.0 in
+      let rules = given_row (HasValue names) (codes "rules") found.1 all given.1 in
       let type_value = type.2.0 ((bytes_eq-Decides type.0.id (codes "type")).0 type.3) in
       let rules_value = rules.2.1 ((bytes_eq-Decides rules.0.id (codes "rules")).0 rules.3) in (
         named,
@@ -202,22 +215,39 @@ module _ (p : Parsers) (names : Bor (List (Bor (List ℕ)))) (are : map (λ name
         ),
       )
 
+  has_options : (o : Text × Bool) → IsOneOf o.0 order_names → (words : List Text)
+      → level_fault (built_order o (with_names p names)) [] nothing_held words false [] ≡ []
+      → HasOptions (rows_at (built_order o (with_names p names)) words)
+  has_options (name, true) named words e =
+      let s = built_order (name, true) (with_names p names) in
+      let rows = rows_after s.rules [] words in
+      let all : Each (HasValue names) rows =
+      level_good (HasValue names) (leaf_rules true p names) (leaf_options true p names) s [] refl refl (λ i. refl) words false [] (leaf_defaults true p names) e in
+      values_given (rows_at s words) named all (both_given (is_given (codes "type") rows) (is_given (codes "rules") rows) (last_kind _ (check_passes s [] words false [] e)))
+  has_options (name, false) named words e =
+      let s = built_order (name, false) (with_names p names) in
+      let rows = rows_after s.rules [] words in
+      let all : Each (HasValue names) rows =
+      level_good (HasValue names) (leaf_rules false p names) (leaf_options false p names) s [] refl refl (λ i. refl) words false [] (leaf_defaults false p names) e in
+      values_given (rows_at s words) named all (both_given (is_given (codes "type") rows) (is_given (codes "rules") rows) (last_kind _ (check_passes s [] words false [] e)))
+
 -- ---- the subcommands
 
 abbrev IsBuilt : Shape → Type 0
 IsBuilt s = (s.name ≡ codes "flatten") ⊎ ((s.name ≡ codes "module") ⊎ ((label_of s ≡ (codes "help", []))
-    ⊎ ((name : Text) × IsOneOf name order_names × ((p : Parsers) × TakeNames p × (s ≡ built_order name p)))))
+    ⊎ ((o : Text × Bool) × IsOneOf o.0 order_names × ((p : Parsers) × TakeNames p × (s ≡ built_order o p)))))
 
-each_sub : (names : List Text) (shapes : List Shape) → ((name : Text) → IsOneOf name names → IsOneOf name order_names) → AreOrders names shapes → Each IsBuilt (built_subs shapes)
+each_sub : (os : List (Text × Bool)) (shapes : List Shape) → ((name : Text) → IsOneOf name (map (λ o. o.0) os) → IsOneOf name order_names) → AreOrders os shapes
+    → Each IsBuilt (built_subs shapes)
 each_sub [] [] known are = (inr (inr (inl refl)), tt)
 each_sub [] (s ∷ shapes) known are = absurd are
-each_sub (name ∷ names) [] known are = absurd are
-each_sub (name ∷ names) (s ∷ shapes) known are = (
-  inr (inr (inr (name, known name (inl refl), (are.0.0, are.0.1, ap (λ x. built_leaf (inherited above x)) are.0.2)))),
-  each_sub names shapes (λ n i. known n (inr i)) are.1,
+each_sub (o ∷ os) [] known are = absurd are
+each_sub (o ∷ os) (s ∷ shapes) known are = (
+  inr (inr (inr (o, known o.0 (inl refl), (are.0.0, are.0.1, ap (λ x. built_leaf (inherited above x)) are.0.2)))),
+  each_sub os shapes (λ n i. known n (inr i)) are.1,
 )
 
-module _ (report : Option ValueParser) (shapes : List Shape) (are : AreOrders order_names shapes) (words : List Text) (e : fault_of (tool report shapes) words ≡ []) where
+module _ (report : Option ValueParser) (shapes : List Shape) (are : AreOrders orders shapes) (words : List Text) (e : fault_of (tool report shapes) words ≡ []) where
   abbrev whole : App
   whole = built (tool report shapes)
 
@@ -256,7 +286,7 @@ module _ (report : Option ValueParser) (shapes : List Shape) (are : AreOrders or
           → IsTaken (option_map (λ s. rows_at s p.1) o)
       met p elsewhere None is e = absurd (no_subcommand (check_passes whole.top (names_of whole) words false [] e))
       met p elsewhere (Some s) is e =
-          let got = found IsBuilt (λ s. answers_to p.0 (label_of s)) whole.subs s (inl refl, (inr (inl refl), each_sub order_names shapes (λ n i. i) are)) is in
+          let got = found IsBuilt (λ s. answers_to p.0 (label_of s)) whole.subs s (inl refl, (inr (inl refl), each_sub orders shapes (λ n i. i) are)) is in
           taken_sub s p elsewhere got.0 got.1 (none_first _ _ (none_next _ _ e))
 
       go : (stop : Option (Text × List Text)) → StopsElsewhere stop

@@ -1,5 +1,5 @@
 -- The command of the program, as clap's own words state it, and what it takes.
-use Rattle.std.specs.Prelude.{◌≡◌, ◌⊎◌, ℕ, pos, true, false, List, [], ◌∷◌, ◌++◌, codes, fold, map, Option, Some, None, ⊤}
+use Rattle.std.specs.Prelude.{◌≡◌, ◌⊎◌, ℕ, Bool, pos, true, false, List, [], ◌∷◌, ◌++◌, codes, fold, map, Option, Some, None, ⊤}
 use Rattle.std.specs.Borrow.{Bor}
 use Rattle.clap.specs.Lexer.{usize_max}
 use Rattle.clap.specs.Words.{App, Shape, Rule, Row, Text, new_app, new_rule, with_rule, first_of}
@@ -8,9 +8,13 @@ use Rattle.clap.specs.declared.builder.ValueParser.TheVariants.{Names, Signed}
 use Rattle.clap.specs.declared.builder.ValueRange.{ValueRange}
 use Rattle.clap.specs.declared.builder.ArgAction.TheVariants.{Append, Set, SetTrue}
 
--- the names of the subcommands that have a type and encoding rules
+-- the subcommands that have a type and encoding rules: their names, and whether what values take may be bounded
+abbrev pub orders : List (Text × Bool)
+orders = (codes "show", true) ∷ (codes "check", true) ∷ (codes "encode", false) ∷ (codes "convert", true)
+    ∷ (codes "newer", false) ∷ []
+
 abbrev pub order_names : List Text
-order_names = codes "show" ∷ codes "check" ∷ codes "encode" ∷ codes "convert" ∷ codes "newer" ∷ []
+order_names = map (λ o. o.0) orders
 
 abbrev pub rule_names : List Text
 rule_names = codes "per" ∷ codes "oer" ∷ []
@@ -73,8 +77,9 @@ file_rule = record (new_rule (codes "file")) {
   value_names = 1;
 }
 
-abbrev pub levels_rule : Rule
-levels_rule = record (option_rule (codes "levels")) { parser = Some (Signed (pos 0) (pos 4294967295)) }
+-- an option whose value is a number of 32 bits
+abbrev pub number_rule : Text → Rule
+number_rule name = record (option_rule name) { parser = Some (Signed (pos 0) (pos 4294967295)) }
 
 -- ---- the options of the subcommands
 
@@ -97,7 +102,7 @@ answer_rules members = flag_rule (codes "pretty") ∷ names_rule (codes "order")
 
 -- those for what the profile does not have as it is published
 abbrev pub leave_rules : List Rule
-leave_rules = flag_rule (codes "plain-bits") ∷ flag_rule (codes "octets") ∷ levels_rule ∷ []
+leave_rules = flag_rule (codes "plain-bits") ∷ flag_rule (codes "octets") ∷ number_rule (codes "levels") ∷ []
 
 -- the subcommand that flattens published modules
 abbrev pub flatten_app : Option ValueParser → App
@@ -127,18 +132,29 @@ abbrev pub order_rules : Parsers → List Rule
 order_rules p = type_rule ∷ rules_rule p.rules ∷ source_rules ++ form_rules p.given p.written ++ answer_rules p.members
     ++ leave_rules
 
+abbrev pub order_app : Text → Parsers → App
+order_app name p = with_rules (new_app name) (order_rules p)
+
+abbrev pub IsOrderApp : Text → App → Type 0
+IsOrderApp name a = (p : Parsers) × TakeNames p × (a ≡ order_app name p)
+
+-- that for what the value of a message may take, where there is one
+abbrev pub budget_rules : Bool → List Rule
+budget_rules true = number_rule (codes "budget") ∷ []
+budget_rules false = []
+
 -- the subcommand of an order
-abbrev pub order_shape : Text → Parsers → Shape
-order_shape name p = (with_rules (new_app name) (order_rules p)).top
+abbrev pub order_shape : Text × Bool → Parsers → Shape
+order_shape o p = (with_rules (order_app o.0 p) (budget_rules o.1)).top
 
-abbrev pub IsOrder : Text → Shape → Type 0
-IsOrder name s = (p : Parsers) × TakeNames p × (s ≡ order_shape name p)
+abbrev pub IsOrder : Text × Bool → Shape → Type 0
+IsOrder o s = (p : Parsers) × TakeNames p × (s ≡ order_shape o p)
 
-abbrev pub AreOrders : List Text → List Shape → Type 0
+abbrev pub AreOrders : List (Text × Bool) → List Shape → Type 0
 AreOrders [] [] = ⊤
-AreOrders (name ∷ names) (s ∷ shapes) = IsOrder name s × AreOrders names shapes
+AreOrders (o ∷ os) (s ∷ shapes) = IsOrder o s × AreOrders os shapes
 AreOrders [] (s ∷ shapes) = ⊥
-AreOrders (name ∷ names) [] = ⊥
+AreOrders (o ∷ os) [] = ⊥
 
 -- the command, with its subcommands
 abbrev pub tool : Option ValueParser → List Shape → App
@@ -154,7 +170,7 @@ tool report shapes = record {
 
 -- the command is that of the program
 abbrev pub IsTool : App → Type 0
-IsTool a = (report : Option ValueParser) × (shapes : List Shape) × TakesNames report_names report × AreOrders order_names shapes
+IsTool a = (report : Option ValueParser) × (shapes : List Shape) × TakesNames report_names report × AreOrders orders shapes
     × (a ≡ tool report shapes)
 
 -- ---- what it takes

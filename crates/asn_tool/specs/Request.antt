@@ -71,10 +71,13 @@ abbrev pub Reads : Text → Option ℕ → Type 0
 Reads t (Some n) = IsNumber t × (n ≡ digits_value 10 (without_leading_plus t))
 Reads t None = IsNumber t → ⊥
 
+-- the number that is given as the value of an option, if one is given
+abbrev pub IsNumberOf : Text → List Row → Option ℕ → Type 0
+IsNumberOf id rows read = (one_of id rows ≡ None → read ≡ None) × ((t : Text) → one_of id rows ≡ Some t → Reads t read)
+
 -- the number that is given as the levels, 0 where there is none
 abbrev pub AreLevels : List Row → ℕ → Type 0
-AreLevels rows n = (read : Option ℕ) × (n ≡ unwrap_or read 0) × (one_of (codes "levels") rows ≡ None → read ≡ None)
-    × ((t : Text) → one_of (codes "levels") rows ≡ Some t → Reads t read)
+AreLevels rows n = (read : Option ℕ) × (n ≡ unwrap_or read 0) × IsNumberOf (codes "levels") rows read
 
 abbrev pub AreOptions : List Row → Options → Type 0
 AreOptions rows o = IsFlag (codes "plain-bits") rows o.plain_bits × IsFlag (codes "octets") rows o.octets
@@ -117,7 +120,7 @@ IsLayout rows l = (l.is_declared ≡ is_declared_in rows) × IsFlag (codes "pret
 abbrev pub IsAsking : List Row → Asking → Type 0
 IsAsking rows a = IsFlag (codes "explain") rows a.is_explained
     × (texts_of a.messages.items ≡ files_of (codes "messages") rows) × AreForms rows a.forms × IsLayout rows a.layout
-    × IsFlag (codes "stats") rows a.is_counted
+    × IsFlag (codes "stats") rows a.is_counted × IsNumberOf (codes "budget") rows a.budget
 
 -- ---- the request
 

@@ -1,12 +1,13 @@
 //! The answer to one message, in the form and the layout that is asked for, while standard error tells why it is refused.
 use crate::asking::{Asking, Forms};
+use crate::budget::{Answered, answer_within};
 use crate::counting::Counts;
-use crate::explaining::why_refused;
+use crate::explaining::{over_words, why_refused};
 use crate::laying::laid_text;
 use asn_convert::{Job, Order, RuleName, RunFault, answer_line};
 use asn_json_layout::Layout;
-use asn_module::Module;
 use asn_octet_forms::{OctetForm, octets_in, text_of};
+use asn_plan::Planned;
 use asn_rules::Counted;
 use asn_stats::CountFault;
 use asn_values::Checked;
@@ -15,7 +16,8 @@ use std::io::Write;
 /// What is made of messages.
 #[derive(Clone, Copy)]
 pub struct Asked<'t> {
-    pub ty: &'t Checked,
+    /// The type of the messages, and its plan.
+    pub planned: &'t Planned,
     pub order: Order,
     pub rules: RuleName,
     pub forms: Forms,
@@ -24,29 +26,31 @@ pub struct Asked<'t> {
     pub is_explained: bool,
     /// Whether messages are counted.
     pub is_counted: bool,
+    /// The most that a value may take, if there is a bound.
+    pub budget: Option<u32>,
 }
 
 impl<'t> Asked<'t> {
-    /// What is made of the messages of a job; `None` where the module has no type of the name, or is to be printed.
-    pub fn of(asking: &Asking<'_>, job: &Job, module: &'t Module) -> Option<Asked<'t>> {
-        let Job::Lines {
-            order,
-            type_name,
-            rules,
-        } = job
-        else {
+    /// What is made of the messages of a job, for the type of the plan; `None` where the module is to be printed.
+    pub fn of(asking: &Asking<'_>, job: &Job, planned: &'t Planned) -> Option<Asked<'t>> {
+        let Job::Lines { order, rules, .. } = job else {
             return None;
         };
-        let ty = module.type_named(type_name.as_str())?;
         Some(Asked {
-            ty,
+            planned,
             order: *order,
             rules: *rules,
             forms: asking.forms,
             layout: asking.layout,
             is_explained: asking.is_explained,
             is_counted: asking.is_counted,
+            budget: asking.budget,
         })
+    }
+
+    /// The type of the messages.
+    pub fn ty(&self) -> &'t Checked {
+        self.planned.get()
     }
 
     /// Whether JSON is laid out.
@@ -93,26 +97,44 @@ pub fn answer_one<W: Write>(
     line: &[u8],
     asked: Asked<'_>,
 ) -> Result<bool, RunFault> {
-    let is_good = if asked.is_as_it_is() {
+    let answered = if asked.is_as_it_is() {
         answer_to(rt, &mut answers.output, line, asked)?
     } else {
         answer_otherwise(rt, answers, place, line, asked)?
     };
+    let is_good = answered == Answered::Line(true);
     if !is_good && asked.is_explained {
-        let words = why_refused(rt.alloc(), asked.ty, asked.order, asked.rules, line)?;
+        let words = match &answered {
+            Answered::Over(taken) => over_words(rt.alloc(), taken)?,
+            Answered::Line(_) => {
+                why_refused(rt.alloc(), asked.ty(), asked.order, asked.rules, line)?
+            }
+        };
         tell(rt, place, words.as_str())?;
     }
     Ok(is_good)
 }
 
-/// Answers one line of hexadecimal or JSON by a line, as it is answered where nothing is asked for.
+/// Answers one line of hexadecimal or JSON by a line, as it is answered where nothing but a bound is asked for.
 fn answer_to<W: Write>(
     rt: &HostRuntime,
     output: &mut Counted<W>,
     line: &[u8],
     asked: Asked<'_>,
-) -> Result<bool, RunFault> {
-    answer_line(rt.alloc(), output, asked.ty, asked.order, asked.rules, line)
+) -> Result<Answered, RunFault> {
+    let Asked {
+        planned,
+        order,
+        rules,
+        ..
+    } = asked;
+    match asked.budget {
+        Some(most) => answer_within(rt.alloc(), output, planned, most, order, rules, line),
+        None => {
+            let is_good = answer_line(rt.alloc(), output, planned, order, rules, line)?;
+            Ok(Answered::Line(is_good))
+        }
+    }
 }
 
 /// Answers one line of hexadecimal or JSON, what is written being laid out, in another form or counted.
@@ -122,12 +144,12 @@ fn answer_otherwise<W: Write>(
     place: Place<'_>,
     line: &[u8],
     asked: Asked<'_>,
-) -> Result<bool, RunFault> {
+) -> Result<Answered, RunFault> {
     let mut answer = Counted::new(Vec::new(rt.alloc()));
-    let is_good = answer_to(rt, &mut answer, line, asked)?;
+    let answered = answer_to(rt, &mut answer, line, asked)?;
     let answer = answer.into_inner();
     let answer = answer.as_slice();
-    if !is_good {
+    if answered != Answered::Line(true) {
         put_refusal(rt, answers, place, answer, asked)?;
     } else if asked.is_counted {
         count_message(rt, answers, line, asked)?;
@@ -137,7 +159,7 @@ fn answer_otherwise<W: Write>(
     } else {
         put_octets(rt, &mut answers.output, text_in(answer), asked.forms)?;
     }
-    Ok(is_good)
+    Ok(answered)
 }
 
 /// Writes the JSON of the message that a line of hexadecimal is, in the layout that is asked for.
@@ -148,13 +170,12 @@ fn put_laid<W: Write>(
     asked: Asked<'_>,
 ) -> Result<(), RunFault> {
     let Asked {
-        ty,
         order,
         rules,
         layout,
         ..
     } = asked;
-    match laid_text(rt.alloc(), ty, order, rules, line, layout)? {
+    match laid_text(rt.alloc(), asked.ty(), order, rules, line, layout)? {
         Some(mut text) => {
             text.push('\n')?;
             put(output, text.as_bytes())
@@ -176,7 +197,7 @@ fn count_message<W>(
             counted(
                 answers
                     .counts
-                    .add_message(rt.alloc(), asked.ty, asked.rules, octets),
+                    .add_message(rt.alloc(), asked.ty(), asked.rules, octets),
             )
         }
         None => Err(RunFault::Memory),

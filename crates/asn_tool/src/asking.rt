@@ -19,6 +19,8 @@ pub struct Asking<'a> {
     pub layout: Layout,
     /// Whether it is counted how many they are, how long, of which alternatives, and why they are refused.
     pub is_counted: bool,
+    /// The most entries, and octets of strings, that the value of a message may take, if there is a bound.
+    pub budget: Option<u32>,
 }
 
 impl<'a> Asking<'a> {
@@ -39,6 +41,7 @@ impl<'a> Asking<'a> {
             && !is_split
             && !self.layout.is_declared
             && !self.layout.is_pretty
+            && self.budget.is_none()
     }
 
     /// What of it the order of the job does not do.
@@ -53,6 +56,11 @@ impl<'a> Asking<'a> {
             }
             Order::Show | Order::Check | Order::Newer if self.forms.written.is_some() => {
                 Some("--out is for encode and convert, which write octets")
+            }
+            _ if self.forms.is_split && self.budget.is_some() => {
+                Some(
+                    "--budget is for texts of one message each: --split decodes to find where one ends",
+                )
             }
             Order::Newer if self.forms.is_split => {
                 Some("--split is for show, check and convert: newer reads one message a text")

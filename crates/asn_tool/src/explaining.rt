@@ -6,6 +6,7 @@ use asn_json::{JsonFault, value_shown};
 use asn_newer::{NewerFault, ReadNewer};
 use asn_oer::Oer;
 use asn_per::Per;
+use asn_plan::Taken;
 use asn_rules::{DecodeFault, Why};
 use asn_values::{Checked, Value};
 use asn_view::misfit;
@@ -37,6 +38,14 @@ pub fn why_refused(
             }
         }
     }
+}
+
+/// Why a message is refused whose value takes so much, which is over the budget.
+pub fn over_words(alloc: Global, taken: &Taken) -> Result<String, AllocError> {
+    let Taken { entries, octets } = *taken;
+    format!(in alloc;
+        "the value takes {entries} entries and {octets} octets of strings, and --budget allows less"
+    )
 }
 
 /// Why a text is no hexadecimal.

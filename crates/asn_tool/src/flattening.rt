@@ -1,10 +1,11 @@
 //! Published modules as one module of the profile.
 use crate::request::Form;
+use crate::sources::MOST;
 use crate::stop::Stop;
 use crate::texts::{texts_of, views_of};
 use asn_published::{
-    Flattened, Options, Status, TypeReport, flatten, missing_json, missing_text, report_json,
-    report_text, summary_of,
+    Flattened, Options, Status, TypeReport, flatten_within, missing_json, missing_text,
+    report_json, report_text, summary_of,
 };
 use std::alloc::{AllocError, Global};
 
@@ -18,7 +19,7 @@ pub fn flatten_files<'a>(
 ) -> Result<u8, Stop<'a>> {
     let texts = texts_of(rt, files)?;
     let views = views_of(rt, texts.as_slice())?;
-    let flattened = match flatten(rt.alloc(), views.as_slice(), options) {
+    let flattened = match flatten_within(rt.alloc(), views.as_slice(), options, MOST) {
         Ok(flattened) => flattened,
         Err(fault) => return Err(Stop::of(files, fault)),
     };

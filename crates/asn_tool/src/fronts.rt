@@ -37,8 +37,9 @@ fn front_of<R: Rules>(alloc: Global, ty: &Checked, octets: &[u8]) -> Result<usiz
     ensures front { IfOk result (IsFront R.ruling (shape_of ty.now) octets.now) }
 {
     match decode::<R>(alloc, ty, octets) {
-        Err(DecodeFault::Rest { used }) if used > 0 => Ok(used),
-        Err(DecodeFault::Memory) => Err(AllocError),
-        _ => Ok(octets.len()),
+        Err(DecodeFault::Rest { used }) if used > 0 => return Ok(used),
+        Err(DecodeFault::Memory) => return Err(AllocError),
+        _ => {}
     }
+    Ok(octets.len())
 }

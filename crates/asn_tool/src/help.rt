@@ -38,9 +38,13 @@ What a refusal means, of which --explain tells more on standard error:
     character           no character of the string type
     padding             the bits that fill up an octet are not all 0
     number              no number or item of the type begins so, or a shorter form of it is wanted
+  ! over budget: ..     the value of the message takes more than --budget allows
   ! module ..           the text is no module of the profile; at N: after N octets
   ! no type NAME        the module has no type of the name
 Of newer: ! refused, ! cut short and ! too many additions, where the octets are a message of no version of the type.
+
+A module whose types come to more than 10,000,000 once references are followed is refused, with a line on standard
+error and status 2: each type counts one, each item of an ENUMERATED one, each name its octets.
 
 Exit status: 0 if all went well; 1 if at least one message or type was refused; 2 if the words were not understood, the
 module was refused or it has no type of the name; 3 if reading, writing or memory failed, with a line on standard error.
@@ -91,6 +95,9 @@ pub static SHOW: &str = "\
 In: the text of a module, a line that is ====, and messages in hexadecimal, one a line.
 Out: for each message its value as JSON, or a line that begins with ! and tells why it is refused.
 `asn_tool --help` says what each refusal means; with --explain standard error has a line more for each.
+With --budget N a message is refused whose value takes more than N entries, or more than N octets of strings: an entry for
+itself, for each component, absent or not, each element and the alternative, and an octet for each octet, character or
+bit of a string. What it takes is counted without building it, and told. A line that is no encoding is read as without.
 
 Exit status: 0 if each message was shown; 1 if at least one was refused; 2 if the module was refused or has no type of
 the name, which the only line of output tells; 3 if reading, writing or memory failed.
@@ -114,6 +121,9 @@ pub static CHECK: &str = "\
 In: the text of a module, a line that is ====, and messages in hexadecimal, one a line.
 Out: for each message `ok` and how many octets it has, or a line that begins with ! and tells why it is refused.
 `asn_tool --help` says what each refusal means; with --explain standard error has a line more for each.
+With --budget N a message is refused whose value takes more than N entries, or more than N octets of strings: an entry for
+itself, for each component, absent or not, each element and the alternative, and an octet for each octet, character or
+bit of a string. What it takes is counted without building it, and told. A line that is no encoding is read as without.
 
 Exit status: 0 if each line is a message; 1 if at least one was refused; 2 if the module was refused or has no type of
 the name, which the only line of output tells; 3 if reading, writing or memory failed.
@@ -153,6 +163,9 @@ In: the text of a module, a line that is ====, and messages in hexadecimal, one 
 Out: for each message the octets of the same value in the other encoding rules, in hexadecimal, or a line that begins
 with ! and tells why it is refused.
 `asn_tool --help` says what each refusal means; with --explain standard error has a line more for each.
+With --budget N a message is refused whose value takes more than N entries, or more than N octets of strings: an entry for
+itself, for each component, absent or not, each element and the alternative, and an octet for each octet, character or
+bit of a string. What it takes is counted without building it, and told. A line that is no encoding is read as without.
 
 Exit status: 0 if each message was converted; 1 if at least one was refused; 2 if the module was refused or has no type
 of the name, which the only line of output tells; 3 if reading, writing or memory failed.

@@ -4,6 +4,7 @@
 
 mod answering;
 mod asking;
+mod budget;
 mod counting;
 mod cutting;
 mod ending;

@@ -74,7 +74,7 @@ fn answer_each<W: Write>(
         if rest.is_empty() {
             return Ok(all_good);
         }
-        let length = front_len(rt.alloc(), asked.ty, asked.rules, rest)?;
+        let length = front_len(rt.alloc(), asked.ty(), asked.rules, rest)?;
         let (front, later) = rest.split_at(length);
         let here = Place {
             file: place.file,

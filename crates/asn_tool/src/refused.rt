@@ -1,7 +1,8 @@
 //! Why a module is refused, with its line and a mark under it, and why a text has no messages.
+use crate::sources::MOST;
 use asn_convert::Job;
 use asn_module::{Module, ModuleFault, RefusedText, read_explained};
-use asn_published::{Options, PublishedFault, flatten};
+use asn_published::{Options, PublishedFault, flatten_within};
 use std::alloc::{AllocError, Global};
 
 /// What is said where a text imports from modules that are not given.
@@ -113,11 +114,11 @@ fn refusal_told(
 /// The line, counted from 1, at which the reader of published modules finds a fault of the notation; 0 where what it reads
 /// is not taken, and `None` where it is.
 fn published_line(alloc: Global, text: &str, options: Options) -> Result<Option<u32>, AllocError> {
-    let flattened = flatten(alloc, &[text], options);
+    let flattened = flatten_within(alloc, &[text], options, MOST);
     match &flattened {
         Ok(_) => Ok(None),
         Err(PublishedFault::Text { line, .. }) => Ok(Some(*line)),
-        Err(PublishedFault::Unread(_)) => Ok(Some(0)),
+        Err(PublishedFault::Unread(_) | PublishedFault::TooLarge { .. }) => Ok(Some(0)),
         Err(PublishedFault::Memory) => Err(AllocError),
     }
 }

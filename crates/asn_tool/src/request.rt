@@ -5,7 +5,7 @@ ghost use Rattle.asn_convert.specs.declared.job.Order.{Order};
 ghost use Rattle.asn_convert.specs.declared.job.RuleName.{RuleName};
 ghost use Rattle.asn_tool.specs.declared.request.LineFault.{LineFault};
 ghost use Rattle.asn_tool.specs.Command.{HasOptions, IsTaken};
-ghost use Rattle.asn_tool.specs.Request.{AreForms, AreOptions, Asks, HasRequest, IsAsking, IsJobOf, IsLayout, IsRequestOf, Told, fault_by, files_of, form_in, form_of, is_declared_in, octet_form_in, octet_form_of, order_name, rule_name, texts_of};
+ghost use Rattle.asn_tool.specs.Request.{AreForms, AreOptions, Asks, HasRequest, IsAsking, IsJobOf, IsLayout, IsNumberOf, IsRequestOf, Told, fault_by, files_of, form_in, form_of, is_declared_in, octet_form_in, octet_form_of, order_name, rule_name, texts_of};
 
 use crate::asking::{Asking, Forms};
 use crate::words::command;
@@ -187,7 +187,15 @@ fn asking_in<'a>(alloc: Global, options: &ArgMatches<'a>) -> Result<Asking<'a>, 
         forms: forms_in(options),
         layout: layout_in(options),
         is_counted: options.get_flag("stats"),
+        budget: budget_in(options),
     })
+}
+
+/// What the value of a message may take, if there is a bound. A subcommand without `--budget` has none.
+fn budget_in(options: &ArgMatches<'_>) -> Option<u32>
+    ensures { IsNumberOf (codes "budget") (rows_of (found_of options.now)) result }
+{
+    options.get_one("budget")
 }
 
 /// The forms of the octets of messages.

@@ -10,8 +10,11 @@ use crate::sources::{Instead, input_with, instead_of, module_of};
 use crate::stop::Stop;
 use crate::texts::{texts_of, views_of};
 use asn_convert::{Job, RunFault, Status, cut_input, read_all, run, run_on_lines};
+use asn_module::Module;
+use asn_plan::Planned;
 use asn_published::{Options, PublishedFault};
 use asn_rules::Counted;
+use asn_values::Checked;
 use std::io::{BufRead, BufReader, IsTerminal, Write};
 use std::{fs, io};
 
@@ -99,9 +102,31 @@ fn run_asked<'a, R: BufRead>(
     let Some(module) = module_of(rt.alloc(), text)? else {
         return Ok(None);
     };
-    let Some(asked) = Asked::of(asking, job, &module) else {
+    let Some(ty) = type_for(job, &module) else {
         return Ok(None);
     };
+    let planned = Planned::new(rt.alloc(), ty.copy()?)?;
+    match Asked::of(asking, job, &planned) {
+        Some(asked) => Ok(Some(answer_all(rt, asking, asked, lines)?)),
+        None => Ok(None),
+    }
+}
+
+/// The type that the module has of the name of a job over lines.
+fn type_for<'m>(job: &Job, module: &'m Module) -> Option<&'m Checked> {
+    match job {
+        Job::Lines { type_name, .. } => module.type_named(type_name.as_str()),
+        Job::Module => None,
+    }
+}
+
+/// The exit status of the job, once the messages of the files, or these lines, are answered.
+fn answer_all<'a, R: BufRead>(
+    rt: &HostRuntime,
+    asking: &Asking<'a>,
+    asked: Asked<'_>,
+    lines: &mut R,
+) -> Result<u8, Stop<'a>> {
     let mut answers = Answers {
         output: Counted::new(Piped::new(io::writer(rt))),
         counts: Counts::new(rt.alloc()),
@@ -118,7 +143,7 @@ fn run_asked<'a, R: BufRead>(
         let told = counts.text(rt.alloc())?;
         let _ = rt.eprint(told.as_str());
     }
-    Ok(Some(ended(rt, &answer, output.into_inner().is_closed())))
+    Ok(ended(rt, &answer, output.into_inner().is_closed()))
 }
 
 /// How a job ended whose messages were answered so, once the writer holds nothing back.

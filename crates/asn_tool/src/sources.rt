@@ -1,20 +1,24 @@
 //! Which text is read as the module of a job.
-ghost use Rattle.std.specs.Prelude.{◌≡◌, ◌≢◌, ◌∷◌, ◌++◌, [], None, false, IfOk, IfSome, IsSomeAnd, IsUtf8, MatchOption, OnOk, string_bytes};
+ghost use Rattle.std.specs.Prelude.{◌≡◌, ◌≢◌, ◌∷◌, ◌++◌, [], None, false, true, IfOk, IfSome, IsSomeAnd, IsUtf8, MatchOption, OnOk, string_bytes};
 ghost use Rattle.asn_module.specs.ModuleView.{types_view};
 ghost use Rattle.asn_module.specs.Accepted.{Accepted};
 ghost use Rattle.asn_module.specs.declared.fault.ModuleFault.{ModuleFault};
 ghost use Rattle.asn_convert.specs.Lines.{job_lines, lines_of, module_text};
 ghost use Rattle.asn_convert.specs.Text.{IsModule};
 ghost use Rattle.asn_tool.specs.Request.{texts_of};
-ghost use Rattle.asn_tool.specs.Sources.{IsInput, IsInputOf, IsOwn, IsOwnInput, mark};
+ghost use Rattle.asn_tool.specs.Sources.{IsInput, IsInputOf, IsOwn, IsOwnInput, IsRead, IsReadWithin, IsNotLarge, mark};
 
 use asn_convert::{Job, cut_input};
-use asn_module::{Module, ModuleFault};
+use asn_module::{BoundFault, Module, ModuleFault, read_within};
 use asn_published::{
-    Flattened, Options, PublishedFault, Status, TypeReport, flatten, missing_text, report_text,
-    way_text,
+    Flattened, Options, PublishedFault, Status, TypeReport, flatten_within, missing_text,
+    report_text, way_text,
 };
 use std::alloc::{AllocError, Global};
+
+/// The most that a module may grow to once its references are followed, as `asn_module::read_within` counts it: each type
+/// one, each item of an ENUMERATED one, each name its octets. What is counted takes some 54 octets of memory each.
+pub const MOST: u32 = 10_000_000;
 
 /// What stands for the name of a file where a text is that of standard input.
 const STDIN: &str = "<stdin>";
@@ -30,25 +34,28 @@ pub struct Instead {
 /// profile, nothing stands in its place. Else that text is read as published modules: the input is the text of the module
 /// that they become, the line ====, and what follows it. Where they become none, or the module is to be printed and a
 /// type is refused, nothing stands in its place either, and `run` refuses the text.
+///
+/// # Errors
+/// `TooLarge` where the module is larger than `MOST`; `Memory` where an allocation failed.
 pub fn instead_of(
     alloc: Global,
     octets: &[u8],
     options: Options,
     job: &Job,
-) -> Result<Instead, AllocError>
-    // A module of the profile is read as it is, and nothing is told.
+) -> Result<Instead, PublishedFault>
+    // A module of the profile is read as it is, and nothing is told. It is no larger than it may be.
     ensures own { IfOk result (λ i. IsUtf8 (module_text octets.now) → IsOwn (module_text octets.now)
-        → (i.octets ≡ None) × (string_bytes i.remarks ≡ [])) }
-    // What stands in its place is a module, and the same lines.
+        → (i.octets ≡ None) × (string_bytes i.remarks ≡ []) × IsReadWithin (module_text octets.now)) }
+    // What stands in its place is a module, no larger than it may be, and the same lines.
     ensures instead { IfOk result (λ i. IfSome i.octets (λ o. (rest : _)
         × (lines_of rest ≡ job_lines octets.now) × IsInput rest o.items)) }
 {
     let (text, rest) = cut_input(octets);
     let Ok(text) = std::str::from_utf8(text) else {
-        return same(alloc);
+        return Ok(same(alloc)?);
     };
     if is_own(alloc, text)? {
-        return same(alloc);
+        return Ok(same(alloc)?);
     }
     published(alloc, text, rest, options, job)
 }
@@ -60,14 +67,14 @@ fn published(
     rest: &[u8],
     options: Options,
     job: &Job,
-) -> Result<Instead, AllocError>
+) -> Result<Instead, PublishedFault>
     ensures { IfOk result (λ i. IfSome i.octets (λ o. IsInput rest.now o.items)) }
 {
-    match flatten(alloc, &[text], options) {
-        Ok(flattened) => flattened_input(alloc, &[STDIN], &flattened, rest, job),
+    match flatten_within(alloc, &[text], options, MOST) {
+        Ok(flattened) => Ok(flattened_input(alloc, &[STDIN], &flattened, rest, job)?),
         Err(fault) => Ok(Instead {
             octets: None,
-            remarks: fault_line(alloc, &fault)?,
+            remarks: fault_line(alloc, fault)?,
         }),
     }
 }
@@ -82,9 +89,10 @@ fn same(alloc: Global) -> Result<Instead, AllocError>
     })
 }
 
-/// Whether the text is a module of the profile.
-fn is_own(alloc: Global, text: &str) -> Result<bool, AllocError>
-    ensures { IfOk result (λ is. is ≡ false → IsOwn text.now → ⊥) }
+/// Whether the text is a module of the profile, which is no larger than `MOST`.
+fn is_own(alloc: Global, text: &str) -> Result<bool, PublishedFault>
+    ensures no { IfOk result (λ is. is ≡ false → IsOwn text.now → ⊥) }
+    ensures yes { IfOk result (λ is. is ≡ true → IsReadWithin text.now) }
 {
     match own_of(alloc, text)? {
         Some(_) => Ok(true),
@@ -92,13 +100,14 @@ fn is_own(alloc: Global, text: &str) -> Result<bool, AllocError>
     }
 }
 
-/// The module of the profile that the text is, if it is one.
-fn own_of(alloc: Global, text: &str) -> Result<Option<Module>, AllocError>
-    ensures { IfOk result (λ m. MatchOption m (IsOwn text.now → ⊥) (λ m. Accepted text.now (types_view m))) }
+/// The module of the profile that the text is, if it is one, which is no larger than `MOST`.
+fn own_of(alloc: Global, text: &str) -> Result<Option<Module>, PublishedFault>
+    ensures { IfOk result (λ m. MatchOption m (IsOwn text.now → ⊥) (λ m. IsRead text.now (types_view m))) }
 {
-    match asn_module::read(alloc, text) {
+    match read_within(alloc, text, MOST) {
         Ok(module) => Ok(Some(module)),
-        Err(fault) => {
+        Err(BoundFault::TooLarge { most, name }) => Err(PublishedFault::TooLarge { most, name }),
+        Err(BoundFault::Module(fault)) => {
             unless_memory(&fault)?;
             Ok(None)
         }
@@ -106,7 +115,10 @@ fn own_of(alloc: Global, text: &str) -> Result<Option<Module>, AllocError>
 }
 
 /// The module of the profile that these octets are the text of, if they are.
-pub fn module_of(alloc: Global, text: &[u8]) -> Result<Option<Module>, AllocError>
+///
+/// # Errors
+/// `TooLarge` where it is larger than `MOST`; `Memory` where an allocation failed.
+pub fn module_of(alloc: Global, text: &[u8]) -> Result<Option<Module>, PublishedFault>
     ensures { IfOk result (λ m. IfSome m (λ m. IsModule text.now (types_view m))) }
 {
     match std::str::from_utf8(text) {
@@ -128,14 +140,14 @@ fn unless_memory(fault: &ModuleFault) -> Result<(), AllocError>
 /// The line that tells why the text of standard input is no module.
 ///
 /// # Errors
-/// `AllocError` where an allocation failed, here or before.
-fn fault_line(alloc: Global, fault: &PublishedFault) -> Result<String, AllocError> {
+/// The fault itself where it is `TooLarge` or `Memory`, and `Memory` where an allocation failed here.
+fn fault_line(alloc: Global, fault: PublishedFault) -> Result<String, PublishedFault> {
     match fault {
         PublishedFault::Text { line, wrong, .. } => {
-            format!(in alloc; "{STDIN}:{line}: {wrong}\n")
+            Ok(format!(in alloc; "{STDIN}:{line}: {wrong}\n")?)
         }
-        PublishedFault::Unread(fault) => format!(in alloc; "not read: {fault}\n"),
-        PublishedFault::Memory => Err(AllocError),
+        PublishedFault::Unread(fault) => Ok(format!(in alloc; "not read: {fault}\n")?),
+        fault => Err(fault),
     }
 }
 
@@ -144,7 +156,7 @@ fn fault_line(alloc: Global, fault: &PublishedFault) -> Result<String, AllocErro
 /// modules. There is no input where the job is to print the module, and a type is refused.
 ///
 /// # Errors
-/// Those of `flatten`.
+/// Those of `flatten_within`, `TooLarge` where the module is larger than `MOST`.
 pub fn input_with(
     alloc: Global,
     files: &[&str],
@@ -164,11 +176,11 @@ pub fn input_with(
     }
 }
 
-/// The module of the profile that is the only text, if it is one.
-fn own_among(alloc: Global, texts: &[&str]) -> Result<Option<Module>, AllocError>
+/// The module of the profile that is the only text, if it is one, which is no larger than `MOST`.
+fn own_among(alloc: Global, texts: &[&str]) -> Result<Option<Module>, PublishedFault>
     ensures { IfOk result (λ m. MatchOption m
         ((text : _) → texts_of texts.now ≡ text ∷ [] → IsOwn text → ⊥)
-        (λ m. (text : _) × (texts_of texts.now ≡ text ∷ []) × Accepted text (types_view m))) }
+        (λ m. (text : _) × (texts_of texts.now ≡ text ∷ []) × IsRead text (types_view m))) }
 {
     match texts {
         [text] => own_of(alloc, *text),
@@ -187,7 +199,7 @@ fn published_input(
 ) -> Result<Instead, PublishedFault>
     ensures { IfOk result (λ i. IfSome i.octets (λ o. IsInput rest.now o.items)) }
 {
-    let flattened = flatten(alloc, texts, options)?;
+    let flattened = flatten_within(alloc, texts, options, MOST)?;
     Ok(flattened_input(alloc, files, &flattened, rest, job)?)
 }
 
@@ -200,7 +212,8 @@ fn flattened_input(
     rest: &[u8],
     job: &Job,
 ) -> Result<Instead, AllocError>
-    requires { Accepted (string_bytes flattened.now.text) (types_view flattened.now.module) }
+    requires accepted { Accepted (string_bytes flattened.now.text) (types_view flattened.now.module) }
+    requires within { IsNotLarge (types_view flattened.now.module) }
     ensures { IfOk result (λ i. IfSome i.octets (λ o. IsInput rest.now o.items)) }
 {
     let remarks = remarks(alloc, files, flattened, job)?;

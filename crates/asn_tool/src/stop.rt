@@ -32,6 +32,12 @@ pub enum Stop<'a> {
     /// What is asked for of the messages is not done by the order.
     #[error("{0}")]
     Unserved(&'static str),
+    /// The module is larger than it may be, at the type of this name.
+    #[error("not read: at {name} its types come to more than {most}, references followed")]
+    TooLarge {
+        most: u32,
+        name: String,
+    },
     /// Standard input is not read.
     #[error("read failed")]
     Read,
@@ -54,6 +60,7 @@ impl<'a> Stop<'a> {
     {
         match self {
             Stop::NotText(_) | Stop::Notation { .. } | Stop::NotOfProfile(_) => 2,
+            Stop::TooLarge { .. } => 2,
             Stop::Unserved(_) => 2,
             Stop::Unread(_) | Stop::Read | Stop::Write | Stop::Memory => 3,
             Stop::Closed => 141,
@@ -80,8 +87,16 @@ impl<'a> Stop<'a> {
                 Stop::Notation { file, line, wrong }
             }
             PublishedFault::Unread(fault) => Stop::NotOfProfile(fault),
+            PublishedFault::TooLarge { most, name } => Stop::TooLarge { most, name },
             PublishedFault::Memory => Stop::Memory,
         }
+    }
+}
+
+impl<'a> From<PublishedFault> for Stop<'a> {
+    /// Why the text of standard input, which is no file, becomes no module.
+    fn from(fault: PublishedFault) -> Stop<'a> {
+        Stop::of(&[], fault)
     }
 }
 

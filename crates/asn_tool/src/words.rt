@@ -1,8 +1,8 @@
 //! The command line as `clap` knows it.
-ghost use Rattle.std.specs.Prelude.{◌≡◌, IfOk, codes, false};
+ghost use Rattle.std.specs.Prelude.{◌≡◌, IfOk, codes, false, true};
 ghost use Rattle.clap.specs.Words.{app_of, rule_of, shape_of};
 ghost use Rattle.clap.specs.declared.builder.Command.TheViews.{out-Command};
-ghost use Rattle.asn_tool.specs.Command.{IsFlatten, IsOrder, IsTool, TakesNames, answer_rules, file_rule, files_rule, flag_rule, form_rules, given_names, leave_rules, member_names, module_shape, names_rule, report_names, rule_names, rules_rule, source_rules, type_rule, with_rules, written_names};
+ghost use Rattle.asn_tool.specs.Command.{IsFlatten, IsOrder, IsOrderApp, IsTool, TakesNames, answer_rules, file_rule, files_rule, flag_rule, form_rules, given_names, leave_rules, member_names, module_shape, names_rule, number_rule, report_names, rule_names, rules_rule, source_rules, type_rule, with_rules, written_names};
 
 use crate::help;
 use clap::{Arg, ArgAction, Command, value_parser};
@@ -36,10 +36,10 @@ pub fn command<'a>(alloc: Global) -> Result<Command<'a>, AllocError>
         .bin_name("asn_tool")?
         .subcommand(flatten(alloc)?)?
         .subcommand(module(alloc)?)?
-        .subcommand(order(alloc, "show", "Shows messages as JSON", help::SHOW)?)?
-        .subcommand(order(alloc, "check", "Checks messages", help::CHECK)?)?
+        .subcommand(reading(alloc, "show", "Shows messages as JSON", help::SHOW)?)?
+        .subcommand(reading(alloc, "check", "Checks messages", help::CHECK)?)?
         .subcommand(order(alloc, "encode", "Encodes JSON", help::ENCODE)?)?
-        .subcommand(order(
+        .subcommand(reading(
             alloc,
             "convert",
             "Converts messages to the other rules",
@@ -110,6 +110,24 @@ fn module<'a>(alloc: Global) -> Result<Command<'a>, AllocError>
     with_leave(alloc, command)
 }
 
+/// The subcommand of an order whose lines are encodings of the type, with the option for what their values may take.
+fn reading<'a>(
+    alloc: Global,
+    name: &'a str,
+    about: &'a str,
+    help: &'a str,
+) -> Result<Command<'a>, AllocError>
+    ensures shape { IfOk result (λ c. IsOrder (name.entry.now, true) (shape_of c)) }
+    ensures local { IfOk result (λ c. (out-Command c).has_globals ≡ false) }
+{
+    let budget = number_option(
+        alloc,
+        "budget",
+        "Refuses a message whose value takes more than N entries, or N octets of strings",
+    );
+    order(alloc, name, about, help)?.arg(budget)
+}
+
 /// The subcommand of an order. The type and the encoding rules are required.
 fn order<'a>(
     alloc: Global,
@@ -117,7 +135,7 @@ fn order<'a>(
     about: &'a str,
     help: &'a str,
 ) -> Result<Command<'a>, AllocError>
-    ensures shape { IfOk result (λ c. IsOrder name.entry.now (shape_of c)) }
+    ensures app { IfOk result (λ c. IsOrderApp name.entry.now (app_of c)) }
     ensures local { IfOk result (λ c. (out-Command c).has_globals ≡ false) }
 {
     let command = Command::new(alloc, name)
@@ -289,15 +307,25 @@ fn with_leave<'a>(alloc: Global, command: Command<'a>) -> Result<Command<'a>, Al
         "octets",
         "OBJECT IDENTIFIER, REAL and strings of other characters are an OCTET STRING of their content",
     );
-    let levels = Arg::new(alloc, "levels")
-        .long("levels")
+    let levels = number_option(
+        alloc,
+        "levels",
+        "How many levels of a recursive type there are, below which is NULL [default: 0, which refuses it]",
+    );
+    command.arg(plain_bits)?.arg(octets)?.arg(levels)
+}
+
+/// An option whose value is a number of 32 bits.
+fn number_option<'a>(alloc: Global, name: &'a str, help: &'a str) -> Arg<'a>
+    ensures rule { rule_of result ≡ number_rule name.entry.now }
+    ensures local { result.global ≡ false }
+{
+    Arg::new(alloc, name)
+        .long(name)
         .value_name("N")
         .action(ArgAction::Set)
         .value_parser(value_parser!(u32))
-        .help(
-            "How many levels of a recursive type there are, below which is NULL [default: 0, which refuses it]",
-        );
-    command.arg(plain_bits)?.arg(octets)?.arg(levels)
+        .help(help)
 }
 
 /// An option without a value.

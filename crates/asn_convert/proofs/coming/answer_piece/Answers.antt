@@ -11,7 +11,7 @@ use Rattle.asn_convert.proofs.coming.answer_piece.Goals as goal
 
 pub returns-in_err-is_good-clause-begun : goal.returns-in_err-is_good-clause-begun
 returns-in_err-is_good-clause-begun g c =
-    let w = terms (rulings g.A.Rules.ruling g.B.Rules.ruling g.A.OtherVersions.loose) c.args.rules c.args.order (shape_of c.args.ty.now) in
+    let w = terms (rulings g.A.Rules.ruling g.B.Rules.ruling g.A.OtherVersions.loose) c.args.rules c.args.order (shape_of c.args.planned.now) in
     let ended = c.cut_last_line.result.0.now in
     let begun = c.cut_last_line.result.1.now in
     let front = c.extend_from_slice-2.new.self.items in
@@ -27,7 +27,7 @@ returns-in_err-is_good-clause-begun g c =
 
 pub returns-in_err-extend_from_slice-3-clause-begun : goal.returns-in_err-extend_from_slice-3-clause-begun
 returns-in_err-extend_from_slice-3-clause-begun g c =
-    let w = terms (rulings g.A.Rules.ruling g.B.Rules.ruling g.A.OtherVersions.loose) c.args.rules c.args.order (shape_of c.args.ty.now) in
+    let w = terms (rulings g.A.Rules.ruling g.B.Rules.ruling g.A.OtherVersions.loose) c.args.rules c.args.order (shape_of c.args.planned.now) in
     let ended = c.cut_last_line.result.0.now in
     let begun = c.cut_last_line.result.1.now in
     let front = c.extend_from_slice-2.new.self.items in
@@ -44,7 +44,7 @@ returns-in_err-extend_from_slice-3-clause-begun g c =
 
 pub returns-clause-told : goal.returns-clause-told
 returns-clause-told g c =
-    let w = terms (rulings g.A.Rules.ruling g.B.Rules.ruling g.A.OtherVersions.loose) c.args.rules c.args.order (shape_of c.args.ty.now) in
+    let w = terms (rulings g.A.Rules.ruling g.B.Rules.ruling g.A.OtherVersions.loose) c.args.rules c.args.order (shape_of c.args.planned.now) in
     let ended = c.cut_last_line.result.0.now in
     let begun = c.cut_last_line.result.1.now in
     let front = c.extend_from_slice-2.new.self.items in

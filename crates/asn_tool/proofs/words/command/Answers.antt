@@ -13,23 +13,24 @@ returns c =
     let named_is : app_of c.in_ok-bin_name.field-0 ≡ app_of c.subcommand_required.result = ap app_of_fields c.in_ok-bin_name.ensures.0 in
     let all_is = named_is ∙ (top_is ∙ ap (on_top (λ s. record s { subcommand_required = true })) (bare_is ∙ ap (on_top (λ s. record s { no_binary_name = true })) (help_is ∙ version_is))) in
     let flat = c.in_ok-flatten.ensures.shape in
-    let show = c.in_ok-order.ensures.shape in
-    let check = c.in_ok-order-2.ensures.shape in
-    let encode = c.in_ok-order-3.ensures.shape in
-    let convert = c.in_ok-order-4.ensures.shape in
-    let newer = c.in_ok-order-5.ensures.shape in
+    let show = c.in_ok-reading.ensures.shape in
+    let check = c.in_ok-reading-2.ensures.shape in
+    let encode = c.in_ok-order.ensures.app in
+    let convert = c.in_ok-reading-3.ensures.shape in
+    let newer = c.in_ok-order-2.ensures.app in
+    let top = λ (a : App). a.top in
     let one = c.in_ok-subcommand.ensures.shape c.in_ok-flatten.ensures.local ∙ ap₂ with_subcommand all_is flat.2 in
     let two = c.in_ok-subcommand-2.ensures.shape c.in_ok-module.ensures.local ∙ ap₂ with_subcommand one c.in_ok-module.ensures.shape in
-    let three = c.in_ok-subcommand-3.ensures.shape c.in_ok-order.ensures.local ∙ ap (λ b. with_subcommand b (shape_of c.in_ok-order.field-0)) two in
-    let four = c.in_ok-subcommand-4.ensures.shape c.in_ok-order-2.ensures.local ∙ ap (λ b. with_subcommand b (shape_of c.in_ok-order-2.field-0)) three in
-    let five = c.in_ok-subcommand-5.ensures.shape c.in_ok-order-3.ensures.local ∙ ap (λ b. with_subcommand b (shape_of c.in_ok-order-3.field-0)) four in
-    let six = c.in_ok-subcommand-6.ensures.shape c.in_ok-order-4.ensures.local ∙ ap (λ b. with_subcommand b (shape_of c.in_ok-order-4.field-0)) five in
+    let three = c.in_ok-subcommand-3.ensures.shape c.in_ok-reading.ensures.local ∙ ap (λ b. with_subcommand b (shape_of c.in_ok-reading.field-0)) two in
+    let four = c.in_ok-subcommand-4.ensures.shape c.in_ok-reading-2.ensures.local ∙ ap (λ b. with_subcommand b (shape_of c.in_ok-reading-2.field-0)) three in
+    let five = c.in_ok-subcommand-5.ensures.shape c.in_ok-order.ensures.local ∙ ap (λ b. with_subcommand b (shape_of c.in_ok-order.field-0)) four in
+    let six = c.in_ok-subcommand-6.ensures.shape c.in_ok-reading-3.ensures.local ∙ ap (λ b. with_subcommand b (shape_of c.in_ok-reading-3.field-0)) five in
     IfOk-weaker c.subcommand-7.result _ _
     (λ d h. (
       flat.0,
-      shape_of c.in_ok-order.field-0 ∷ shape_of c.in_ok-order-2.field-0 ∷ shape_of c.in_ok-order-3.field-0 ∷ shape_of c.in_ok-order-4.field-0 ∷ shape_of c.in_ok-order-5.field-0 ∷ [],
+      shape_of c.in_ok-reading.field-0 ∷ shape_of c.in_ok-reading-2.field-0 ∷ shape_of c.in_ok-order.field-0 ∷ shape_of c.in_ok-reading-3.field-0 ∷ shape_of c.in_ok-order-2.field-0 ∷ [],
       flat.1,
-      (show, (check, (encode, (convert, (newer, tt))))),
-      h.shape c.in_ok-order-5.ensures.local ∙ ap (λ b. with_subcommand b (shape_of c.in_ok-order-5.field-0)) six,
+      (show, (check, ((encode.0, encode.1, ap top encode.2), (convert, ((newer.0, newer.1, ap top newer.2), tt))))),
+      h.shape c.in_ok-order-2.ensures.local ∙ ap (λ b. with_subcommand b (shape_of c.in_ok-order-2.field-0)) six,
     ))
     c.subcommand-7.ensures

@@ -1,7 +1,7 @@
 //! Canonical OER as encoding rules: the encoder, the decoder and sessions.
 ghost use Rattle.std.specs.Prelude.{[]};
 ghost use Rattle.asn_oer.specs.Words.{oer_ruling};
-ghost use Rattle.asn_oer.specs.Sessions.{OerTook};
+ghost use Rattle.asn_oer.specs.Sessions.{OerTook, oer_ticked};
 
 use crate::session::OerSession;
 use asn_rules::internal::{self, Reads, is_value_of_none};
@@ -45,6 +45,8 @@ impl Rules for Oer {
     ghost ruling = { oer_ruling };
 
     ghost took = { OerTook };
+
+    ghost ticked = { oer_ticked };
 
     #[tactic(auto, unfolding(crate::specs::Walk::oer_coding))]
     fn encode(alloc: Global, ty: &Checked, value: &Value) -> Result<Vec<u8>, EncodeFault> {
@@ -105,6 +107,10 @@ impl Rules for Oer {
 
     fn feed(session: &mut OerSession, piece: &[u8]) -> Result<Step, FeedFault> {
         session.feed(piece)
+    }
+
+    fn ticks(session: &OerSession) -> u64 {
+        session.ticks()
     }
 
     fn finish(session: OerSession) -> Result<(), Truncated> {

@@ -1,14 +1,15 @@
 //! Sessions of Canonical OER: messages whose octets come in pieces.
-ghost use Rattle.std.specs.Prelude.{[], ℕ, List, Option, IfOk};
+ghost use Rattle.std.specs.Prelude.{◌≡◌, [], ℕ, List, Option, IfOk};
 ghost use Rattle.std.specs.Coded.{codes};
 ghost use Rattle.asn_values.specs.Shape.{Shape};
 ghost use Rattle.asn_values.specs.View.{shape_of};
 ghost use Rattle.asn_values.specs.contracts.checked.Checked as types;
 ghost use Rattle.asn_values.specs.contracts.value.Value as values;
 ghost use Rattle.asn_rules.specs.Sessions.{Past, waiting, Feeds, Finished};
+ghost use Rattle.asn_rules.specs.Ticks.{Counts, TicksOn};
 ghost use Rattle.asn_resuming.specs.declared.session.Resuming.{Resuming as TheResuming};
 ghost use Rattle.asn_oer.specs.Rules.{oer_ruling};
-ghost use Rattle.asn_oer.specs.Sessions.{OerTook};
+ghost use Rattle.asn_oer.specs.Sessions.{OerTook, oer_ticked};
 
 use crate::in_pieces::OerInPieces;
 use asn_resuming::Resuming;
@@ -52,9 +53,18 @@ impl OerSession {
     /// # Errors
     /// As `asn_rules::Rules::feed`.
     pub(crate) fn feed(&mut self, piece: &[u8]) -> Result<Step, FeedFault>
-        ensures { Feeds oer_ruling OerTook self.old self.new piece.now result }
+        ensures answered { Feeds oer_ruling OerTook self.old self.new piece.now result }
+        ensures ticked { TicksOn oer_ruling OerTook oer_ticked self.old self.new piece.now result }
     {
         asn_resuming::feed::<OerInPieces>(&mut self.inner, piece)
+    }
+
+    /// How many units its levels took. Takes no memory.
+    pub(crate) fn ticks(&self) -> u64
+        ensures count { result ≡ oer_ticked self.now }
+        ensures seen { Counts oer_ruling OerTook self.now result }
+    {
+        asn_resuming::ticks::<OerInPieces>(&self.inner)
     }
 
     /// Ends the session. Takes no memory.

@@ -1,6 +1,6 @@
 //! PER as encoding rules: the encoder, the decoder and sessions.
 ghost use Rattle.asn_per.specs.Rules.{per_ruling};
-ghost use Rattle.asn_per.specs.Sessions.{PerTook};
+ghost use Rattle.asn_per.specs.Sessions.{PerTook, per_ticked};
 
 use crate::session::PerSession;
 use asn_rules::internal::{self, Reads};
@@ -44,6 +44,8 @@ impl Rules for Per {
     ghost ruling = { per_ruling };
 
     ghost took = { PerTook };
+
+    ghost ticked = { per_ticked };
 
     #[tactic(auto, unfolding(crate::specs::Walk::per_coding))]
     fn encode(alloc: Global, ty: &Checked, value: &Value) -> Result<Vec<u8>, EncodeFault> {
@@ -104,6 +106,10 @@ impl Rules for Per {
 
     fn feed(session: &mut PerSession, piece: &[u8]) -> Result<Step, FeedFault> {
         session.feed(piece)
+    }
+
+    fn ticks(session: &PerSession) -> u64 {
+        session.ticks()
     }
 
     fn finish(session: PerSession) -> Result<(), Truncated> {

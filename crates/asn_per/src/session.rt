@@ -1,14 +1,15 @@
 //! Sessions of PER: messages whose octets come in pieces.
-ghost use Rattle.std.specs.Prelude.{[], ℕ, List, IfOk};
+ghost use Rattle.std.specs.Prelude.{◌≡◌, [], ℕ, List, IfOk};
 ghost use Rattle.std.specs.Coded.{codes};
 ghost use Rattle.asn_values.specs.Shape.{Shape};
 ghost use Rattle.asn_values.specs.View.{shape_of};
 ghost use Rattle.asn_values.specs.contracts.checked.Checked as types;
 ghost use Rattle.asn_values.specs.contracts.value.Value as values;
 ghost use Rattle.asn_rules.specs.Sessions.{Past, waiting, Feeds, Finished};
+ghost use Rattle.asn_rules.specs.Ticks.{Counts, TicksOn};
 ghost use Rattle.asn_resuming.specs.declared.session.Resuming.{Resuming as TheResuming};
 ghost use Rattle.asn_per.specs.Rules.{per_ruling};
-ghost use Rattle.asn_per.specs.Sessions.{PerTook};
+ghost use Rattle.asn_per.specs.Sessions.{PerTook, per_ticked};
 ghost use Rattle.asn_per.specs.declared.fragments.Fragments.{Fragments as TheFragments};
 
 use crate::fragments::Fragments;
@@ -54,9 +55,18 @@ impl PerSession {
     /// # Errors
     /// As `asn_rules::Rules::feed`.
     pub(crate) fn feed(&mut self, piece: &[u8]) -> Result<Step, FeedFault>
-        ensures { Feeds per_ruling PerTook self.old self.new piece.now result }
+        ensures answered { Feeds per_ruling PerTook self.old self.new piece.now result }
+        ensures ticked { TicksOn per_ruling PerTook per_ticked self.old self.new piece.now result }
     {
         asn_resuming::feed::<PerInPieces>(&mut self.inner, piece)
+    }
+
+    /// How many units its levels took. Takes no memory.
+    pub(crate) fn ticks(&self) -> u64
+        ensures count { result ≡ per_ticked self.now }
+        ensures seen { Counts per_ruling PerTook self.now result }
+    {
+        asn_resuming::ticks::<PerInPieces>(&self.inner)
     }
 
     /// Ends the session. Takes no memory.

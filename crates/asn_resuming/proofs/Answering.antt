@@ -1,5 +1,5 @@
 -- The session that goes on where the last piece ended: what each answer of the reader makes of it.
-use Rattle.std.proofs.Common.{◌≡◌, ◌≤◌, ◌<◌, ◌+◌, ◌-◌, ℕ, min, true, false, Result, Ok, Err, List, [], ◌++◌, length, take, sym, ap, subst, ◌∙◌, arith}
+use Rattle.std.proofs.Common.{◌≡◌, ◌≤◌, ◌<◌, ◌+◌, ◌-◌, ℕ, min, true, false, Result, Ok, Err, List, [], ◌++◌, length, take, refl, sym, ap, subst, ◌∙◌, arith}
 use Rattle.std.proofs.lemmas.List.{take-take}
 use Rattle.asn_values.specs.Profile.{InProfile}
 use Rattle.asn_values.specs.Shape.{Shape}
@@ -23,10 +23,13 @@ use Rattle.asn_walk.specs.Laws.{Laws}
 use Rattle.asn_walk.proofs.Decoding.{short_read, long_read}
 use Rattle.asn_walk_feed.specs.Nodes.{nodes}
 use Rattle.asn_walk_feed.specs.OpenFields.{FieldCoding}
+use Rattle.asn_resuming.specs.Counting.{Seen, Going}
 use Rattle.asn_resuming.specs.Reached.{Reached, GoesOn}
 use Rattle.asn_resuming.specs.Resumed.{Resumes}
 use Rattle.asn_resuming.specs.declared.session.Resuming.{Resuming}
 use Rattle.asn_resuming.specs.declared.session.State.TheVariants as state
+use Rattle.asn_rules.specs.Ticks.{Counted}
+use Rattle.asn_resuming.proofs.Counts.{count_of_seen}
 use Rattle.asn_resuming.proofs.NextOctets.{reached_none}
 
 module _ {F : Type 0} (c : Coding) (laws : Laws c) (fc : FieldCoding) (ahead : F → Ahead) (between : F → Type 0) (t : Shape) where
@@ -35,13 +38,19 @@ module _ {F : Type 0} (c : Coding) (laws : Laws c) (fc : FieldCoding) (ahead : F
 
   -- ---- a session that has taken nothing
 
-  module _ (q : Resuming F) (y : shape_of q.ty ≡ t) (good : InProfile t) (none : nodes q.frames ≡ []) (units : q.units ≡ 0) (octets : q.octets ≡ 0) (waits : q.state ≡ state.Waiting) where
+  module _ (q : Resuming F) (y : shape_of q.ty ≡ t) (good : InProfile t) (none : nodes q.frames ≡ []) (units : q.units ≡ 0) (octets : q.octets ≡ 0) (taken : q.ticks.taken ≡ 0) (inside : q.ticks.inside ≡ 0) (waits : q.state ≡ state.Waiting) where
     opened : Finished c.ruling t (waiting []) q.end → R q t (waiting [])
     opened end = record {
       of_type = y;
       of_profile = good;
       goes_on = (waits, omega arith, rw (units, octets) (reached_none c laws fc ahead between (nodes q.frames) t none));
       end = end;
+      counts = record {
+        taken = taken ∙ sym (ap length (no_units c.ruling laws.tells));
+        field = 0;
+        is_open = rw none refl;
+        inside = omega (arith, inside);
+      };
     }
 
     pub opened_whole : q.end ≡ Ok tt → TellsIfNone c.ruling t true → R q t (waiting [])
@@ -109,18 +118,21 @@ module _ {F : Type 0} (c : Coding) (laws : Laws c) (fc : FieldCoding) (ahead : F
             of_profile = k.of_profile;
             goes_on = over_is;
             end = ends (over (take n all)) (Ok tt) end_is (datum_of v, whole);
+            counts = tt;
           };
         }
 
     pub more_feeds : (cut : Truncated) → new.state ≡ state.Waiting → new.end ≡ Err cut → cut.taken ≡ length (c.ruling.units (s ++ m)) → length (s ++ m) < max_octets
-        → new.units ≡ length (c.ruling.units (s ++ m)) → new.octets ≡ length (s ++ m) → GoesOn c fc ahead between (nodes new.frames) t (s ++ m) → Goes (Ok step.More)
-    more_feeds cut state_is end_is count few units octets h =
+        → new.units ≡ length (c.ruling.units (s ++ m)) → new.octets ≡ length (s ++ m) → GoesOn c fc ahead between (nodes new.frames) t (s ++ m)
+        → Going c fc ahead between (nodes new.frames) t (length (c.ruling.units (s ++ m))) new.ticks → Goes (Ok step.More)
+    more_feeds cut state_is end_is count few units octets h going =
         let told : Answer c.ruling t (s ++ m) more = short_read c laws t k.of_profile (s ++ m) few h.short in
         let here : R new t (waiting (s ++ m)) = record {
           of_type = same ∙ k.of_type;
           of_profile = k.of_profile;
           goes_on = (state_is, few, record { took = h.took; units_are = sym units; octets_are = sym octets });
           end = ends (waiting (s ++ m)) (Err cut) end_is (cut_short c.ruling t (s ++ m) cut (sym count) told.0 told.1);
+          counts = going;
         } in
         record {
           answered = subst (λ (l : List ℕ). Answer c.ruling t l more) e told;
@@ -128,14 +140,16 @@ module _ {F : Type 0} (c : Coding) (laws : Laws c) (fc : FieldCoding) (ahead : F
         }
 
     pub too_long_feeds : (cut : Truncated) → new.state ≡ state.Stopped feed.TooLong → new.end ≡ Err cut → cut.taken ≡ length (c.ruling.units (s ++ m)) → length (s ++ m) ≡ max_octets
-        → GoesOn c fc ahead between (nodes new.frames) t (s ++ m) → Goes (Err feed.TooLong)
-    too_long_feeds cut state_is end_is count all h =
+        → GoesOn c fc ahead between (nodes new.frames) t (s ++ m)
+        → Going c fc ahead between (nodes new.frames) t (length (c.ruling.units (s ++ m))) new.ticks → Goes (Err feed.TooLong)
+    too_long_feeds cut state_is end_is count all h going =
         let told : Answer c.ruling t (s ++ m) too_long = long_read c laws t k.of_profile (s ++ m) all h.short in
         let here : R new t (stopped (s ++ m) feed.TooLong) = record {
           of_type = same ∙ k.of_type;
           of_profile = k.of_profile;
           goes_on = state_is;
           end = ends (stopped (s ++ m) feed.TooLong) (Err cut) end_is (cut_short c.ruling t (s ++ m) cut (sym count) told.0 told.1);
+          counts = record { taken = going.taken; inside = omega (arith, going.inside) };
         } in
         record {
           answered = subst (λ (l : List ℕ). Answer c.ruling t l too_long) e told;
@@ -143,8 +157,8 @@ module _ {F : Type 0} (c : Coding) (laws : Laws c) (fc : FieldCoding) (ahead : F
         }
 
     pub refused_feeds : (at : ℕ) (why : Why) (cut : Truncated) → new.state ≡ state.Stopped (feed.Refused at why) → new.end ≡ Err cut → cut.taken ≡ at - 1
-        → Answer c.ruling t (s ++ m) (refused at) → Goes (Err (feed.Refused at why))
-    refused_feeds at why cut state_is end_is count told =
+        → Answer c.ruling t (s ++ m) (refused at) → Seen t at new.ticks → Goes (Err (feed.Refused at why))
+    refused_feeds at why cut state_is end_is count told seen =
         let h : Answer c.ruling t (all_so_far s piece) (refused at) = subst (λ (l : List ℕ). Answer c.ruling t l (refused at)) e told in
         record {
           answered = h;
@@ -153,11 +167,35 @@ module _ {F : Type 0} (c : Coding) (laws : Laws c) (fc : FieldCoding) (ahead : F
             of_profile = k.of_profile;
             goes_on = state_is;
             end = ends (stopped (all_so_far s piece) (feed.Refused at why)) (Err cut) end_is (not_whole c.ruling t (all_so_far s piece) h.0, subst (λ (n : ℕ). LiveUnits c.ruling t (c.ruling.units (all_so_far s piece)) n) (sym count) (live_before c.ruling t (c.ruling.units (all_so_far s piece)) at k.of_profile h.1));
+            counts = seen;
           };
         }
 
     pub memory_feeds : new.state ≡ state.Over → new.end ≡ q.end → Goes (Err feed.Memory)
     memory_feeds state_is end_is = record {
       answered = tt;
-      taken = record { of_type = same ∙ k.of_type; of_profile = k.of_profile; goes_on = state_is; end = ends (over s) q.end end_is k.end };
+      taken = record { of_type = same ∙ k.of_type; of_profile = k.of_profile; goes_on = state_is; end = ends (over s) q.end end_is k.end; counts = tt };
     }
+
+  -- ---- what was counted
+
+  -- what the reader counted, of its type
+  pub going_at : (q : Resuming F) (s : List ℕ) → R q t (waiting s) → Going c fc ahead between (nodes q.frames) (shape_of q.ty) (length (c.ruling.units s)) q.ticks
+  going_at q s w = subst (λ (u : Shape). Going c fc ahead between (nodes q.frames) u (length (c.ruling.units s)) q.ticks) (sym w.of_type) w.counts
+
+  -- the first octets of those that are read are the first of all
+  pub front_same : (s piece m : List ℕ) (n : ℕ) → s ++ m ≡ all_so_far s piece → n ≤ length (s ++ m) → take n (s ++ m) ≡ take n (s ++ piece)
+  front_same s piece m n e l =
+      let few : n ≤ max_octets = omega (arith, l, ap length e, (take_few max_octets (s ++ piece)).0) in
+      ap (λ (o : List ℕ). take n o) e ∙ take-take n max_octets (s ++ piece) few
+
+-- the counter says as many units as were seen
+pub counted_of : {F : Type 0} (c : Coding) (fc : FieldCoding) (ahead : F → Ahead) (between : F → Type 0) (t : Shape) (q : Resuming F) (past : Past) (n : ℕ) → Resumes c fc ahead between q t past
+    → q.ticks.taken ≤ n → n ≤ q.ticks.taken + q.ticks.inside → Counted c.ruling t past n
+counted_of c fc ahead between t q (waiting s) n k l m =
+    count_of_seen t (length (c.ruling.units s)) n q.ticks (record { taken = k.counts.taken; inside = omega (arith, k.counts.inside) }) l m
+counted_of c fc ahead between t q (stopped s (feed.Refused at why)) n k l m = count_of_seen t at n q.ticks k.counts l m
+counted_of c fc ahead between t q (stopped s feed.TooLong) n k l m = count_of_seen t (length (c.ruling.units s)) n q.ticks k.counts l m
+counted_of c fc ahead between t q (stopped s feed.Memory) n k l m = tt
+counted_of c fc ahead between t q (stopped s feed.Spent) n k l m = tt
+counted_of c fc ahead between t q (over s) n k l m = tt

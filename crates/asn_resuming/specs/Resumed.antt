@@ -9,6 +9,7 @@ use Rattle.asn_walk.specs.Ahead.{Ahead}
 use Rattle.asn_walk.specs.Coding.{Coding}
 use Rattle.asn_walk_feed.specs.Nodes.{nodes}
 use Rattle.asn_walk_feed.specs.OpenFields.{FieldCoding}
+use Rattle.asn_resuming.specs.Counting.{CountsKept}
 use Rattle.asn_resuming.specs.Reached.{Reached}
 use Rattle.asn_resuming.specs.declared.session.Resuming.{Resuming}
 use Rattle.asn_resuming.specs.declared.session.State.TheVariants as state
@@ -21,10 +22,11 @@ GoesOnAs c fc ahead between q t (waiting s) = (q.state ≡ state.Waiting) × (le
 GoesOnAs c fc ahead between q t (stopped s fault) = q.state ≡ state.Stopped fault
 GoesOnAs c fc ahead between q t (over s) = q.state ≡ state.Over
 
--- the session is of the type and has this past, and it has ready what is told at the end
+-- the session is of the type and has this past, it has ready what is told at the end, and has counted
 pub record Resumes {F : Type 0} (c : Coding) (fc : FieldCoding) (ahead : F → Ahead) (between : F → Type 0)
     (q : Resuming F) (t : Shape) (past : Past) : Type 0 where
   pub of_type : shape_of q.ty ≡ t
   pub of_profile : InProfile t
   pub goes_on : GoesOnAs c fc ahead between q t past
   pub end : Finished c.ruling t past q.end
+  pub counts : CountsKept c fc ahead between (nodes q.frames) t past q.ticks

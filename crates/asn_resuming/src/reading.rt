@@ -4,6 +4,7 @@ ghost use Rattle.asn_values.specs.View.{shape_of};
 ghost use Rattle.asn_rules.specs.Answer.{max_octets};
 ghost use Rattle.asn_rules.specs.AtOnce.{FedAtOnce, TellsIfNone};
 ghost use Rattle.asn_walk_feed.specs.Nodes.{nodes};
+ghost use Rattle.asn_resuming.specs.Counting.{Going, CountsAfter};
 ghost use Rattle.asn_resuming.specs.Reached.{Reached, AnswersOn};
 
 use asn_bits::BitCursor;
@@ -43,7 +44,7 @@ pub(crate) fn units_of<R: FeedLeaves>(octets: &[u8]) -> u64
 
 /// Reads the next octets of a message of which `octets` have come, which are `units` units, and these nodes have begun.
 /// Where the message goes on, the nodes tell where. The first octets are read where they lie, and from no node where
-/// more are wanted.
+/// more are wanted: then they tick; a message that is read where it lies ticks once a unit that is seen.
 ///
 /// # Errors
 /// `Refused` as `asn_rules::Rules::feed`; `Memory` where an allocation failed.
@@ -53,25 +54,38 @@ pub(crate) fn read_next<R: ReadsAtOnce>(
     units: u64,
     octets: usize,
     frames: &mut Frames<R::Fragments>,
+    ticks: &mut Ticks,
     piece: &[u8],
 ) -> Result<Step, FeedFault>
     requires reached { (s : List ℕ) × Reached R.rules R.fields R.ahead R.is_between (nodes frames.old)
         (shape_of ty.now) units octets s }
     requires few { octets + length piece.now ≤ max_octets }
-    ensures { (s : List ℕ) → Reached R.rules R.fields R.ahead R.is_between (nodes frames.old) (shape_of ty.now)
+    requires taken { ticks.old.taken ≡ units }
+    ensures answered { (s : List ℕ) → Reached R.rules R.fields R.ahead R.is_between (nodes frames.old) (shape_of ty.now)
         units octets s → AnswersOn R.rules R.fields R.ahead R.is_between (nodes frames.new) (shape_of ty.now) s
         piece.now result }
+    ensures counted { (s : List ℕ) → Reached R.rules R.fields R.ahead R.is_between (nodes frames.old)
+        (shape_of ty.now) units octets s → Going R.rules R.fields R.ahead R.is_between (nodes frames.old)
+        (shape_of ty.now) (length (R.rules.ruling.units s)) ticks.old → CountsAfter R.rules R.fields R.ahead
+        R.is_between (nodes frames.new) (shape_of ty.now) s piece.now result ticks.new }
 {
+    R::keep_laws();
     if octets > 0 {
-        return read_on::<R>(alloc, ty, units, octets, frames, piece);
+        return read_on::<R>(alloc, ty, units, octets, frames, ticks, piece);
     }
     match R::read(alloc, ty, piece) {
-        Ok(Step::Done { value, used }) => Ok(Step::Done { value, used }),
-        Err(FeedFault::Refused { at, why }) => Err(FeedFault::Refused { at, why }),
+        Ok(Step::Done { value, used }) => {
+            ticks.add(units_of::<R>(&piece[..used]));
+            Ok(Step::Done { value, used })
+        }
+        Err(FeedFault::Refused { at, why }) => {
+            ticks.add(at);
+            Err(FeedFault::Refused { at, why })
+        }
         Err(FeedFault::Memory) => Err(FeedFault::Memory),
-        Ok(Step::More) => read_on::<R>(alloc, ty, units, octets, frames, piece),
-        Err(FeedFault::TooLong) => read_on::<R>(alloc, ty, units, octets, frames, piece),
-        Err(FeedFault::Spent) => read_on::<R>(alloc, ty, units, octets, frames, piece),
+        Ok(Step::More) => read_on::<R>(alloc, ty, units, octets, frames, ticks, piece),
+        Err(FeedFault::TooLong) => read_on::<R>(alloc, ty, units, octets, frames, ticks, piece),
+        Err(FeedFault::Spent) => read_on::<R>(alloc, ty, units, octets, frames, ticks, piece),
     }
 }
 
@@ -85,21 +99,26 @@ fn read_on<R: FeedLeaves>(
     units: u64,
     octets: usize,
     frames: &mut Frames<R::Fragments>,
+    ticks: &mut Ticks,
     piece: &[u8],
 ) -> Result<Step, FeedFault>
     requires reached { (s : List ℕ) × Reached R.rules R.fields R.ahead R.is_between (nodes frames.old)
         (shape_of ty.now) units octets s }
     requires few { octets + length piece.now ≤ max_octets }
-    ensures { (s : List ℕ) → Reached R.rules R.fields R.ahead R.is_between (nodes frames.old) (shape_of ty.now)
+    requires taken { ticks.old.taken ≡ units }
+    ensures answered { (s : List ℕ) → Reached R.rules R.fields R.ahead R.is_between (nodes frames.old) (shape_of ty.now)
         units octets s → AnswersOn R.rules R.fields R.ahead R.is_between (nodes frames.new) (shape_of ty.now) s
         piece.now result }
+    ensures counted { (s : List ℕ) → Reached R.rules R.fields R.ahead R.is_between (nodes frames.old)
+        (shape_of ty.now) units octets s → Going R.rules R.fields R.ahead R.is_between (nodes frames.old)
+        (shape_of ty.now) (length (R.rules.ruling.units s)) ticks.old → CountsAfter R.rules R.fields R.ahead
+        R.is_between (nodes frames.new) (shape_of ty.now) s piece.now result ticks.new }
 {
     R::keep_laws();
     are_octets(piece);
     let all = units + units_of::<R>(piece);
     let mut ahead = Units::over(piece);
-    let mut ticks = Ticks::none();
-    match feed_complete::<R>(alloc, ty.get(), units, frames, &mut ahead, &mut ticks) {
+    match feed_complete::<R>(alloc, ty.get(), units, frames, &mut ahead, ticks) {
         Ok(value) => {
             let used = piece.len() - R::octets_left(&ahead.ahead());
             Ok(Step::Done { value, used })

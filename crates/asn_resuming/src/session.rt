@@ -1,14 +1,16 @@
 //! Sessions: `open`, `feed` and `finish` as `asn_rules::Rules` has them, for any rules whose parts a piece may cut.
-ghost use Rattle.std.specs.Prelude.{[], ℕ, List, IfOk};
+ghost use Rattle.std.specs.Prelude.{◌≡◌, [], ℕ, List, IfOk};
 ghost use Rattle.asn_values.specs.Shape.{Shape};
 ghost use Rattle.asn_values.specs.View.{shape_of};
 ghost use Rattle.asn_rules.specs.Sessions.{Past, waiting, Feeds, Finished};
+ghost use Rattle.asn_rules.specs.Ticks.{Counts, TicksOn};
+ghost use Rattle.asn_walk_feed.specs.Counts.{count_of};
 ghost use Rattle.asn_resuming.specs.Resumed.{Resumes};
 
 use crate::reading::{ReadsAtOnce, read_next, units_of};
 use asn_rules::{FeedFault, MAX_OCTETS, OpenFault, Step, Truncated};
 use asn_values::Checked;
-use asn_walk_feed::{FeedLeaves, Frames};
+use asn_walk_feed::{FeedLeaves, Frames, Ticks};
 use std::alloc::Global;
 
 /// What a session answers next.
@@ -32,6 +34,7 @@ pub struct Resuming<F> {
     // how many units and how many octets have come, while it waits for more
     units: u64,
     octets: usize,
+    ticks: Ticks,
     state: State,
     // what `finish` answers
     end: Result<(), Truncated>,
@@ -57,6 +60,7 @@ pub fn open<R: ReadsAtOnce>(alloc: Global, ty: Checked) -> Result<Resuming<R::Fr
         frames: Frames::none(alloc),
         units: 0,
         octets: 0,
+        ticks: Ticks::none(),
         state: State::Waiting,
         end,
     })
@@ -71,8 +75,10 @@ pub fn feed<R: ReadsAtOnce>(
     piece: &[u8],
 ) -> Result<Step, FeedFault>
     requires known { (t : Shape) × (past : Past) × Resumes R.rules R.fields R.ahead R.is_between session.old t past }
-    ensures { Feeds R.rules.ruling (λ q. Resumes R.rules R.fields R.ahead R.is_between q) session.old session.new
-        piece.now result }
+    ensures answered { Feeds R.rules.ruling (λ q. Resumes R.rules R.fields R.ahead R.is_between q) session.old
+        session.new piece.now result }
+    ensures ticked { TicksOn R.rules.ruling (λ q. Resumes R.rules R.fields R.ahead R.is_between q)
+        (λ q. count_of q.ticks) session.old session.new piece.now result }
 {
     match session.state {
         State::Waiting => {}
@@ -90,6 +96,7 @@ pub fn feed<R: ReadsAtOnce>(
         session.units,
         session.octets,
         &mut session.frames,
+        &mut session.ticks,
         message,
     ) {
         Ok(Step::Done { value, used }) => {
@@ -119,6 +126,14 @@ pub fn feed<R: ReadsAtOnce>(
             Err(FeedFault::Memory)
         }
     }
+}
+
+/// How many units the levels of the session took: see `asn_rules::Rules::ticks`. Takes no memory.
+pub fn ticks<R: FeedLeaves>(session: &Resuming<R::Fragments>) -> u64
+    ensures count { result ≡ count_of session.now.ticks }
+    ensures seen { Counts R.rules.ruling (λ q. Resumes R.rules R.fields R.ahead R.is_between q) session.now result }
+{
+    session.ticks.count()
 }
 
 /// Ends a session: see `asn_rules::Rules::finish`. Takes no memory.

@@ -1,8 +1,9 @@
 //! A session of any encoding rules as a value with methods.
-ghost use Rattle.std.specs.Prelude.{[], IfOk};
+ghost use Rattle.std.specs.Prelude.{◌≡◌, [], IfOk};
 ghost use Rattle.asn_values.specs.Shape.{Shape};
 ghost use Rattle.asn_values.specs.View.{shape_of};
 ghost use Rattle.asn_rules.specs.Sessions.{Past, waiting, Feeds, Finished};
+ghost use Rattle.asn_rules.specs.Ticks.{Counts, TicksOn};
 
 use crate::rules::Rules;
 use crate::session::{FeedFault, OpenFault, Step, Truncated};
@@ -33,9 +34,19 @@ impl<R: Rules> Session<R> {
     /// # Errors
     /// As `Rules::feed`.
     pub fn feed(&mut self, piece: &[u8]) -> Result<Step, FeedFault>
-        ensures { Feeds R.ruling (λ q. R.took q.inner) self.old self.new piece.now result }
+        ensures answered { Feeds R.ruling (λ q. R.took q.inner) self.old self.new piece.now result }
+        ensures ticked { TicksOn R.ruling (λ q. R.took q.inner) (λ q. R.ticked q.inner) self.old self.new
+            piece.now result }
     {
         R::feed(&mut self.inner, piece)
+    }
+
+    /// How many units its levels took: see `Rules::ticks`. Takes no memory.
+    pub fn ticks(&self) -> u64
+        ensures count { result ≡ R.ticked self.now.inner }
+        ensures seen { Counts R.ruling (λ q. R.took q.inner) self.now result }
+    {
+        R::ticks(&self.inner)
     }
 
     /// Ends the session: whether the octets taken are a whole encoding. Takes no memory.

@@ -1,5 +1,5 @@
 //! Encoding rules as a trait, and what is built on any of them.
-ghost use Rattle.std.specs.Prelude.{◌≡◌, ◌≤◌, IfOk, IfErr, OnOk, Ok, Err, [], vec_len};
+ghost use Rattle.std.specs.Prelude.{◌≡◌, ◌≤◌, ℕ, IfOk, IfErr, OnOk, Ok, Err, [], vec_len};
 ghost use Rattle.asn_values.specs.Shape.{Shape};
 ghost use Rattle.asn_values.specs.View.{shape_of, datum_of};
 ghost use Rattle.asn_rules.specs.Answer.{Ruling, IsEncoding, max_octets};
@@ -10,6 +10,7 @@ ghost use Rattle.asn_rules.specs.Laws.{RulesLaws};
 ghost use Rattle.asn_rules.specs.Measured.{IsLength, NotMeasured, Placed, NotPlaced};
 ghost use Rattle.asn_rules.specs.Reading.{RulesTell};
 ghost use Rattle.asn_rules.specs.Sessions.{Past, waiting, Feeds, Finished};
+ghost use Rattle.asn_rules.specs.Ticks.{Counts, TicksOn};
 
 use crate::fault::{DecodeFault, EncodeFault, EncodeIntoFault, EncodeToFault, LengthFault};
 use crate::output::Output;
@@ -31,6 +32,9 @@ pub trait Rules {
 
     /// The session is of the type and has this past.
     ghost took: { Self.Session → Shape → Past → Type 0 };
+
+    /// The session has ticked so often.
+    ghost ticked: { Self.Session → ℕ };
 
     /// The encoding of a value of the type.
     ///
@@ -136,7 +140,16 @@ pub trait Rules {
     /// allocation failed. A session that answered `Refused` or `TooLong` answers the same to every further piece, and
     /// one that answered `Done` or `Memory` answers `Spent`.
     fn feed(session: &mut Self::Session, piece: &[u8]) -> Result<Step, FeedFault>
-        ensures { Feeds ruling took session.old session.new piece.now result };
+        ensures answered { Feeds ruling took session.old session.new piece.now result }
+        ensures ticked { TicksOn ruling took ticked session.old session.new piece.now result };
+
+    /// How many units the levels of the session took: the message is a level, and the content of each open type field is
+    /// one, which is read when the last octet of it has come. As many as the units that are seen, at least, and at most
+    /// so often as the type has levels; seen are the units of the octets so far, up to the end of the value or the
+    /// refused unit. Takes no memory.
+    fn ticks(session: &Self::Session) -> u64
+        ensures count { result ≡ ticked session.now }
+        ensures seen { Counts ruling took session.now result };
 
     /// Ends a session. Takes no memory.
     ///

@@ -6,6 +6,7 @@ pub mod FieldsRead
 pub mod Goings
 pub mod ItemsRead
 pub mod Leaves
+pub mod Levels
 pub mod ListsRead
 pub mod OctetsRead
 pub mod RootsRead

@@ -1,7 +1,9 @@
 //! The reader of the extension additions of a SEQUENCE that goes on where it stopped.
 //!
 //! Their presence bits are a part of its own, and each addition that is present is an open type field.
-ghost use Rattle.std.specs.Prelude.{◌≡◌, ◌≤◌, ◌<◌, ◌+◌, ◌^◌, ◌++◌, ℕ, List, [], length, IfOk, IfErr, OnOk, Err};
+ghost use Rattle.asn_values.specs.Measures.{sealed_depth, additions_sealed};
+ghost use Rattle.asn_walk_feed.specs.Levels.{Costs, OpenUnits, FieldUnits};
+ghost use Rattle.std.specs.Prelude.{◌≡◌, ◌≤◌, ◌<◌, ◌+◌, ◌^◌, ◌++◌, ℕ, List, [], length, IfOk, IfErr, OnOk, Err, ⊤, suc};
 ghost use Rattle.std.specs.Option.{option_map};
 ghost use Rattle.asn_values.specs.Profile.{InProfile};
 ghost use Rattle.asn_values.specs.Shape.{more_fields, sequence};
@@ -45,7 +47,7 @@ pub(crate) fn end_sequence<R: FeedLeaves>(
     requires over { length root.now ≤ length read.entries.items }
     requires reached { (all : List ℕ) × RootReached R.rules R.fields R.ahead R.is_between (fields_seen root.now)
         (more_fields_of ext.now) read (nodes frames.old) all (R.rules.to_units units.old) }
-    requires few { ticks.old + length (R.rules.to_units units.old) < 2 ^ 64 }
+    requires few { ticks.old.taken + length (R.rules.to_units units.old) < 2 ^ 64 }
     ensures at_unit { R.rules.at_unit units.new }
     ensures done { IfOk result (λ v. ReadsRootOn R.rules R.fields R.ahead R.is_between (fields_seen root.now)
         (more_fields_of ext.now) read (nodes frames.old) (datum_of v) units.old units.new) }
@@ -55,8 +57,12 @@ pub(crate) fn end_sequence<R: FeedLeaves>(
     ensures kept { IfErr result (λ why. KeepsRootOn R.rules R.fields R.ahead R.is_between (fields_seen root.now)
         (more_fields_of ext.now) read (nodes frames.old) (nodes frames.new) units.old why) }
     ensures after { IfErr result (λ why. StandsAfter R.rules units.new why) }
-    ensures ticked { Ticked R.rules units.old ticks.old units.new ticks.new }
-    ensures rising { ticks.old ≤ ticks.new }
+    ensures ticked { Ticked R.rules units.old ticks.old.taken units.new ticks.new.taken }
+    ensures rising { ticks.old.taken ≤ ticks.new.taken }
+    ensures inside { Costs R.rules (λ n. ⊤)
+        (λ n. result ≡ Err Short → OpenUnits R.rules R.fields R.ahead R.is_between (nodes frames.new) n)
+        (sealed_depth (sequence_seen root.now ext.now)) ticks.old.inside units.old ticks.new.inside
+        units.new }
 {
     R::keep_laws();
     R::keep_feed_laws();
@@ -121,7 +127,7 @@ pub(crate) fn feed_bitmap<R: FeedLeaves>(
     requires empty { nodes frames.old ≡ [] }
     requires reached { (all : List ℕ) × BitmapReached R.rules (fields_seen root.now) (marked_seen additions.now) part
         all (R.rules.to_units units.old) }
-    requires few { ticks.old + length (R.rules.to_units units.old) < 2 ^ 64 }
+    requires few { ticks.old.taken + length (R.rules.to_units units.old) < 2 ^ 64 }
     ensures at_unit { R.rules.at_unit units.new }
     ensures done { IfOk result (λ v. ReadsBitmapOn R.rules (fields_seen root.now) (marked_seen additions.now) part
         (datum_of v) units.old units.new) }
@@ -131,8 +137,12 @@ pub(crate) fn feed_bitmap<R: FeedLeaves>(
     ensures kept { IfErr result (λ why. KeepsBitmapOn R.rules R.fields R.ahead R.is_between (fields_seen root.now)
         (marked_seen additions.now) part (nodes frames.new) units.old why) }
     ensures after { IfErr result (λ why. StandsAfter R.rules units.new why) }
-    ensures ticked { Ticked R.rules units.old ticks.old units.new ticks.new }
-    ensures rising { ticks.old ≤ ticks.new }
+    ensures ticked { Ticked R.rules units.old ticks.old.taken units.new ticks.new.taken }
+    ensures rising { ticks.old.taken ≤ ticks.new.taken }
+    ensures inside { Costs R.rules (λ n. ⊤)
+        (λ n. result ≡ Err Short → OpenUnits R.rules R.fields R.ahead R.is_between (nodes frames.new) n)
+        (additions_sealed (fields_seen additions.now)) ticks.old.inside units.old ticks.new.inside
+        units.new }
 {
     R::keep_laws();
     R::keep_feed_laws();
@@ -181,7 +191,7 @@ pub(crate) fn feed_additions<R: FeedLeaves>(
     requires of_profile { InProfile (sequence (fields_seen root.now) (marked_seen additions.now)) }
     requires reached { (all : List ℕ) × AdditionsReached R.rules R.fields R.ahead R.is_between (fields_seen root.now)
         (marked_seen additions.now) read (nodes frames.old) all (R.rules.to_units units.old) }
-    requires few { ticks.old + length (R.rules.to_units units.old) < 2 ^ 64 }
+    requires few { ticks.old.taken + length (R.rules.to_units units.old) < 2 ^ 64 }
     ensures at_unit { R.rules.at_unit units.new }
     ensures done { IfOk result (λ v. ReadsAdditionsOn R.rules R.fields R.ahead R.is_between (fields_seen root.now)
         (marked_seen additions.now) read (nodes frames.old) (datum_of v) units.old units.new) }
@@ -191,8 +201,12 @@ pub(crate) fn feed_additions<R: FeedLeaves>(
     ensures kept { IfErr result (λ why. KeepsAdditionsOn R.rules R.fields R.ahead R.is_between (fields_seen root.now)
         (marked_seen additions.now) read (nodes frames.old) (nodes frames.new) units.old why) }
     ensures after { IfErr result (λ why. StandsAfter R.rules units.new why) }
-    ensures ticked { Ticked R.rules units.old ticks.old units.new ticks.new }
-    ensures rising { ticks.old ≤ ticks.new }
+    ensures ticked { Ticked R.rules units.old ticks.old.taken units.new ticks.new.taken }
+    ensures rising { ticks.old.taken ≤ ticks.new.taken }
+    ensures inside { Costs R.rules (λ n. FieldUnits R.rules R.fields R.ahead R.is_between (nodes frames.old) n)
+        (λ n. result ≡ Err Short → OpenUnits R.rules R.fields R.ahead R.is_between (nodes frames.new) n)
+        (additions_sealed (fields_seen additions.now)) ticks.old.inside units.old ticks.new.inside
+        units.new }
 {
     R::keep_laws();
     R::keep_feed_laws();
@@ -223,7 +237,7 @@ fn feed_open_fields<R: FeedLeaves>(
     requires of_profile { InProfile (sequence (fields_seen _root.now) (marked_seen additions.now)) }
     requires reached { (all : List ℕ) × AdditionsReached R.rules R.fields R.ahead R.is_between (fields_seen _root.now)
         (marked_seen additions.now) read.old (nodes frames.old) all (R.rules.to_units units.old) }
-    requires few { ticks.old + length (R.rules.to_units units.old) < 2 ^ 64 }
+    requires few { ticks.old.taken + length (R.rules.to_units units.old) < 2 ^ 64 }
     ensures at_unit { R.rules.at_unit units.new }
     ensures done { OnOk result (AdditionsGoOnTo R.rules R.fields R.ahead R.is_between (fields_seen _root.now)
         (marked_seen additions.now) read.old (nodes frames.old) units.old read.new (nodes frames.new) units.new) }
@@ -233,8 +247,12 @@ fn feed_open_fields<R: FeedLeaves>(
     ensures kept { result ≡ Err Short → AdditionsGoOnTo R.rules R.fields R.ahead R.is_between (fields_seen _root.now)
         (marked_seen additions.now) read.old (nodes frames.old) units.old read.new (nodes frames.new) units.new }
     ensures after { IfErr result (λ why. StandsAfter R.rules units.new why) }
-    ensures ticked { Ticked R.rules units.old ticks.old units.new ticks.new }
-    ensures rising { ticks.old ≤ ticks.new }
+    ensures ticked { Ticked R.rules units.old ticks.old.taken units.new ticks.new.taken }
+    ensures rising { ticks.old.taken ≤ ticks.new.taken }
+    ensures inside { Costs R.rules (λ n. FieldUnits R.rules R.fields R.ahead R.is_between (nodes frames.old) n)
+        (λ n. result ≡ Err Short → FieldUnits R.rules R.fields R.ahead R.is_between (nodes frames.new) n)
+        (additions_sealed (fields_seen additions.now)) ticks.old.inside units.old ticks.new.inside
+        units.new }
 {
     R::keep_laws();
     R::keep_feed_laws();
@@ -264,7 +282,7 @@ fn feed_addition<R: FeedLeaves>(
     requires of_profile { InProfile (shape_of ty.now) }
     requires reached { (us : List ℕ)
         × AdditionTook R.rules R.fields R.ahead R.is_between (nodes frames.old) present us }
-    requires few { ticks.old + length (R.rules.to_units units.old) < 2 ^ 64 }
+    requires few { ticks.old.taken + length (R.rules.to_units units.old) < 2 ^ 64 }
     ensures at_unit { R.rules.at_unit units.new }
     ensures done { IfOk result (λ e. ReadsOneAdditionOn R.rules R.fields R.ahead R.is_between (nodes frames.old)
         (shape_of ty.now) present (option_map datum_of e) units.old units.new) }
@@ -274,8 +292,12 @@ fn feed_addition<R: FeedLeaves>(
     ensures kept { IfErr result (λ why. KeepsOneAdditionOn R.rules R.fields R.ahead R.is_between (nodes frames.old)
         (nodes frames.new) present units.old why) }
     ensures after { IfErr result (λ why. StandsAfter R.rules units.new why) }
-    ensures ticked { Ticked R.rules units.old ticks.old units.new ticks.new }
-    ensures rising { ticks.old ≤ ticks.new }
+    ensures ticked { Ticked R.rules units.old ticks.old.taken units.new ticks.new.taken }
+    ensures rising { ticks.old.taken ≤ ticks.new.taken }
+    ensures inside { Costs R.rules (λ n. FieldUnits R.rules R.fields R.ahead R.is_between (nodes frames.old) n)
+        (λ n. result ≡ Err Short → FieldUnits R.rules R.fields R.ahead R.is_between (nodes frames.new) n)
+        (suc (sealed_depth (shape_of ty.now))) ticks.old.inside units.old ticks.new.inside
+        units.new }
 {
     if !present {
         return Ok(None);

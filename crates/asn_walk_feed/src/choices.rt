@@ -2,7 +2,10 @@
 //!
 //! What tells the alternative is a part of its own; what is kept after it is the index of the alternative. The value of
 //! an extension addition stands in an open type field.
-ghost use Rattle.std.specs.Prelude.{◌≡◌, ◌≤◌, ◌<◌, ◌+◌, ◌^◌, ◌++◌, ℕ, List, [], length, IfOk, IfErr, OnOk, IsNone};
+ghost use Rattle.asn_rules.specs.declared.stop.Stop.TheVariants.{Short};
+ghost use Rattle.asn_values.specs.Measures.{sealed_depth, choice_sealed};
+ghost use Rattle.asn_walk_feed.specs.Levels.{Costs, OpenUnits, FieldUnits};
+ghost use Rattle.std.specs.Prelude.{◌≡◌, ◌≤◌, ◌<◌, ◌+◌, ◌^◌, ◌++◌, ℕ, List, [], length, IfOk, IfErr, OnOk, IsNone, Err, ⊤};
 ghost use Rattle.asn_values.specs.Profile.{InProfile};
 ghost use Rattle.asn_values.specs.Shape.{MoreAlternatives, choice};
 ghost use Rattle.asn_values.specs.View.{datum_of, alternatives_seen, more_alternatives_of, choice_seen};
@@ -46,7 +49,7 @@ pub(crate) fn resume_choice<R: FeedLeaves>(
     requires reached { (us : List ℕ) × Took R.rules R.fields R.ahead R.is_between (with_node node (nodes frames.old))
         (choice_seen root.now ext.now) us }
     requires last { IsNone node → nodes frames.old ≡ [] }
-    requires few { ticks.old + length (R.rules.to_units units.old) < 2 ^ 64 }
+    requires few { ticks.old.taken + length (R.rules.to_units units.old) < 2 ^ 64 }
     ensures at_unit { R.rules.at_unit units.new }
     ensures done { IfOk result (λ v. ReadsOn R.rules R.fields R.ahead R.is_between (with_node node (nodes frames.old))
         (choice_seen root.now ext.now) (datum_of v) units.old units.new) }
@@ -56,8 +59,13 @@ pub(crate) fn resume_choice<R: FeedLeaves>(
     ensures kept { IfErr result (λ why. KeepsOn R.rules R.fields R.ahead R.is_between
         (with_node node (nodes frames.old)) (nodes frames.new) (choice_seen root.now ext.now) units.old why) }
     ensures after { IfErr result (λ why. StandsAfter R.rules units.new why) }
-    ensures ticked { Ticked R.rules units.old ticks.old units.new ticks.new }
-    ensures rising { ticks.old ≤ ticks.new }
+    ensures ticked { Ticked R.rules units.old ticks.old.taken units.new ticks.new.taken }
+    ensures rising { ticks.old.taken ≤ ticks.new.taken }
+    ensures inside { Costs R.rules
+        (λ n. OpenUnits R.rules R.fields R.ahead R.is_between (with_node node (nodes frames.old)) n)
+        (λ n. result ≡ Err Short → OpenUnits R.rules R.fields R.ahead R.is_between (nodes frames.new) n)
+        (sealed_depth (choice_seen root.now ext.now)) ticks.old.inside units.old ticks.new.inside
+        units.new }
 {
     R::keep_laws();
     R::keep_feed_laws();
@@ -97,7 +105,7 @@ fn start_choice<R: FeedLeaves>(
     requires empty { nodes frames.old ≡ [] }
     requires waits { Waits R.rules (IndexOf R.rules (length root.now)
         (added_alternatives (more_alternatives_of ext.now))) begun (R.rules.to_units begun) }
-    requires few { ticks.old + length (R.rules.to_units units.old) < 2 ^ 64 }
+    requires few { ticks.old.taken + length (R.rules.to_units units.old) < 2 ^ 64 }
     ensures at_unit { R.rules.at_unit units.new }
     ensures done { IfOk result (λ v. Spells R.rules.ruling.fielding
         (ValuesOf R.rules (choice_seen root.now ext.now)) (datum_of v)
@@ -110,8 +118,12 @@ fn start_choice<R: FeedLeaves>(
         (choice_seen root.now ext.now)
         (R.rules.to_units begun ++ R.rules.to_units units.old) why) }
     ensures after { IfErr result (λ why. StandsAfter R.rules units.new why) }
-    ensures ticked { Ticked R.rules units.old ticks.old units.new ticks.new }
-    ensures rising { ticks.old ≤ ticks.new }
+    ensures ticked { Ticked R.rules units.old ticks.old.taken units.new ticks.new.taken }
+    ensures rising { ticks.old.taken ≤ ticks.new.taken }
+    ensures inside { Costs R.rules (λ n. ⊤)
+        (λ n. result ≡ Err Short → OpenUnits R.rules R.fields R.ahead R.is_between (nodes frames.new) n)
+        (sealed_depth (choice_seen root.now ext.now)) ticks.old.inside units.old ticks.new.inside
+        units.new }
 {
     R::keep_laws();
     let mut begun = begun;
@@ -148,7 +160,7 @@ fn feed_choice<R: FeedLeaves>(
     requires reached { (more : MoreAlternatives) × InProfile (choice (alternatives_seen root.now) more) ×
         (all : List ℕ) × ChoiceReached R.rules R.fields R.ahead R.is_between (alternatives_seen root.now) more index
         (nodes frames.old) all (R.rules.to_units units.old) }
-    requires few { ticks.old + length (R.rules.to_units units.old) < 2 ^ 64 }
+    requires few { ticks.old.taken + length (R.rules.to_units units.old) < 2 ^ 64 }
     ensures at_unit { R.rules.at_unit units.new }
     ensures done { IfOk result (λ v. UnderEachChoice (alternatives_seen root.now) (λ more.
         ReadsChoiceOn R.rules R.fields R.ahead R.is_between (alternatives_seen root.now) more index (nodes frames.old)
@@ -161,8 +173,12 @@ fn feed_choice<R: FeedLeaves>(
         KeepsChoiceOn R.rules R.fields R.ahead R.is_between (alternatives_seen root.now) more index (nodes frames.old)
         (nodes frames.new) units.old why)) }
     ensures after { IfErr result (λ why. StandsAfter R.rules units.new why) }
-    ensures ticked { Ticked R.rules units.old ticks.old units.new ticks.new }
-    ensures rising { ticks.old ≤ ticks.new }
+    ensures ticked { Ticked R.rules units.old ticks.old.taken units.new ticks.new.taken }
+    ensures rising { ticks.old.taken ≤ ticks.new.taken }
+    ensures inside { Costs R.rules (λ n. OpenUnits R.rules R.fields R.ahead R.is_between (nodes frames.old) n)
+        (λ n. result ≡ Err Short → OpenUnits R.rules R.fields R.ahead R.is_between (nodes frames.new) n)
+        (choice_sealed (alternatives_seen root.now)) ticks.old.inside units.old ticks.new.inside
+        units.new }
 {
     R::keep_laws();
     let alternative = &root[index];
@@ -198,7 +214,7 @@ fn feed_added<R: FeedLeaves>(
     requires reached { (all : List ℕ) × AdditionReached R.rules R.fields R.ahead R.is_between
         (alternatives_seen root.now) (more_alternatives_of ext.now) index (nodes frames.old) all
         (R.rules.to_units units.old) }
-    requires few { ticks.old + length (R.rules.to_units units.old) < 2 ^ 64 }
+    requires few { ticks.old.taken + length (R.rules.to_units units.old) < 2 ^ 64 }
     ensures at_unit { R.rules.at_unit units.new }
     ensures done { IfOk result (λ v. ReadsAdditionOn R.rules R.fields R.ahead R.is_between
         (alternatives_seen root.now) (more_alternatives_of ext.now) index (nodes frames.old) (datum_of v)
@@ -210,8 +226,12 @@ fn feed_added<R: FeedLeaves>(
         (alternatives_seen root.now) (more_alternatives_of ext.now) index (nodes frames.old) (nodes frames.new)
         units.old why) }
     ensures after { IfErr result (λ why. StandsAfter R.rules units.new why) }
-    ensures ticked { Ticked R.rules units.old ticks.old units.new ticks.new }
-    ensures rising { ticks.old ≤ ticks.new }
+    ensures ticked { Ticked R.rules units.old ticks.old.taken units.new ticks.new.taken }
+    ensures rising { ticks.old.taken ≤ ticks.new.taken }
+    ensures inside { Costs R.rules (λ n. FieldUnits R.rules R.fields R.ahead R.is_between (nodes frames.old) n)
+        (λ n. result ≡ Err Short → OpenUnits R.rules R.fields R.ahead R.is_between (nodes frames.new) n)
+        (sealed_depth (choice_seen root.now ext.now)) ticks.old.inside units.old ticks.new.inside
+        units.new }
 {
     R::keep_laws();
     let Some(additions) = ext else { unreachable!() };

@@ -1,5 +1,8 @@
 //! The reader of complete encodings that goes on where it stopped.
-ghost use Rattle.std.specs.Prelude.{◌≡◌, ◌≤◌, ◌<◌, ◌+◌, ◌%◌, ◌^◌, ℕ, List, [], length, IfOk, IfErr, OnOk};
+ghost use Rattle.asn_rules.specs.declared.stop.Stop.TheVariants.{Short};
+ghost use Rattle.asn_values.specs.Measures.{sealed_depth};
+ghost use Rattle.asn_walk_feed.specs.Levels.{Costs, OpenUnits};
+ghost use Rattle.std.specs.Prelude.{◌≡◌, ◌≤◌, ◌<◌, ◌+◌, ◌%◌, ◌^◌, ℕ, List, [], length, IfOk, IfErr, OnOk, Err};
 ghost use Rattle.asn_values.specs.Profile.{InProfile};
 ghost use Rattle.asn_values.specs.View.{shape_of, datum_of};
 ghost use Rattle.asn_walk_feed.specs.Complete.{ReadsCompleteOn, StopsCompleteOn, KeepsCompleteOn};
@@ -38,7 +41,7 @@ pub fn feed_complete<R: FeedLeaves>(
     requires reached { (us : List ℕ)
         × Took R.rules R.fields R.ahead R.is_between (nodes frames.old) (shape_of ty.now) us × (length us ≡ taken) }
     requires octets { (taken + length (R.rules.to_units units.old)) % R.rules.octet_units ≡ 0 }
-    requires few { ticks.old + length (R.rules.to_units units.old) < 2 ^ 64 }
+    requires few { ticks.old.taken + length (R.rules.to_units units.old) < 2 ^ 64 }
     ensures at_unit { R.rules.at_unit units.new }
     ensures done { IfOk result (λ v. ReadsCompleteOn R.rules R.fields R.ahead R.is_between (nodes frames.old)
         (shape_of ty.now) taken (datum_of v) units.old units.new) }
@@ -48,8 +51,12 @@ pub fn feed_complete<R: FeedLeaves>(
     ensures kept { IfErr result (λ why. KeepsCompleteOn R.rules R.fields R.ahead R.is_between (nodes frames.old)
         (nodes frames.new) (shape_of ty.now) taken units.old why) }
     ensures after { IfErr result (λ why. StandsAfter R.rules units.new why) }
-    ensures ticked { Ticked R.rules units.old ticks.old units.new ticks.new }
-    ensures rising { ticks.old ≤ ticks.new }
+    ensures ticked { Ticked R.rules units.old ticks.old.taken units.new ticks.new.taken }
+    ensures rising { ticks.old.taken ≤ ticks.new.taken }
+    ensures inside { Costs R.rules (λ n. OpenUnits R.rules R.fields R.ahead R.is_between (nodes frames.old) n)
+        (λ n. result ≡ Err Short → OpenUnits R.rules R.fields R.ahead R.is_between (nodes frames.new) n)
+        (sealed_depth (shape_of ty.now)) ticks.old.inside units.old ticks.new.inside
+        units.new }
 {
     R::keep_laws();
     R::keep_feed_laws();

@@ -170,7 +170,7 @@ pub fn feed_leaf<R: FeedLeaves, L: Leaf<R>>(
     requires begun { R.rules.at_unit begun.old }
     requires at_unit { R.rules.at_unit units.old }
     requires begins { HasBegun R.rules (L.language leaf.now) begun.old }
-    requires few { ticks.old + length (R.rules.to_units units.old) < 2 ^ 64 }
+    requires few { ticks.old.taken + length (R.rules.to_units units.old) < 2 ^ 64 }
     ensures begun { R.rules.at_unit begun.new }
     ensures at_unit { R.rules.at_unit units.new }
     ensures done { IfOk result (λ v. Spells R.rules.ruling.fielding (L.language leaf.now) (L.seen v)
@@ -180,8 +180,9 @@ pub fn feed_leaf<R: FeedLeaves, L: Leaf<R>>(
         (R.rules.to_units begun.old ++ R.rules.to_units units.old) why) }
     ensures after { IfErr result (λ why. StandsAfter R.rules units.new why) }
     ensures kept { IfErr result (λ why. KeepsUnits R.rules begun.old units.old begun.new why) }
-    ensures ticked { Ticked R.rules units.old ticks.old units.new ticks.new }
-    ensures rising { ticks.old ≤ ticks.new }
+    ensures ticked { Ticked R.rules units.old ticks.old.taken units.new ticks.new.taken }
+    ensures rising { ticks.old.taken ≤ ticks.new.taken }
+    ensures inside { ticks.new.inside ≡ ticks.old.inside }
 {
     R::keep_laws();
     leaf.be_brief();
@@ -225,17 +226,18 @@ fn read_at_once<R: FeedLeaves, L: Leaf<R>>(
     requires good { L.good leaf.now }
     requires at_unit { R.rules.at_unit units.old }
     requires begins { HasBegun R.rules (L.language leaf.now) begun.now }
-    requires few { ticks.old + length (R.rules.to_units units.old) < 2 ^ 64 }
+    requires few { ticks.old.taken + length (R.rules.to_units units.old) < 2 ^ 64 }
     ensures at_unit { R.rules.at_unit units.new }
     ensures done { IfOk result (λ o. IfSome o (λ v. Spells R.rules.ruling.fielding (L.language leaf.now) (L.seen v)
         (R.rules.to_units begun.now ++ R.rules.to_units units.old) (R.rules.to_units units.new))) }
     ensures sound { IfOk result (λ o. IfSome o (λ v. L.sound v)) }
-    ensures still { IfOk result (λ o. IsNone o → (units.new ≡ units.old) × (ticks.new ≡ ticks.old)) }
+    ensures still { IfOk result (λ o. IsNone o → (units.new ≡ units.old) × (ticks.new.taken ≡ ticks.old.taken)) }
     ensures short { IfOk result (λ o. IsNone o →
         Short R.rules.ruling.fielding (L.language leaf.now) (R.rules.to_units begun.now)) }
     ensures memory { IfErr result (λ why. why ≡ Memory) }
-    ensures ticked { Ticked R.rules units.old ticks.old units.new ticks.new }
-    ensures rising { ticks.old ≤ ticks.new }
+    ensures ticked { Ticked R.rules units.old ticks.old.taken units.new ticks.new.taken }
+    ensures rising { ticks.old.taken ≤ ticks.new.taken }
+    ensures inside { ticks.new.inside ≡ ticks.old.inside }
 {
     R::keep_feed_laws();
     if !begun.is_none() {
@@ -262,10 +264,11 @@ pub(crate) fn take_to<'a, R: ReadLeaves>(
     requires at_unit { R.rules.at_unit units.old }
     requires ahead { R.rules.at_unit ahead }
     requires after { length (R.rules.to_units ahead) ≤ length (R.rules.to_units units.old) }
-    requires few { ticks.old + length (R.rules.to_units units.old) < 2 ^ 64 }
+    requires few { ticks.old.taken + length (R.rules.to_units units.old) < 2 ^ 64 }
     ensures left { units.new ≡ ahead.entry }
-    ensures ticked { Ticked R.rules units.old ticks.old ahead.entry ticks.new }
-    ensures rising { ticks.old ≤ ticks.new }
+    ensures ticked { Ticked R.rules units.old ticks.old.taken ahead.entry ticks.new.taken }
+    ensures rising { ticks.old.taken ≤ ticks.new.taken }
+    ensures inside { ticks.new.inside ≡ ticks.old.inside }
 {
     let count = R::units_left(&units.ahead()) - R::units_left(&ahead);
     units.take_to(ahead, count as u64, ticks);
@@ -276,10 +279,11 @@ fn take_units<R: FeedLeaves>(units: &mut Units<'_>, count: u32, ticks: &mut Tick
     requires at_unit { R.rules.at_unit units.old }
     requires few { count ≤ 128 }
     requires there { count ≤ length (R.rules.to_units units.old) }
-    requires room { ticks.old + length (R.rules.to_units units.old) < 2 ^ 64 }
+    requires room { ticks.old.taken + length (R.rules.to_units units.old) < 2 ^ 64 }
     ensures at_unit { R.rules.at_unit units.new }
     ensures passed { Passes R.rules units.old units.new count }
-    ensures ticked { ticks.new ≡ ticks.old + count }
+    ensures ticked { ticks.new.taken ≡ ticks.old.taken + count }
+    ensures inside { ticks.new.inside ≡ ticks.old.inside }
 {
     let mut ahead = units.ahead();
     R::pass_units(&mut ahead, count);

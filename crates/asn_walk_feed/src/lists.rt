@@ -2,7 +2,9 @@
 //!
 //! What stands before the elements is a part of its own, and so is each length between fragments; `Elements` says where
 //! a list stands between two of these parts.
-ghost use Rattle.std.specs.Prelude.{◌≡◌, ◌≤◌, ◌<◌, ◌+◌, ◌^◌, ◌++◌, ℕ, List, [], length, zero, IfOk, IfErr, OnOk, OnErr, IsNone, Ok, Err, Some, None, true, false};
+ghost use Rattle.asn_values.specs.Measures.{sealed_depth};
+ghost use Rattle.asn_walk_feed.specs.Levels.{Costs, OpenUnits};
+ghost use Rattle.std.specs.Prelude.{◌≡◌, ◌≤◌, ◌<◌, ◌+◌, ◌^◌, ◌++◌, ℕ, List, [], length, zero, IfOk, IfErr, OnOk, OnErr, IsNone, Ok, Err, Some, None, true, false, ⊤};
 ghost use Rattle.asn_values.specs.Profile.{InProfile};
 ghost use Rattle.asn_values.specs.Shape.{SizeRange, sequence_of};
 ghost use Rattle.asn_values.specs.View.{shape_of, datum_of, size_range_of};
@@ -40,7 +42,7 @@ pub(crate) fn resume_list<R: FeedLeaves>(
     requires reached { (us : List ℕ) × Took R.rules R.fields R.ahead R.is_between (with_node node (nodes frames.old))
         (sequence_of (shape_of element.now) (size_range_of size.now)) us }
     requires last { IsNone node → nodes frames.old ≡ [] }
-    requires few { ticks.old + length (R.rules.to_units units.old) < 2 ^ 64 }
+    requires few { ticks.old.taken + length (R.rules.to_units units.old) < 2 ^ 64 }
     ensures at_unit { R.rules.at_unit units.new }
     ensures done { IfOk result (λ v. ReadsOn R.rules R.fields R.ahead R.is_between (with_node node (nodes frames.old))
         (sequence_of (shape_of element.now) (size_range_of size.now)) (datum_of v) units.old units.new) }
@@ -52,8 +54,13 @@ pub(crate) fn resume_list<R: FeedLeaves>(
         (with_node node (nodes frames.old)) (nodes frames.new) (sequence_of (shape_of element.now)
         (size_range_of size.now)) units.old why) }
     ensures after { IfErr result (λ why. StandsAfter R.rules units.new why) }
-    ensures ticked { Ticked R.rules units.old ticks.old units.new ticks.new }
-    ensures rising { ticks.old ≤ ticks.new }
+    ensures ticked { Ticked R.rules units.old ticks.old.taken units.new ticks.new.taken }
+    ensures rising { ticks.old.taken ≤ ticks.new.taken }
+    ensures inside { Costs R.rules
+        (λ n. OpenUnits R.rules R.fields R.ahead R.is_between (with_node node (nodes frames.old)) n)
+        (λ n. result ≡ Err Short → OpenUnits R.rules R.fields R.ahead R.is_between (nodes frames.new) n)
+        (sealed_depth (shape_of element.now)) ticks.old.inside units.old ticks.new.inside
+        units.new }
 {
     R::keep_laws();
     R::keep_feed_laws();
@@ -89,7 +96,7 @@ fn start_list<R: FeedLeaves>(
     requires of_profile { InProfile (sequence_of (shape_of element.now) (size_range_of size.now)) }
     requires empty { nodes frames.old ≡ [] }
     requires waits { Waits R.rules (R.rules.list_start (size_range_of size.now)) begun (R.rules.to_units begun) }
-    requires few { ticks.old + length (R.rules.to_units units.old) < 2 ^ 64 }
+    requires few { ticks.old.taken + length (R.rules.to_units units.old) < 2 ^ 64 }
     ensures at_unit { R.rules.at_unit units.new }
     ensures done { IfOk result (λ v. Spells R.rules.ruling.fielding
         (ValuesOf R.rules (sequence_of (shape_of element.now) (size_range_of size.now))) (datum_of v)
@@ -102,8 +109,12 @@ fn start_list<R: FeedLeaves>(
         (sequence_of (shape_of element.now) (size_range_of size.now))
         (R.rules.to_units begun ++ R.rules.to_units units.old) why) }
     ensures after { IfErr result (λ why. StandsAfter R.rules units.new why) }
-    ensures ticked { Ticked R.rules units.old ticks.old units.new ticks.new }
-    ensures rising { ticks.old ≤ ticks.new }
+    ensures ticked { Ticked R.rules units.old ticks.old.taken units.new ticks.new.taken }
+    ensures rising { ticks.old.taken ≤ ticks.new.taken }
+    ensures inside { Costs R.rules (λ n. ⊤)
+        (λ n. result ≡ Err Short → OpenUnits R.rules R.fields R.ahead R.is_between (nodes frames.new) n)
+        (sealed_depth (shape_of element.now)) ticks.old.inside units.old ticks.new.inside
+        units.new }
 {
     R::keep_laws();
     R::keep_feed_laws();
@@ -142,7 +153,7 @@ fn feed_list<R: FeedLeaves>(
     requires of_profile { InProfile (sequence_of (shape_of element.now) (size_range_of size.now)) }
     requires reached { (all : List ℕ) × ListGoesOn R.rules R.fields R.ahead R.is_between (shape_of element.now)
         (size_range_of size.now) list (nodes frames.old) all (R.rules.to_units units.old) }
-    requires few { ticks.old + length (R.rules.to_units units.old) < 2 ^ 64 }
+    requires few { ticks.old.taken + length (R.rules.to_units units.old) < 2 ^ 64 }
     ensures at_unit { R.rules.at_unit units.new }
     ensures done { IfOk result (λ v. ReadsListOn R.rules R.fields R.ahead R.is_between (shape_of element.now)
         (size_range_of size.now) list (nodes frames.old) (datum_of v) units.old units.new) }
@@ -152,8 +163,12 @@ fn feed_list<R: FeedLeaves>(
     ensures kept { IfErr result (λ why. KeepsListOn R.rules R.fields R.ahead R.is_between (shape_of element.now)
         (size_range_of size.now) list (nodes frames.old) (nodes frames.new) units.old why) }
     ensures after { IfErr result (λ why. StandsAfter R.rules units.new why) }
-    ensures ticked { Ticked R.rules units.old ticks.old units.new ticks.new }
-    ensures rising { ticks.old ≤ ticks.new }
+    ensures ticked { Ticked R.rules units.old ticks.old.taken units.new ticks.new.taken }
+    ensures rising { ticks.old.taken ≤ ticks.new.taken }
+    ensures inside { Costs R.rules (λ n. OpenUnits R.rules R.fields R.ahead R.is_between (nodes frames.old) n)
+        (λ n. result ≡ Err Short → OpenUnits R.rules R.fields R.ahead R.is_between (nodes frames.new) n)
+        (sealed_depth (shape_of element.now)) ticks.old.inside units.old ticks.new.inside
+        units.new }
 {
     R::keep_laws();
     R::keep_feed_laws();
@@ -184,7 +199,7 @@ fn feed_elements<R: FeedLeaves>(
     requires of_profile { InProfile (sequence_of (shape_of element.now) (size_range_of size.now)) }
     requires reached { (all : List ℕ) × ListGoesOn R.rules R.fields R.ahead R.is_between (shape_of element.now)
         (size_range_of size.now) list.old (nodes frames.old) all (R.rules.to_units units.old) }
-    requires few { ticks.old + length (R.rules.to_units units.old) < 2 ^ 64 }
+    requires few { ticks.old.taken + length (R.rules.to_units units.old) < 2 ^ 64 }
     ensures at_unit { R.rules.at_unit units.new }
     ensures done { OnOk result (ReadsElementsOn R.rules R.fields R.ahead R.is_between (shape_of element.now)
         (size_range_of size.now) list.old (nodes frames.old) list.new units.old units.new) }
@@ -194,8 +209,12 @@ fn feed_elements<R: FeedLeaves>(
     ensures kept { result ≡ Err Short → GoesOnTo R.rules R.fields R.ahead R.is_between (shape_of element.now)
         (size_range_of size.now) list.old (nodes frames.old) units.old list.new (nodes frames.new) units.new }
     ensures after { IfErr result (λ why. StandsAfter R.rules units.new why) }
-    ensures ticked { Ticked R.rules units.old ticks.old units.new ticks.new }
-    ensures rising { ticks.old ≤ ticks.new }
+    ensures ticked { Ticked R.rules units.old ticks.old.taken units.new ticks.new.taken }
+    ensures rising { ticks.old.taken ≤ ticks.new.taken }
+    ensures inside { Costs R.rules (λ n. OpenUnits R.rules R.fields R.ahead R.is_between (nodes frames.old) n)
+        (λ n. result ≡ Err Short → OpenUnits R.rules R.fields R.ahead R.is_between (nodes frames.new) n)
+        (sealed_depth (shape_of element.now)) ticks.old.inside units.old ticks.new.inside
+        units.new }
 {
     R::keep_laws();
     R::keep_feed_laws();
@@ -222,7 +241,7 @@ fn feed_fragment<R: FeedLeaves>(
     requires reached { (s : SizeRange) × InProfile (sequence_of (shape_of element.now) s) × (all : List ℕ) ×
         ListGoesOn R.rules R.fields R.ahead R.is_between (shape_of element.now) s list.old (nodes frames.old) all
         (R.rules.to_units units.old) }
-    requires few { ticks.old + length (R.rules.to_units units.old) < 2 ^ 64 }
+    requires few { ticks.old.taken + length (R.rules.to_units units.old) < 2 ^ 64 }
     ensures at_unit { R.rules.at_unit units.new }
     ensures done { OnOk result (UnderEachSize (shape_of element.now) (λ s.
         GoesOnTo R.rules R.fields R.ahead R.is_between (shape_of element.now) s
@@ -238,8 +257,12 @@ fn feed_fragment<R: FeedLeaves>(
         GoesOnTo R.rules R.fields R.ahead R.is_between (shape_of element.now) s
         list.old (nodes frames.old) units.old list.new (nodes frames.new) units.new) }
     ensures after { IfErr result (λ why. StandsAfter R.rules units.new why) }
-    ensures ticked { Ticked R.rules units.old ticks.old units.new ticks.new }
-    ensures rising { ticks.old ≤ ticks.new }
+    ensures ticked { Ticked R.rules units.old ticks.old.taken units.new ticks.new.taken }
+    ensures rising { ticks.old.taken ≤ ticks.new.taken }
+    ensures inside { Costs R.rules (λ n. OpenUnits R.rules R.fields R.ahead R.is_between (nodes frames.old) n)
+        (λ n. result ≡ Err Short → OpenUnits R.rules R.fields R.ahead R.is_between (nodes frames.new) n)
+        (sealed_depth (shape_of element.now)) ticks.old.inside units.old ticks.new.inside
+        units.new }
 {
     R::keep_laws();
     R::keep_feed_laws();
@@ -262,7 +285,7 @@ pub(crate) fn next_fragment<R: FeedLeaves, T: Drop>(
     requires between { R.is_between list.old.fragments }
     requires begun { R.rules.at_unit list.old.next_part }
     requires begins { HasBegun R.rules (NextOf (R.ahead list.old.fragments)) list.old.next_part }
-    requires few { ticks.old + length (R.rules.to_units units.old) < 2 ^ 64 }
+    requires few { ticks.old.taken + length (R.rules.to_units units.old) < 2 ^ 64 }
     ensures at_unit { R.rules.at_unit units.new }
     ensures begun { OnErr result (R.rules.at_unit list.new.next_part) }
     ensures between { R.is_between list.new.fragments }
@@ -281,8 +304,9 @@ pub(crate) fn next_fragment<R: FeedLeaves, T: Drop>(
     ensures kept { IfErr result (λ why.
         KeepsUnits R.rules list.old.next_part units.old list.new.next_part why) }
     ensures after { IfErr result (λ why. StandsAfter R.rules units.new why) }
-    ensures ticked { Ticked R.rules units.old ticks.old units.new ticks.new }
-    ensures rising { ticks.old ≤ ticks.new }
+    ensures ticked { Ticked R.rules units.old ticks.old.taken units.new ticks.new.taken }
+    ensures rising { ticks.old.taken ≤ ticks.new.taken }
+    ensures inside { ticks.new.inside ≡ ticks.old.inside }
 {
     let (count, fragments) = feed_leaf::<R, NextLength<'_, R::Fragments>>(
         alloc,

@@ -112,7 +112,7 @@ pub(crate) fn feed_octets<R: FeedLeaves, K: InFragments<R>>(
     requires at_unit { R.rules.at_unit units.old }
     requires reached { (us : List ℕ) × OctetsTook R.rules (K.coding kind.now) R.ahead R.is_between
         (nodes frames.old) us }
-    requires few { ticks.old + length (R.rules.to_units units.old) < 2 ^ 64 }
+    requires few { ticks.old.taken + length (R.rules.to_units units.old) < 2 ^ 64 }
     ensures at_unit { R.rules.at_unit units.new }
     ensures done { IfOk result (λ os. ReadsOctetsFrom R.rules (K.coding kind.now) R.ahead R.is_between
         (nodes frames.old) os.items units.old units.new) }
@@ -122,8 +122,9 @@ pub(crate) fn feed_octets<R: FeedLeaves, K: InFragments<R>>(
     ensures kept { IfErr result (λ why. KeepsOctetsFrom R.rules (K.coding kind.now) R.ahead R.is_between
         (nodes frames.old) (nodes frames.new) units.old why) }
     ensures after { IfErr result (λ why. StandsAfter R.rules units.new why) }
-    ensures ticked { Ticked R.rules units.old ticks.old units.new ticks.new }
-    ensures rising { ticks.old ≤ ticks.new }
+    ensures ticked { Ticked R.rules units.old ticks.old.taken units.new ticks.new.taken }
+    ensures rising { ticks.old.taken ≤ ticks.new.taken }
+    ensures inside { ticks.new.inside ≡ ticks.old.inside }
 {
     let node = frames.take();
     resume_octets::<R, K>(alloc, kind, node, frames, units, ticks)
@@ -143,7 +144,7 @@ fn resume_octets<R: FeedLeaves, K: InFragments<R>>(
     requires reached { (us : List ℕ) × OctetsTook R.rules (K.coding kind.now) R.ahead R.is_between
         (with_node node (nodes frames.old)) us }
     requires last { IsNone node → nodes frames.old ≡ [] }
-    requires few { ticks.old + length (R.rules.to_units units.old) < 2 ^ 64 }
+    requires few { ticks.old.taken + length (R.rules.to_units units.old) < 2 ^ 64 }
     ensures at_unit { R.rules.at_unit units.new }
     ensures done { IfOk result (λ os. ReadsOctetsFrom R.rules (K.coding kind.now) R.ahead R.is_between
         (with_node node (nodes frames.old)) os.items units.old units.new) }
@@ -153,8 +154,9 @@ fn resume_octets<R: FeedLeaves, K: InFragments<R>>(
     ensures kept { IfErr result (λ why. KeepsOctetsFrom R.rules (K.coding kind.now) R.ahead R.is_between
         (with_node node (nodes frames.old)) (nodes frames.new) units.old why) }
     ensures after { IfErr result (λ why. StandsAfter R.rules units.new why) }
-    ensures ticked { Ticked R.rules units.old ticks.old units.new ticks.new }
-    ensures rising { ticks.old ≤ ticks.new }
+    ensures ticked { Ticked R.rules units.old ticks.old.taken units.new ticks.new.taken }
+    ensures rising { ticks.old.taken ≤ ticks.new.taken }
+    ensures inside { ticks.new.inside ≡ ticks.old.inside }
 {
     R::keep_laws();
     R::keep_feed_laws();
@@ -187,7 +189,7 @@ fn start_octets<R: FeedLeaves, K: InFragments<R>>(
     requires at_unit { R.rules.at_unit units.old }
     requires empty { nodes frames.old ≡ [] }
     requires waits { Waits R.rules (K.coding kind.now).start begun (R.rules.to_units begun) }
-    requires few { ticks.old + length (R.rules.to_units units.old) < 2 ^ 64 }
+    requires few { ticks.old.taken + length (R.rules.to_units units.old) < 2 ^ 64 }
     ensures at_unit { R.rules.at_unit units.new }
     ensures done { IfOk result (λ os. Spells R.rules.ruling.fielding (OctetsOf (K.coding kind.now))
         os.items (R.rules.to_units begun ++ R.rules.to_units units.old) (R.rules.to_units units.new)) }
@@ -197,8 +199,9 @@ fn start_octets<R: FeedLeaves, K: InFragments<R>>(
     ensures kept { IfErr result (λ why. KeepsOctets R.rules (K.coding kind.now) R.ahead R.is_between (nodes frames.new)
         (R.rules.to_units begun ++ R.rules.to_units units.old) why) }
     ensures after { IfErr result (λ why. StandsAfter R.rules units.new why) }
-    ensures ticked { Ticked R.rules units.old ticks.old units.new ticks.new }
-    ensures rising { ticks.old ≤ ticks.new }
+    ensures ticked { Ticked R.rules units.old ticks.old.taken units.new ticks.new.taken }
+    ensures rising { ticks.old.taken ≤ ticks.new.taken }
+    ensures inside { ticks.new.inside ≡ ticks.old.inside }
 {
     R::keep_laws();
     R::keep_feed_laws();
@@ -256,7 +259,7 @@ fn end_octets<R: FeedLeaves, K: InFragments<R>>(
     requires empty { nodes frames.old ≡ [] }
     requires reached { (all : List ℕ) × OctetsGoOn R.rules (K.coding kind.now) R.ahead R.is_between octets all
         (R.rules.to_units units.old) }
-    requires few { ticks.old + length (R.rules.to_units units.old) < 2 ^ 64 }
+    requires few { ticks.old.taken + length (R.rules.to_units units.old) < 2 ^ 64 }
     ensures at_unit { R.rules.at_unit units.new }
     ensures done { IfOk result (λ os. ReadsOctetsOn R.rules (K.coding kind.now) R.ahead R.is_between octets os.items
         units.old units.new) }
@@ -267,8 +270,9 @@ fn end_octets<R: FeedLeaves, K: InFragments<R>>(
         octets all (R.rules.to_units units.old) → KeepsOctets R.rules (K.coding kind.now) R.ahead R.is_between
         (nodes frames.new) all why) }
     ensures after { IfErr result (λ why. StandsAfter R.rules units.new why) }
-    ensures ticked { Ticked R.rules units.old ticks.old units.new ticks.new }
-    ensures rising { ticks.old ≤ ticks.new }
+    ensures ticked { Ticked R.rules units.old ticks.old.taken units.new ticks.new.taken }
+    ensures rising { ticks.old.taken ≤ ticks.new.taken }
+    ensures inside { ticks.new.inside ≡ ticks.old.inside }
 {
     R::keep_laws();
     R::keep_feed_laws();
@@ -297,7 +301,7 @@ fn feed_fragments<R: FeedLeaves, K: InFragments<R>>(
     requires at_unit { R.rules.at_unit units.old }
     requires reached { (all : List ℕ) × OctetsGoOn R.rules (K.coding kind.now) R.ahead R.is_between octets.old all
         (R.rules.to_units units.old) }
-    requires few { ticks.old + length (R.rules.to_units units.old) < 2 ^ 64 }
+    requires few { ticks.old.taken + length (R.rules.to_units units.old) < 2 ^ 64 }
     ensures at_unit { R.rules.at_unit units.new }
     ensures done { OnOk result (ReadsOctetsOn R.rules (K.coding kind.now) R.ahead R.is_between octets.old
         octets.new.elements.items units.old units.new) }
@@ -306,8 +310,9 @@ fn feed_fragments<R: FeedLeaves, K: InFragments<R>>(
     ensures kept { result ≡ Err Short → OctetsGoOnTo R.rules (K.coding kind.now) R.ahead R.is_between octets.old
         units.old octets.new units.new }
     ensures after { IfErr result (λ why. StandsAfter R.rules units.new why) }
-    ensures ticked { Ticked R.rules units.old ticks.old units.new ticks.new }
-    ensures rising { ticks.old ≤ ticks.new }
+    ensures ticked { Ticked R.rules units.old ticks.old.taken units.new ticks.new.taken }
+    ensures rising { ticks.old.taken ≤ ticks.new.taken }
+    ensures inside { ticks.new.inside ≡ ticks.old.inside }
 {
     R::keep_laws();
     R::keep_feed_laws();
@@ -332,7 +337,7 @@ fn feed_fragment<R: FeedLeaves, K: InFragments<R>>(
     requires at_unit { R.rules.at_unit units.old }
     requires reached { (all : List ℕ) × OctetsGoOn R.rules (K.coding kind.now) R.ahead R.is_between octets.old all
         (R.rules.to_units units.old) }
-    requires few { ticks.old + length (R.rules.to_units units.old) < 2 ^ 64 }
+    requires few { ticks.old.taken + length (R.rules.to_units units.old) < 2 ^ 64 }
     ensures at_unit { R.rules.at_unit units.new }
     ensures done { OnOk result (OctetsGoOnTo R.rules (K.coding kind.now) R.ahead R.is_between octets.old units.old
         octets.new units.new) }
@@ -345,8 +350,9 @@ fn feed_fragment<R: FeedLeaves, K: InFragments<R>>(
     ensures kept { result ≡ Err Short → OctetsGoOnTo R.rules (K.coding kind.now) R.ahead R.is_between octets.old
         units.old octets.new units.new }
     ensures after { IfErr result (λ why. StandsAfter R.rules units.new why) }
-    ensures ticked { Ticked R.rules units.old ticks.old units.new ticks.new }
-    ensures rising { ticks.old ≤ ticks.new }
+    ensures ticked { Ticked R.rules units.old ticks.old.taken units.new ticks.new.taken }
+    ensures rising { ticks.old.taken ≤ ticks.new.taken }
+    ensures inside { ticks.new.inside ≡ ticks.old.inside }
 {
     R::keep_laws();
     R::keep_feed_laws();

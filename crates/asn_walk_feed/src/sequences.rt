@@ -2,7 +2,9 @@
 //!
 //! The preamble is a part of its own; `Components` says where a SEQUENCE stands before a component of its root, or in
 //! it.
-ghost use Rattle.std.specs.Prelude.{◌≡◌, vec_len, ◌≤◌, ◌<◌, ◌+◌, ◌^◌, ◌++◌, ℕ, List, [], length, true, IfOk, IfErr, OnOk, IsNone, Ok, Err, Some, None};
+ghost use Rattle.asn_values.specs.Measures.{sealed_depth, fields_sealed};
+ghost use Rattle.asn_walk_feed.specs.Levels.{Costs, OpenUnits};
+ghost use Rattle.std.specs.Prelude.{◌≡◌, vec_len, ◌≤◌, ◌<◌, ◌+◌, ◌^◌, ◌++◌, ℕ, List, [], length, true, IfOk, IfErr, OnOk, IsNone, Ok, Err, Some, None, ⊤};
 ghost use Rattle.std.specs.Option.{option_map};
 ghost use Rattle.asn_values.specs.Parts.{IsGoodDemand};
 ghost use Rattle.asn_values.specs.Profile.{InProfile, good_default};
@@ -52,7 +54,7 @@ pub(crate) fn resume_sequence<R: FeedLeaves>(
     requires reached { (us : List ℕ) × Took R.rules R.fields R.ahead R.is_between (with_node node (nodes frames.old))
         (sequence_seen root.now ext.now) us }
     requires last { IsNone node → nodes frames.old ≡ [] }
-    requires few { ticks.old + length (R.rules.to_units units.old) < 2 ^ 64 }
+    requires few { ticks.old.taken + length (R.rules.to_units units.old) < 2 ^ 64 }
     ensures at_unit { R.rules.at_unit units.new }
     ensures done { IfOk result (λ v. ReadsOn R.rules R.fields R.ahead R.is_between (with_node node (nodes frames.old))
         (sequence_seen root.now ext.now) (datum_of v) units.old units.new) }
@@ -62,8 +64,13 @@ pub(crate) fn resume_sequence<R: FeedLeaves>(
     ensures kept { IfErr result (λ why. KeepsOn R.rules R.fields R.ahead R.is_between
         (with_node node (nodes frames.old)) (nodes frames.new) (sequence_seen root.now ext.now) units.old why) }
     ensures after { IfErr result (λ why. StandsAfter R.rules units.new why) }
-    ensures ticked { Ticked R.rules units.old ticks.old units.new ticks.new }
-    ensures rising { ticks.old ≤ ticks.new }
+    ensures ticked { Ticked R.rules units.old ticks.old.taken units.new ticks.new.taken }
+    ensures rising { ticks.old.taken ≤ ticks.new.taken }
+    ensures inside { Costs R.rules
+        (λ n. OpenUnits R.rules R.fields R.ahead R.is_between (with_node node (nodes frames.old)) n)
+        (λ n. result ≡ Err Short → OpenUnits R.rules R.fields R.ahead R.is_between (nodes frames.new) n)
+        (sealed_depth (sequence_seen root.now ext.now)) ticks.old.inside units.old ticks.new.inside
+        units.new }
 {
     R::keep_laws();
     R::keep_feed_laws();
@@ -125,7 +132,7 @@ fn start_sequence<R: FeedLeaves>(
     requires empty { nodes frames.old ≡ [] }
     requires waits { Waits R.rules (PreambleOf R.rules (bitmap_length (fields_seen root.now))
         (added (more_fields_of ext.now))) begun (R.rules.to_units begun) }
-    requires few { ticks.old + length (R.rules.to_units units.old) < 2 ^ 64 }
+    requires few { ticks.old.taken + length (R.rules.to_units units.old) < 2 ^ 64 }
     ensures at_unit { R.rules.at_unit units.new }
     ensures done { IfOk result (λ v. Spells R.rules.ruling.fielding
         (ValuesOf R.rules (sequence_seen root.now ext.now)) (datum_of v)
@@ -137,8 +144,12 @@ fn start_sequence<R: FeedLeaves>(
     ensures kept { IfErr result (λ why. KeepsFrames R.rules R.fields R.ahead R.is_between (nodes frames.new)
         (sequence_seen root.now ext.now) (R.rules.to_units begun ++ R.rules.to_units units.old) why) }
     ensures after { IfErr result (λ why. StandsAfter R.rules units.new why) }
-    ensures ticked { Ticked R.rules units.old ticks.old units.new ticks.new }
-    ensures rising { ticks.old ≤ ticks.new }
+    ensures ticked { Ticked R.rules units.old ticks.old.taken units.new ticks.new.taken }
+    ensures rising { ticks.old.taken ≤ ticks.new.taken }
+    ensures inside { Costs R.rules (λ n. ⊤)
+        (λ n. result ≡ Err Short → OpenUnits R.rules R.fields R.ahead R.is_between (nodes frames.new) n)
+        (sealed_depth (sequence_seen root.now ext.now)) ticks.old.inside units.old ticks.new.inside
+        units.new }
 {
     R::keep_laws();
     R::keep_feed_laws();
@@ -186,7 +197,7 @@ fn feed_sequence<R: FeedLeaves>(
     requires parts { IsSequenceOf _ty.now root.now ext.now }
     requires reached { (all : List ℕ) × RootReached R.rules R.fields R.ahead R.is_between (fields_seen root.now)
         (more_fields_of ext.now) read (nodes frames.old) all (R.rules.to_units units.old) }
-    requires few { ticks.old + length (R.rules.to_units units.old) < 2 ^ 64 }
+    requires few { ticks.old.taken + length (R.rules.to_units units.old) < 2 ^ 64 }
     ensures at_unit { R.rules.at_unit units.new }
     ensures done { IfOk result (λ v. ReadsRootOn R.rules R.fields R.ahead R.is_between (fields_seen root.now)
         (more_fields_of ext.now) read (nodes frames.old) (datum_of v) units.old units.new) }
@@ -196,8 +207,12 @@ fn feed_sequence<R: FeedLeaves>(
     ensures kept { IfErr result (λ why. KeepsRootOn R.rules R.fields R.ahead R.is_between (fields_seen root.now)
         (more_fields_of ext.now) read (nodes frames.old) (nodes frames.new) units.old why) }
     ensures after { IfErr result (λ why. StandsAfter R.rules units.new why) }
-    ensures ticked { Ticked R.rules units.old ticks.old units.new ticks.new }
-    ensures rising { ticks.old ≤ ticks.new }
+    ensures ticked { Ticked R.rules units.old ticks.old.taken units.new ticks.new.taken }
+    ensures rising { ticks.old.taken ≤ ticks.new.taken }
+    ensures inside { Costs R.rules (λ n. OpenUnits R.rules R.fields R.ahead R.is_between (nodes frames.old) n)
+        (λ n. result ≡ Err Short → OpenUnits R.rules R.fields R.ahead R.is_between (nodes frames.new) n)
+        (sealed_depth (sequence_seen root.now ext.now)) ticks.old.inside units.old ticks.new.inside
+        units.new }
 {
     R::keep_laws();
     let mut read = read;
@@ -226,7 +241,7 @@ fn feed_components<R: FeedLeaves>(
     requires reached { (more : MoreFields) × InProfile (sequence (fields_seen root.now) more) ×
         (all : List ℕ) × RootReached R.rules R.fields R.ahead R.is_between (fields_seen root.now) more read.old
         (nodes frames.old) all (R.rules.to_units units.old) }
-    requires few { ticks.old + length (R.rules.to_units units.old) < 2 ^ 64 }
+    requires few { ticks.old.taken + length (R.rules.to_units units.old) < 2 ^ 64 }
     ensures at_unit { R.rules.at_unit units.new }
     ensures done { OnOk result (UnderEachMark (fields_seen root.now) (λ more.
         RootGoesOnTo R.rules R.fields R.ahead R.is_between (fields_seen root.now) more
@@ -239,8 +254,12 @@ fn feed_components<R: FeedLeaves>(
         RootGoesOnTo R.rules R.fields R.ahead R.is_between (fields_seen root.now) more
         read.old (nodes frames.old) units.old read.new (nodes frames.new) units.new) }
     ensures after { IfErr result (λ why. StandsAfter R.rules units.new why) }
-    ensures ticked { Ticked R.rules units.old ticks.old units.new ticks.new }
-    ensures rising { ticks.old ≤ ticks.new }
+    ensures ticked { Ticked R.rules units.old ticks.old.taken units.new ticks.new.taken }
+    ensures rising { ticks.old.taken ≤ ticks.new.taken }
+    ensures inside { Costs R.rules (λ n. OpenUnits R.rules R.fields R.ahead R.is_between (nodes frames.old) n)
+        (λ n. result ≡ Err Short → OpenUnits R.rules R.fields R.ahead R.is_between (nodes frames.new) n)
+        (fields_sealed (fields_seen root.now)) ticks.old.inside units.old ticks.new.inside
+        units.new }
 {
     R::keep_laws();
     while read.entries.len() < root.len() {
@@ -270,7 +289,7 @@ fn feed_component<R: FeedLeaves>(
     requires good { IsGoodDemand (part_of_field field.now).demand (part_of_field field.now).shape }
     requires reached { (us : List ℕ) × ComponentTook R.rules R.fields R.ahead R.is_between (nodes frames.old)
         (part_of_field field.now) present us }
-    requires few { ticks.old + length (R.rules.to_units units.old) < 2 ^ 64 }
+    requires few { ticks.old.taken + length (R.rules.to_units units.old) < 2 ^ 64 }
     ensures at_unit { R.rules.at_unit units.new }
     ensures done { IfOk result (λ e. ReadsComponentOn R.rules R.fields R.ahead R.is_between (nodes frames.old)
         (part_of_field field.now) present (option_map datum_of e) units.old units.new) }
@@ -280,8 +299,12 @@ fn feed_component<R: FeedLeaves>(
     ensures kept { IfErr result (λ why. KeepsComponentOn R.rules R.fields R.ahead R.is_between (nodes frames.old)
         (nodes frames.new) (part_of_field field.now) present units.old why) }
     ensures after { IfErr result (λ why. StandsAfter R.rules units.new why) }
-    ensures ticked { Ticked R.rules units.old ticks.old units.new ticks.new }
-    ensures rising { ticks.old ≤ ticks.new }
+    ensures ticked { Ticked R.rules units.old ticks.old.taken units.new ticks.new.taken }
+    ensures rising { ticks.old.taken ≤ ticks.new.taken }
+    ensures inside { Costs R.rules (λ n. OpenUnits R.rules R.fields R.ahead R.is_between (nodes frames.old) n)
+        (λ n. result ≡ Err Short → OpenUnits R.rules R.fields R.ahead R.is_between (nodes frames.new) n)
+        (sealed_depth (shape_of field.now.ty)) ticks.old.inside units.old ticks.new.inside
+        units.new }
 {
     if !present {
         return Ok(absent(field));
@@ -310,7 +333,7 @@ fn feed_other<R: FeedLeaves>(
     requires good { good_default (shape_of ty.now) (datum_of default.now) ≡ true }
     requires reached { (us : List ℕ) × OtherTook R.rules (nodes frames.old) (datum_of default.now)
         (shape_of ty.now) us }
-    requires few { ticks.old + length (R.rules.to_units units.old) < 2 ^ 64 }
+    requires few { ticks.old.taken + length (R.rules.to_units units.old) < 2 ^ 64 }
     ensures at_unit { R.rules.at_unit units.new }
     ensures done { IfOk result (λ v. ReadsOtherOn R.rules (nodes frames.old) (datum_of default.now)
         (shape_of ty.now) (datum_of v) units.old units.new) }
@@ -320,8 +343,12 @@ fn feed_other<R: FeedLeaves>(
     ensures kept { IfErr result (λ why. KeepsOtherOn R.rules (nodes frames.old) (nodes frames.new)
         (datum_of default.now) (shape_of ty.now) units.old why) }
     ensures after { IfErr result (λ why. StandsAfter R.rules units.new why) }
-    ensures ticked { Ticked R.rules units.old ticks.old units.new ticks.new }
-    ensures rising { ticks.old ≤ ticks.new }
+    ensures ticked { Ticked R.rules units.old ticks.old.taken units.new ticks.new.taken }
+    ensures rising { ticks.old.taken ≤ ticks.new.taken }
+    ensures inside { Costs R.rules (λ n. ⊤)
+        (λ n. result ≡ Err Short → OpenUnits R.rules R.fields R.ahead R.is_between (nodes frames.new) n)
+        0 ticks.old.inside units.old ticks.new.inside
+        units.new }
 {
     R::keep_feed_laws();
     let node = frames.take();

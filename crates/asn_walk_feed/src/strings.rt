@@ -2,7 +2,9 @@
 //! VisibleString and UTF8String.
 //!
 //! Their items stand in fragments, and are judged once the last of them has come.
-ghost use Rattle.std.specs.Prelude.{◌≡◌, ◌≤◌, ◌<◌, ◌+◌, ◌^◌, ℕ, List, [], length, IfOk, IfErr, OnOk};
+ghost use Rattle.asn_rules.specs.declared.stop.Stop.TheVariants.{Short};
+ghost use Rattle.asn_walk_feed.specs.Levels.{Costs, OpenUnits};
+ghost use Rattle.std.specs.Prelude.{◌≡◌, ◌≤◌, ◌<◌, ◌+◌, ◌^◌, ℕ, List, [], length, IfOk, IfErr, OnOk, Err, ⊤};
 ghost use Rattle.asn_values.specs.Profile.{InProfile};
 ghost use Rattle.asn_values.specs.View.{shape_of, datum_of};
 ghost use Rattle.asn_walk_feed.specs.Feeding.{Ticked, StandsAfter};
@@ -32,7 +34,7 @@ pub(crate) fn feed_string<R: FeedLeaves>(
     requires string { IsString (shape_of ty.now) }
     requires reached { (us : List ℕ)
         × Took R.rules R.fields R.ahead R.is_between (nodes frames.old) (shape_of ty.now) us }
-    requires few { ticks.old + length (R.rules.to_units units.old) < 2 ^ 64 }
+    requires few { ticks.old.taken + length (R.rules.to_units units.old) < 2 ^ 64 }
     ensures at_unit { R.rules.at_unit units.new }
     ensures done { IfOk result (λ v. ReadsOn R.rules R.fields R.ahead R.is_between (nodes frames.old) (shape_of ty.now)
         (datum_of v) units.old units.new) }
@@ -42,8 +44,12 @@ pub(crate) fn feed_string<R: FeedLeaves>(
     ensures kept { IfErr result (λ why. KeepsOn R.rules R.fields R.ahead R.is_between (nodes frames.old)
         (nodes frames.new) (shape_of ty.now) units.old why) }
     ensures after { IfErr result (λ why. StandsAfter R.rules units.new why) }
-    ensures ticked { Ticked R.rules units.old ticks.old units.new ticks.new }
-    ensures rising { ticks.old ≤ ticks.new }
+    ensures ticked { Ticked R.rules units.old ticks.old.taken units.new ticks.new.taken }
+    ensures rising { ticks.old.taken ≤ ticks.new.taken }
+    ensures inside { Costs R.rules (λ n. ⊤)
+        (λ n. result ≡ Err Short → OpenUnits R.rules R.fields R.ahead R.is_between (nodes frames.new) n)
+        0 ticks.old.inside units.old ticks.new.inside
+        units.new }
 {
     R::keep_string_laws();
     let items = feed_octets::<R, StringItems<'_>>(

@@ -1,44 +1,58 @@
 //! The units of a piece of a message, each of which is counted as it is taken.
-ghost use Rattle.std.specs.Prelude.{◌≡◌, ◌+◌, ◌<◌, ◌^◌, ℕ, List};
+ghost use Rattle.std.specs.Prelude.{◌≡◌, ◌+◌, ◌-◌, ◌<◌, ◌≤◌, ◌^◌, ℕ, List, min};
 ghost use Rattle.asn_bits.specs.Numbers.{unpacked};
+ghost use Rattle.asn_walk_feed.specs.Counts.{count_of};
 
 use asn_bits::BitCursor;
 use std::marker::Model;
 
-/// How many units were taken, bits in PER and octets in OER: one more with each unit that a level of a message takes.
-/// Contracts see the number.
+/// How many units were taken, bits in PER and octets in OER: one more with each unit that a level of a message takes. The
+/// first level is the message; the content of a sealed field is a level of its own.
 #[derive(Debug, Drop)]
 pub struct Ticks {
-    count: u64,
-}
-
-impl Model for Ticks {
-    ghost Value = { ℕ };
-
-    ghost view = { λ s. s.count };
+    // those of the level that is read
+    taken: u64,
+    // those of the levels inside it, at most `u64::MAX`
+    inside: u64,
 }
 
 impl Ticks {
     /// No unit was taken.
     pub fn none() -> Ticks
-        ensures { result ≡ 0 }
+        ensures taken { result.taken ≡ 0 }
+        ensures inside { result.inside ≡ 0 }
     {
-        Ticks { count: 0 }
+        Ticks {
+            taken: 0,
+            inside: 0,
+        }
     }
 
-    /// How many units were taken.
+    /// How many units were taken, at all levels together; at most `u64::MAX`.
     pub fn count(&self) -> u64
-        ensures { result ≡ self.now }
+        ensures count { result ≡ count_of self.now }
+        ensures least { self.now.taken ≤ result }
+        ensures most { result ≤ self.now.taken + self.now.inside }
     {
-        self.count
+        self.taken.saturating_add(self.inside)
     }
 
-    /// This many further units are taken.
-    fn add(&mut self, units: u64)
-        requires { self.old + units < 2 ^ 64 }
-        ensures { self.new ≡ self.old + units }
+    /// This many further units are taken, by a reader that does not take them through `Units`.
+    pub fn add(&mut self, units: u64)
+        requires { self.old.taken + units < 2 ^ 64 }
+        ensures taken { self.new.taken ≡ self.old.taken + units }
+        ensures inside { self.new.inside ≡ self.old.inside }
     {
-        self.count += units;
+        self.taken += units;
+    }
+
+    /// The units of a level inside are taken.
+    pub(crate) fn add_inside(&mut self, level: &Ticks)
+        ensures taken { self.new.taken ≡ self.old.taken }
+        ensures inside { self.new.inside
+            ≡ min (self.old.inside + (level.now.taken + level.now.inside)) (2 ^ 64 - 1) }
+    {
+        self.inside = self.inside.saturating_add(level.count());
     }
 }
 
@@ -73,9 +87,10 @@ impl<'a> Units<'a> {
 
     /// Takes the units up to where the cursor stands, which are this many, a tick each.
     pub(crate) fn take_to(&mut self, ahead: BitCursor<'a>, units: u64, ticks: &mut Ticks)
-        requires { ticks.old + units < 2 ^ 64 }
+        requires { ticks.old.taken + units < 2 ^ 64 }
         ensures left { self.new ≡ ahead.entry }
-        ensures tick { ticks.new ≡ ticks.old + units }
+        ensures tick { ticks.new.taken ≡ ticks.old.taken + units }
+        ensures inside { ticks.new.inside ≡ ticks.old.inside }
     {
         self.cursor = ahead;
         ticks.add(units);

@@ -1,5 +1,8 @@
 //! The reader of values that goes on where it stopped.
-ghost use Rattle.std.specs.Prelude.{◌≡◌, ◌≤◌, ◌<◌, ◌+◌, ◌^◌, ◌++◌, ℕ, List, [], length, IfOk, IfErr, OnOk};
+ghost use Rattle.asn_rules.specs.declared.stop.Stop.TheVariants.{Short};
+ghost use Rattle.asn_values.specs.Measures.{sealed_depth};
+ghost use Rattle.asn_walk_feed.specs.Levels.{Costs, OpenUnits};
+ghost use Rattle.std.specs.Prelude.{◌≡◌, ◌≤◌, ◌<◌, ◌+◌, ◌^◌, ◌++◌, ℕ, List, [], length, IfOk, IfErr, OnOk, Err, ⊤};
 ghost use Rattle.asn_values.specs.Profile.{InProfile};
 ghost use Rattle.asn_values.specs.View.{shape_of, datum_of};
 ghost use Rattle.asn_rules.specs.Languages.{Spells};
@@ -41,7 +44,7 @@ pub fn feed<R: FeedLeaves>(
     requires of_profile { InProfile (shape_of ty.now) }
     requires reached { (us : List ℕ)
         × Took R.rules R.fields R.ahead R.is_between (nodes frames.old) (shape_of ty.now) us }
-    requires few { ticks.old + length (R.rules.to_units units.old) < 2 ^ 64 }
+    requires few { ticks.old.taken + length (R.rules.to_units units.old) < 2 ^ 64 }
     ensures at_unit { R.rules.at_unit units.new }
     ensures done { IfOk result (λ v. ReadsOn R.rules R.fields R.ahead R.is_between (nodes frames.old) (shape_of ty.now)
         (datum_of v) units.old units.new) }
@@ -52,8 +55,12 @@ pub fn feed<R: FeedLeaves>(
         frames.new)
         (shape_of ty.now) units.old why) }
     ensures after { IfErr result (λ why. StandsAfter R.rules units.new why) }
-    ensures ticked { Ticked R.rules units.old ticks.old units.new ticks.new }
-    ensures rising { ticks.old ≤ ticks.new }
+    ensures ticked { Ticked R.rules units.old ticks.old.taken units.new ticks.new.taken }
+    ensures rising { ticks.old.taken ≤ ticks.new.taken }
+    ensures inside { Costs R.rules (λ n. OpenUnits R.rules R.fields R.ahead R.is_between (nodes frames.old) n)
+        (λ n. result ≡ Err Short → OpenUnits R.rules R.fields R.ahead R.is_between (nodes frames.new) n)
+        (sealed_depth (shape_of ty.now)) ticks.old.inside units.old ticks.new.inside
+        units.new }
 {
     R::keep_feed_laws();
     match ty {
@@ -115,7 +122,7 @@ fn feed_scalar<R: FeedLeaves>(
     requires start { IsStart node }
     requires waits { Waits R.rules (ValuesOf R.rules (shape_of ty.now)) (begun_of node)
         (R.rules.to_units (begun_of node)) }
-    requires few { ticks.old + length (R.rules.to_units units.old) < 2 ^ 64 }
+    requires few { ticks.old.taken + length (R.rules.to_units units.old) < 2 ^ 64 }
     ensures at_unit { R.rules.at_unit units.new }
     ensures done { IfOk result (λ v. Spells R.rules.ruling.fielding (ValuesOf R.rules (shape_of ty.now)) (datum_of v)
         (R.rules.to_units (begun_of node) ++ R.rules.to_units units.old) (R.rules.to_units units.new)) }
@@ -126,8 +133,12 @@ fn feed_scalar<R: FeedLeaves>(
         KeepsFrames R.rules R.fields R.ahead R.is_between (nodes frames.new) (shape_of ty.now)
         (R.rules.to_units (begun_of node) ++ R.rules.to_units units.old) why) }
     ensures after { IfErr result (λ why. StandsAfter R.rules units.new why) }
-    ensures ticked { Ticked R.rules units.old ticks.old units.new ticks.new }
-    ensures rising { ticks.old ≤ ticks.new }
+    ensures ticked { Ticked R.rules units.old ticks.old.taken units.new ticks.new.taken }
+    ensures rising { ticks.old.taken ≤ ticks.new.taken }
+    ensures inside { Costs R.rules (λ n. ⊤)
+        (λ n. result ≡ Err Short → OpenUnits R.rules R.fields R.ahead R.is_between (nodes frames.new) n)
+        0 ticks.old.inside units.old ticks.new.inside
+        units.new }
 {
     let mut begun = begun_of(node);
     match feed_leaf::<R, Scalar<'_>>(alloc, &Scalar { ty }, &mut begun, units, ticks) {

@@ -59,6 +59,11 @@ use Rattle.asn_walk_feed.specs.Additions.{marked_seen}
 use Rattle.asn_walk_feed.specs.AddedTaken.{AdditionsReached}
 use Rattle.asn_walk_feed.proofs.AddedRead.{some_present, bitmap_begun, bitmap_stops, bitmap_kept, additions_start, next_addition, left_within, additions_end, additions_emptied, bitmap_goes_on, additions_go_on, took_bitmap, bitmap_took, took_additions, bitmap_starts, no_mark, left_out, absent_read, present_took, present_read, present_stops, present_kept}
 use Rattle.asn_walk_feed.proofs.Sizes.{root_smaller, added_type_smaller, components_smaller, additions_smaller}
+use Rattle.asn_walk_feed.proofs.Levels.{is_short, never, costs_same, costs_none, costs_like, costs_after, costs_then, costs_next, costs_last, content_within, field_pays, level_costs, field_stops, adds_inside, level_of_none, none_open, none_come, open_elements, open_components, open_chosen, open_additions, open_added, depth_of_elements, depth_is, depth_of_root, depth_of_additions, depth_of_alternatives, depth_of_added, depth_of_component, depth_of_addition, depth_of_alternative, depth_of_added_one}
+use Rattle.asn_values.specs.View.{alternatives_seen}
+use Rattle.asn_walk.proofs.Parts.{additions_are}
+use Rattle.std.proofs.Common.{length-append, ◌^◌}
+use Rattle.asn_values.specs.Measures.{sealed_depth}
 use Rattle.asn_walk_feed.proofs.+feeder.Goals as goal
 
 -- ---- the elements of a list
@@ -114,6 +119,7 @@ lists::feed_elements-loop-alloc-preserved g t c =
       omega (arith, inv.1, c.in_ok-feed_fragment.ensures.ticked, c.in_ok-next_fragment.ensures.ticked),
       c.in_ok-next_fragment.ensures.at_unit,
       omega (arith, inv.3, c.in_ok-feed_fragment.ensures.rising, c.in_ok-next_fragment.ensures.rising),
+      (let none = (length_ahead g.R.ReadLeaves.rules c.keep_laws.ensures c.keep_feed_laws.ensures g.R.FeedLeaves.fields g.R.ReadLeaves.ahead g.R.ReadLeaves.is_between (shape_of c.args.element.now) (size_range_of c.args.size.now) c.requires.of_profile c.feed_fragment.new.list (nodes c.feed_fragment.new.frames) c.requires.reached.0 (g.R.ReadLeaves.rules.to_units c.feed_fragment.new.units) c.in_ok-feed_fragment.ensures.over (c.in_ok-feed_fragment.ensures.done (size_range_of c.args.size.now) c.requires.of_profile c.requires.reached.0 (c.loop-alloc.invariant.0 c.requires.reached.0 c.requires.reached.1))).none in costs_last {d1 = sealed_depth (shape_of c.args.element.now)} (costs_then c.loop-alloc.invariant.4 c.feed_fragment.ensures.inside (omega arith) (omega arith) (λ n o. o)) (omega arith) (none_open g.R.ReadLeaves.rules g.R.FeedLeaves.fields g.R.ReadLeaves.ahead g.R.ReadLeaves.is_between (nodes c.feed_fragment.new.frames) none) c.next_fragment.ensures.inside (omega (arith, c.next_fragment.ensures.ticked, c.next_fragment.ensures.rising))),
     )
 
 pub lists::feed_elements-loop-alloc-smaller : goal.lists::feed_elements-loop-alloc-smaller
@@ -161,6 +167,7 @@ lists::feed_fragment-loop-list-preserved g t c =
       inv.3,
       omega (arith, inv.4, c.in_ok-value.ensures.ticked, c.in_ok-value.ensures.rising),
       omega (arith, inv.5, c.in_ok-value.ensures.rising),
+      costs_last {d1 = sealed_depth (shape_of c.args.element.now)} (costs_then c.loop-list.invariant.6 c.feed.ensures.inside (omega arith) (omega arith) (λ n o. o)) (omega arith) (none_open g.R.ReadLeaves.rules g.R.FeedLeaves.fields g.R.ReadLeaves.ahead g.R.ReadLeaves.is_between (nodes c.feed.new.frames) c.in_ok-value.ensures.emptied) refl (omega arith),
     )
 
 pub values::feed-feed_scalar-requires-clause-start : goal.values::feed-feed_scalar-requires-clause-start
@@ -468,6 +475,7 @@ sequences::feed_components-loop-alloc-preserved g t c =
       omega (arith, inv.1, c.in_ok-entry.ensures.ticked),
       c.in_ok-entry.ensures.at_unit,
       omega (arith, inv.3, c.in_ok-entry.ensures.rising),
+      costs_last (costs_then c.loop-alloc.invariant.4 c.feed_component.ensures.inside (omega arith) (depth_of_component c.args.root.now i c.index-root-len.result lt c.index-root-len.is) (λ n o. o)) (omega arith) (none_open g.R.ReadLeaves.rules g.R.FeedLeaves.fields g.R.ReadLeaves.ahead g.R.ReadLeaves.is_between (nodes c.feed_component.new.frames) c.in_ok-entry.ensures.emptied) refl (omega arith),
     )
 
 pub sequences::feed_component-returns-then-not-present-clause-done : goal.sequences::feed_component-returns-then-not-present-clause-done
@@ -833,25 +841,25 @@ open_fields::feed_open_field-returns-in_err-octets-clause-kept g t c =
     let p = err_from_is_err_and c.from_residual.result c.from_residual.ensures.1 in
     rw (p.1, p.2) c.in_err-octets.ensures.kept
 
-pub open_fields::feed_open_field-read_content-requires : goal.open_fields::feed_open_field-read_content-requires
-open_fields::feed_open_field-read_content-requires g t c κs within =
-    (search (rules, the_lemmas), (within.0, (within.1, (c.requires.of_profile, rw c.as_slice.ensures.value (content_of (same_spells c.keep_field_laws.ensures.same (c.in_ok-octets.ensures.done c.requires.reached.0 c.requires.reached.1)))))))
+pub open_fields::feed_open_field-read_content-value-requires : goal.open_fields::feed_open_field-read_content-value-requires
+open_fields::feed_open_field-read_content-value-requires g t c κs within =
+    (search (rules, the_lemmas), (within.0, (within.1, (c.requires.of_profile, (rw c.as_slice.ensures.value (content_of (same_spells c.keep_field_laws.ensures.same (c.in_ok-octets.ensures.done c.requires.reached.0 c.requires.reached.1))), (c.none-level.ensures.taken, c.none-level.ensures.inside))))))
 
 pub open_fields::feed_open_field-returns-clause-done : goal.open_fields::feed_open_field-returns-clause-done
 open_fields::feed_open_field-returns-clause-done g t c =
-    IfOk-weaker c.read_content.result _ _ (λ v s us k. s (us ++ g.R.ReadLeaves.rules.to_units c.args.units.now) (g.R.ReadLeaves.rules.to_units c.feed_octets.new.units) (rw (← c.as_slice.ensures.value) at (same_spells c.keep_field_laws.ensures.same (c.in_ok-octets.ensures.done us k)))) c.read_content.ensures.done
+    IfOk-weaker c.read_content-value.result _ _ (λ v s us k. s (us ++ g.R.ReadLeaves.rules.to_units c.args.units.now) (g.R.ReadLeaves.rules.to_units c.feed_octets.new.units) (rw (← c.as_slice.ensures.value) at (same_spells c.keep_field_laws.ensures.same (c.in_ok-octets.ensures.done us k)))) c.read_content-value.ensures.done
 
 pub open_fields::feed_open_field-returns-clause-stop : goal.open_fields::feed_open_field-returns-clause-stop
 open_fields::feed_open_field-returns-clause-stop g t c =
-    IfErr-weaker c.read_content.result _ _ (λ why s us k. s (us ++ g.R.ReadLeaves.rules.to_units c.args.units.now) (g.R.ReadLeaves.rules.to_units c.feed_octets.new.units) (rw (← c.as_slice.ensures.value) at (same_spells c.keep_field_laws.ensures.same (c.in_ok-octets.ensures.done us k))) (ap (λ (xs : List ℕ). length (g.R.ReadLeaves.rules.to_units xs)) (sym c.ahead.ensures) ∙ sym c.units_left-left.ensures)) c.read_content.ensures.stop
+    IfErr-weaker c.read_content-value.result _ _ (λ why s us k. s (us ++ g.R.ReadLeaves.rules.to_units c.args.units.now) (g.R.ReadLeaves.rules.to_units c.feed_octets.new.units) (rw (← c.as_slice.ensures.value) at (same_spells c.keep_field_laws.ensures.same (c.in_ok-octets.ensures.done us k))) (ap (λ (xs : List ℕ). length (g.R.ReadLeaves.rules.to_units xs)) (sym c.ahead.ensures) ∙ sym c.units_left-left.ensures)) c.read_content-value.ensures.stop
 
 pub open_fields::feed_open_field-returns-clause-after : goal.open_fields::feed_open_field-returns-clause-after
 open_fields::feed_open_field-returns-clause-after g t c =
-    IfErr-weaker c.read_content.result _ _ (λ why s. stands_after g.R.ReadLeaves.rules c.feed_octets.new.units c.units_left-left.result why (ap (λ (xs : List ℕ). length (g.R.ReadLeaves.rules.to_units xs)) (sym c.ahead.ensures) ∙ sym c.units_left-left.ensures) s) c.read_content.ensures.after
+    IfErr-weaker c.read_content-value.result _ _ (λ why s. stands_after g.R.ReadLeaves.rules c.feed_octets.new.units c.units_left-left.result why (ap (λ (xs : List ℕ). length (g.R.ReadLeaves.rules.to_units xs)) (sym c.ahead.ensures) ∙ sym c.units_left-left.ensures) s) c.read_content-value.ensures.after
 
 pub open_fields::feed_open_field-returns-clause-kept : goal.open_fields::feed_open_field-returns-clause-kept
 open_fields::feed_open_field-returns-clause-kept g t c =
-    IfErr-weaker c.read_content.result _ _ (λ why s us k. keeps_none g.R.ReadLeaves.rules g.R.FeedLeaves.fields.open_type g.R.ReadLeaves.ahead g.R.ReadLeaves.is_between (nodes c.feed_octets.new.frames) (us ++ g.R.ReadLeaves.rules.to_units c.args.units.now) c.units_left-left.result why s) c.read_content.ensures.after
+    IfErr-weaker c.read_content-value.result _ _ (λ why s us k. keeps_none g.R.ReadLeaves.rules g.R.FeedLeaves.fields.open_type g.R.ReadLeaves.ahead g.R.ReadLeaves.is_between (nodes c.feed_octets.new.frames) (us ++ g.R.ReadLeaves.rules.to_units c.args.units.now) c.units_left-left.result why s) c.read_content-value.ensures.after
 
 pub open_fields::read_content-read_complete-requires : goal.open_fields::read_content-read_complete-requires
 open_fields::read_content-read_complete-requires g t c κs within =
@@ -860,7 +868,7 @@ open_fields::read_content-read_complete-requires g t c κs within =
     let over : g.R.ReadLeaves.rules.to_units c.over-units.result ≡ g.R.ReadLeaves.rules.ruling.units os = ap g.R.ReadLeaves.rules.to_units c.over-units.ensures ∙ c.keep_laws.ensures.over os held in
     let many : length (g.R.ReadLeaves.rules.to_units c.over-units.result) ≡ g.R.ReadLeaves.rules.octet_units * length os = ap length over ∙ c.keep_laws.ensures.count os in
     let fill : length (g.R.ReadLeaves.rules.to_units c.over-units.result) % g.R.ReadLeaves.rules.octet_units ≡ 0 = rw over (units_fill g.R.ReadLeaves.rules c.keep_laws.ensures os) in
-    (search (rules, the_lemmas), (within.0, (within.1, (rw c.over-units.ensures (c.keep_laws.ensures.begin os held), (c.requires.of_profile, (fill, few_units g.R.ReadLeaves.rules c.keep_laws.ensures c.none-ticks.result c.none-ticks.ensures (length (g.R.ReadLeaves.rules.to_units c.over-units.result)) os many c.requires.content.1))))))
+    (search (rules, the_lemmas), (within.0, (within.1, (rw c.over-units.ensures (c.keep_laws.ensures.begin os held), (c.requires.of_profile, (fill, few_units g.R.ReadLeaves.rules c.keep_laws.ensures c.args.ticks.now.taken c.requires.none (length (g.R.ReadLeaves.rules.to_units c.over-units.result)) os many c.requires.content.1))))))
 
 pub open_fields::read_content-returns-in-Ok-clause-done : goal.open_fields::read_content-returns-in-Ok-clause-done
 open_fields::read_content-returns-in-Ok-clause-done g t c =
@@ -1083,6 +1091,7 @@ additions::feed_open_fields-loop-read-preserved g t c =
       omega (arith, inv.1, c.in_ok-entry.ensures.ticked),
       c.in_ok-entry.ensures.at_unit,
       omega (arith, inv.3, c.in_ok-entry.ensures.rising),
+      costs_last (costs_then c.loop-read.invariant.4 c.feed_addition.ensures.inside (omega arith) (depth_of_addition c.args.additions.now i c.index-additions-index.result (omega (arith, at, c.loop-read-test.true)) c.index-additions-index.is) (λ n o. o)) (omega arith) (none_come g.R.ReadLeaves.rules g.R.FeedLeaves.fields g.R.ReadLeaves.ahead g.R.ReadLeaves.is_between (nodes c.feed_addition.new.frames) c.in_ok-entry.ensures.emptied) refl (omega arith),
     )
 
 -- ---- one addition
@@ -1224,3 +1233,494 @@ sequences::resume_sequence-returns-in-Some-ext-clause-kept g t c =
 pub additions::feed_bitmap-feed_leaf-requires-clause-begins : goal.additions::feed_bitmap-feed_leaf-requires-clause-begins
 additions::feed_bitmap-feed_leaf-requires-clause-begins g t c =
     bitmap_begun g.R.ReadLeaves.rules c.keep_laws.ensures c.keep_feed_laws.ensures g.R.FeedLeaves.fields g.R.ReadLeaves.ahead g.R.ReadLeaves.is_between (fields_seen c.args.root.now) c.args.additions.now c.requires.of_profile c.args.part c.requires.reached.0 (g.R.ReadLeaves.rules.to_units c.args.units.now) c.requires.reached.1
+
+-- ---- what the levels cost
+
+pub values::feed-returns-in-SeqOf-clause-inside : goal.values::feed-returns-in-SeqOf-clause-inside
+values::feed-returns-in-SeqOf-clause-inside g t c =
+    let is = list_of_elements c.args.ty.now c.deref.result.now c.in-SeqOf.element c.in-SeqOf.size c.in-SeqOf.is c.deref.ensures in
+    let tk = taken_is c.take-node.result (nodes c.args.frames.now) (nodes c.take-node.new.self) c.take-node.ensures.some c.take-node.ensures.none c.take-node.ensures.empty in
+    costs_like c.resume_list.ensures.inside (depth_of_elements is) (λ n o. rw tk at o) (λ n o. o)
+
+pub values::feed-returns-in-Seq-clause-inside : goal.values::feed-returns-in-Seq-clause-inside
+values::feed-returns-in-Seq-clause-inside g t c =
+    let is = sequence_of_fields c.args.ty.now c.in-Seq.root c.in-Seq.ext c.as_slice-root.result.now c.in-Seq.is c.as_slice-root.ensures.value in
+    let tk = taken_is c.take-node-in-Seq.result (nodes c.args.frames.now) (nodes c.take-node-in-Seq.new.self) c.take-node-in-Seq.ensures.some c.take-node-in-Seq.ensures.none c.take-node-in-Seq.ensures.empty in
+    costs_like c.resume_sequence.ensures.inside (depth_is is) (λ n o. rw tk at o) (λ n o. o)
+
+pub values::feed-returns-in-Choice-clause-inside : goal.values::feed-returns-in-Choice-clause-inside
+values::feed-returns-in-Choice-clause-inside g t c =
+    let is = choice_of_alternatives c.args.ty.now c.in-Choice.root c.in-Choice.ext c.as_slice-root-in-Choice.result.now c.in-Choice.is c.as_slice-root-in-Choice.ensures.value in
+    let tk = taken_is c.take-node-in-Choice.result (nodes c.args.frames.now) (nodes c.take-node-in-Choice.new.self) c.take-node-in-Choice.ensures.some c.take-node-in-Choice.ensures.none c.take-node-in-Choice.ensures.empty in
+    costs_like c.resume_choice.ensures.inside (depth_is is) (λ n o. rw tk at o) (λ n o. o)
+
+pub values::feed-returns-in-Bool-clause-inside : goal.values::feed-returns-in-Bool-clause-inside
+values::feed-returns-in-Bool-clause-inside g t c =
+    costs_like c.feed_scalar.ensures.inside (omega arith) (λ n o. tt) (λ n o. o)
+
+pub values::feed-returns-in-Bits-clause-inside : goal.values::feed-returns-in-Bits-clause-inside
+values::feed-returns-in-Bits-clause-inside g t c =
+    costs_like c.feed_string.ensures.inside (omega arith) (λ n o. tt) (λ n o. o)
+
+pub lists::resume_list-returns-in-Some-Elements-clause-inside : goal.lists::resume_list-returns-in-Some-Elements-clause-inside
+lists::resume_list-returns-in-Some-Elements-clause-inside g t c =
+    costs_like c.feed_list.ensures.inside (omega arith) (λ n o. open_elements g.R.ReadLeaves.rules g.R.FeedLeaves.fields g.R.ReadLeaves.ahead g.R.ReadLeaves.is_between c.args.node c.in-Some-Elements.field-0 c.in-Some-Elements.list (nodes c.args.frames.now) n c.in-Some-Elements.is c.in-Some-Elements.field-0-is o) (λ n o. o)
+
+pub lists::resume_list-returns-in-Some-Start-clause-inside : goal.lists::resume_list-returns-in-Some-Start-clause-inside
+lists::resume_list-returns-in-Some-Start-clause-inside g t c =
+    costs_like c.start_list.ensures.inside (omega arith) (λ n o. tt) (λ n o. o)
+
+pub lists::resume_list-returns-in-None-clause-inside : goal.lists::resume_list-returns-in-None-clause-inside
+lists::resume_list-returns-in-None-clause-inside g t c =
+    costs_like c.start_list-in-None.ensures.inside (omega arith) (λ n o. tt) (λ n o. o)
+
+pub lists::start_list-returns-in-Ok-clause-inside : goal.lists::start_list-returns-in-Ok-clause-inside
+lists::start_list-returns-in-Ok-clause-inside g t c =
+    costs_after c.feed_list.ensures.inside (omega arith) c.feed_leaf.ensures.inside (omega (arith, c.feed_leaf.ensures.ticked, c.feed_leaf.ensures.rising)) (none_open g.R.ReadLeaves.rules g.R.FeedLeaves.fields g.R.ReadLeaves.ahead g.R.ReadLeaves.is_between (nodes c.args.frames.now) c.requires.empty)
+
+pub lists::start_list-returns-in-Ok-put-clause-inside : goal.lists::start_list-returns-in-Ok-put-clause-inside
+lists::start_list-returns-in-Ok-put-clause-inside g t c =
+    costs_same c.feed_leaf.ensures.inside (omega (arith, c.feed_leaf.ensures.ticked, c.feed_leaf.ensures.rising)) (λ e. rw c.in-Ok-put.ensures refl)
+
+pub lists::start_list-returns-in-Err-clause-inside : goal.lists::start_list-returns-in-Err-clause-inside
+lists::start_list-returns-in-Err-clause-inside g t c =
+    costs_same c.feed_leaf.ensures.inside (omega (arith, c.feed_leaf.ensures.ticked, c.feed_leaf.ensures.rising)) (λ e. never (ap is_short e))
+
+pub lists::start_list-returns-in-Err-Refused-clause-inside : goal.lists::start_list-returns-in-Err-Refused-clause-inside
+lists::start_list-returns-in-Err-Refused-clause-inside g t c =
+    costs_same c.feed_leaf.ensures.inside (omega (arith, c.feed_leaf.ensures.ticked, c.feed_leaf.ensures.rising)) (λ e. never (ap is_short e))
+
+pub lists::start_list-returns-in-Err-Memory-clause-inside : goal.lists::start_list-returns-in-Err-Memory-clause-inside
+lists::start_list-returns-in-Err-Memory-clause-inside g t c =
+    costs_same c.feed_leaf.ensures.inside (omega (arith, c.feed_leaf.ensures.ticked, c.feed_leaf.ensures.rising)) (λ e. never (ap is_short e))
+
+pub lists::feed_list-returns-in-Ok-clause-inside : goal.lists::feed_list-returns-in-Ok-clause-inside
+lists::feed_list-returns-in-Ok-clause-inside g t c =
+    costs_like c.feed_elements.ensures.inside (omega arith) (λ n o. o) (λ n o e. never (ap is_short e))
+
+pub lists::feed_list-returns-in-Ok-put-clause-inside : goal.lists::feed_list-returns-in-Ok-put-clause-inside
+lists::feed_list-returns-in-Ok-put-clause-inside g t c =
+    costs_like c.feed_elements.ensures.inside (omega arith) (λ n o. o) (λ n o e. rw c.in-Ok-put.ensures (o (cc (c.in-Err-Short.is, c.in-Err-Short.field-0-is))))
+
+pub lists::feed_list-returns-in-Err-clause-inside : goal.lists::feed_list-returns-in-Err-clause-inside
+lists::feed_list-returns-in-Err-clause-inside g t c =
+    costs_like c.feed_elements.ensures.inside (omega arith) (λ n o. o) (λ n o e. never (ap is_short e))
+
+pub lists::feed_list-returns-in-Err-Refused-clause-inside : goal.lists::feed_list-returns-in-Err-Refused-clause-inside
+lists::feed_list-returns-in-Err-Refused-clause-inside g t c =
+    costs_like c.feed_elements.ensures.inside (omega arith) (λ n o. o) (λ n o e. never (ap is_short e))
+
+pub lists::feed_list-returns-in-Err-Memory-clause-inside : goal.lists::feed_list-returns-in-Err-Memory-clause-inside
+lists::feed_list-returns-in-Err-Memory-clause-inside g t c =
+    costs_like c.feed_elements.ensures.inside (omega arith) (λ n o. o) (λ n o e. never (ap is_short e))
+
+pub lists::feed_elements-returns-in_err-feed_fragment-clause-inside : goal.lists::feed_elements-returns-in_err-feed_fragment-clause-inside
+lists::feed_elements-returns-in_err-feed_fragment-clause-inside g t c =
+    let p = err_from_is_err_and c.from_residual.result c.from_residual.ensures.1 in
+    costs_like {d' = sealed_depth (shape_of c.args.element.now)} (costs_then c.loop-alloc.invariant.4 c.in_err-feed_fragment.ensures.inside (omega arith) (omega arith) (λ n o. o)) (omega arith) (λ n o. o) (λ n o e. o (cc (p.1, p.2, e)))
+
+pub lists::feed_elements-returns-in_err-next_fragment-clause-inside : goal.lists::feed_elements-returns-in_err-next_fragment-clause-inside
+lists::feed_elements-returns-in_err-next_fragment-clause-inside g t c =
+    let none = (length_ahead g.R.ReadLeaves.rules c.keep_laws.ensures c.keep_feed_laws.ensures g.R.FeedLeaves.fields g.R.ReadLeaves.ahead g.R.ReadLeaves.is_between (shape_of c.args.element.now) (size_range_of c.args.size.now) c.requires.of_profile c.feed_fragment.new.list (nodes c.feed_fragment.new.frames) c.requires.reached.0 (g.R.ReadLeaves.rules.to_units c.feed_fragment.new.units) c.in_ok-feed_fragment.ensures.over (c.in_ok-feed_fragment.ensures.done (size_range_of c.args.size.now) c.requires.of_profile c.requires.reached.0 (c.loop-alloc.invariant.0 c.requires.reached.0 c.requires.reached.1))).none in
+    costs_last {d1 = sealed_depth (shape_of c.args.element.now)} (costs_then c.loop-alloc.invariant.4 c.feed_fragment.ensures.inside (omega arith) (omega arith) (λ n o. o)) (omega arith) (λ e. none_open g.R.ReadLeaves.rules g.R.FeedLeaves.fields g.R.ReadLeaves.ahead g.R.ReadLeaves.is_between (nodes c.feed_fragment.new.frames) none) c.next_fragment.ensures.inside (omega (arith, c.next_fragment.ensures.ticked, c.next_fragment.ensures.rising))
+
+pub lists::feed_elements-returns-then-not-branch-clause-inside : goal.lists::feed_elements-returns-then-not-branch-clause-inside
+lists::feed_elements-returns-then-not-branch-clause-inside g t c =
+    let none = (length_ahead g.R.ReadLeaves.rules c.keep_laws.ensures c.keep_feed_laws.ensures g.R.FeedLeaves.fields g.R.ReadLeaves.ahead g.R.ReadLeaves.is_between (shape_of c.args.element.now) (size_range_of c.args.size.now) c.requires.of_profile c.feed_fragment.new.list (nodes c.feed_fragment.new.frames) c.requires.reached.0 (g.R.ReadLeaves.rules.to_units c.feed_fragment.new.units) c.in_ok-feed_fragment.ensures.over (c.in_ok-feed_fragment.ensures.done (size_range_of c.args.size.now) c.requires.of_profile c.requires.reached.0 (c.loop-alloc.invariant.0 c.requires.reached.0 c.requires.reached.1))).none in
+    costs_last {d1 = sealed_depth (shape_of c.args.element.now)} (costs_then c.loop-alloc.invariant.4 c.feed_fragment.ensures.inside (omega arith) (omega arith) (λ n o. o)) (omega arith) (λ e. never (ap is_short e)) c.next_fragment.ensures.inside (omega (arith, c.next_fragment.ensures.ticked, c.next_fragment.ensures.rising))
+
+pub lists::feed_fragment-returns-in_err-value-clause-inside : goal.lists::feed_fragment-returns-in_err-value-clause-inside
+lists::feed_fragment-returns-in_err-value-clause-inside g t c =
+    let p = err_from_is_err_and c.from_residual.result c.from_residual.ensures.1 in
+    costs_like {d' = sealed_depth (shape_of c.args.element.now)} (costs_then c.loop-list.invariant.6 c.in_err-value.ensures.inside (omega arith) (omega arith) (λ n o. o)) (omega arith) (λ n o. o) (λ n o e. o (cc (p.1, p.2, e)))
+
+pub lists::feed_fragment-returns-in_err-push-clause-inside : goal.lists::feed_fragment-returns-in_err-push-clause-inside
+lists::feed_fragment-returns-in_err-push-clause-inside g t c =
+    let p = err_from_is_err_and c.from_residual-in_err-push.result c.from_residual-in_err-push.ensures.1 in
+    costs_like {d' = sealed_depth (shape_of c.args.element.now)} (costs_then c.loop-list.invariant.6 c.feed.ensures.inside (omega arith) (omega arith) (λ n o. o)) (omega arith) (λ n o. o) (λ n o e. absurd (let z : stop.Memory ≡ stop.Short = cc (p.1, p.2, e) in cc))
+
+pub lists::feed_fragment-returns-clause-inside : goal.lists::feed_fragment-returns-clause-inside
+lists::feed_fragment-returns-clause-inside g t c =
+    costs_like c.loop-list.invariant.6 (omega arith) (λ n o. o) (λ n o e. never (ap is_short e))
+
+pub sequences::resume_sequence-returns-in-Some-Components-clause-inside : goal.sequences::resume_sequence-returns-in-Some-Components-clause-inside
+sequences::resume_sequence-returns-in-Some-Components-clause-inside g t c =
+    costs_like c.feed_sequence.ensures.inside (omega arith) (λ n o. open_components g.R.ReadLeaves.rules g.R.FeedLeaves.fields g.R.ReadLeaves.ahead g.R.ReadLeaves.is_between c.args.node c.in-Some-Components.field-0 c.in-Some-Components.read (nodes c.args.frames.now) n c.in-Some-Components.is c.in-Some-Components.field-0-is o) (λ n o. o)
+
+pub sequences::resume_sequence-returns-in-Some-Start-clause-inside : goal.sequences::resume_sequence-returns-in-Some-Start-clause-inside
+sequences::resume_sequence-returns-in-Some-Start-clause-inside g t c =
+    costs_like c.start_sequence.ensures.inside (omega arith) (λ n o. tt) (λ n o. o)
+
+pub sequences::resume_sequence-returns-in-None-clause-inside : goal.sequences::resume_sequence-returns-in-None-clause-inside
+sequences::resume_sequence-returns-in-None-clause-inside g t c =
+    costs_like c.start_sequence-in-None.ensures.inside (omega arith) (λ n o. tt) (λ n o. o)
+
+pub sequences::resume_sequence-returns-in-Some-clause-inside : goal.sequences::resume_sequence-returns-in-Some-clause-inside
+sequences::resume_sequence-returns-in-Some-clause-inside g t c =
+    costs_like c.feed_bitmap.ensures.inside (depth_of_additions (fields_seen c.args.root.now) (more_fields_of c.args.ext.now) (fields_seen c.as_slice.result.now) (marked_fields c.args.ext.now c.in-Some.additions c.as_slice.result.now c.in-Some.is c.as_slice.ensures.value)) (λ n o. tt) (λ n o. o)
+
+pub sequences::resume_sequence-returns-in-Some-ext-clause-inside : goal.sequences::resume_sequence-returns-in-Some-ext-clause-inside
+sequences::resume_sequence-returns-in-Some-ext-clause-inside g t c =
+    costs_like c.feed_additions.ensures.inside (depth_of_additions (fields_seen c.args.root.now) (more_fields_of c.args.ext.now) (fields_seen c.as_slice-in-Some-Additions.result.now) (marked_fields c.args.ext.now c.in-Some-ext.additions c.as_slice-in-Some-Additions.result.now c.in-Some-ext.is c.as_slice-in-Some-Additions.ensures.value)) (λ n o. open_additions g.R.ReadLeaves.rules g.R.FeedLeaves.fields g.R.ReadLeaves.ahead g.R.ReadLeaves.is_between c.args.node c.in-Some-Additions.field-0 c.in-Some-Additions.read (nodes c.args.frames.now) n c.in-Some-Additions.is c.in-Some-Additions.field-0-is o) (λ n o. o)
+
+pub sequences::start_sequence-returns-in-Ok-clause-inside : goal.sequences::start_sequence-returns-in-Ok-clause-inside
+sequences::start_sequence-returns-in-Ok-clause-inside g t c =
+    costs_after c.feed_sequence.ensures.inside (omega arith) c.feed_leaf.ensures.inside (omega (arith, c.feed_leaf.ensures.ticked, c.feed_leaf.ensures.rising)) (none_open g.R.ReadLeaves.rules g.R.FeedLeaves.fields g.R.ReadLeaves.ahead g.R.ReadLeaves.is_between (nodes c.args.frames.now) c.requires.empty)
+
+pub sequences::start_sequence-returns-in-Ok-put-clause-inside : goal.sequences::start_sequence-returns-in-Ok-put-clause-inside
+sequences::start_sequence-returns-in-Ok-put-clause-inside g t c =
+    costs_same c.feed_leaf.ensures.inside (omega (arith, c.feed_leaf.ensures.ticked, c.feed_leaf.ensures.rising)) (λ e. rw c.in-Ok-put.ensures refl)
+
+pub sequences::start_sequence-returns-in-Err-clause-inside : goal.sequences::start_sequence-returns-in-Err-clause-inside
+sequences::start_sequence-returns-in-Err-clause-inside g t c =
+    costs_same c.feed_leaf.ensures.inside (omega (arith, c.feed_leaf.ensures.ticked, c.feed_leaf.ensures.rising)) (λ e. never (ap is_short e))
+
+pub sequences::start_sequence-returns-in-Err-Refused-clause-inside : goal.sequences::start_sequence-returns-in-Err-Refused-clause-inside
+sequences::start_sequence-returns-in-Err-Refused-clause-inside g t c =
+    costs_same c.feed_leaf.ensures.inside (omega (arith, c.feed_leaf.ensures.ticked, c.feed_leaf.ensures.rising)) (λ e. never (ap is_short e))
+
+pub sequences::start_sequence-returns-in-Err-Memory-clause-inside : goal.sequences::start_sequence-returns-in-Err-Memory-clause-inside
+sequences::start_sequence-returns-in-Err-Memory-clause-inside g t c =
+    costs_same c.feed_leaf.ensures.inside (omega (arith, c.feed_leaf.ensures.ticked, c.feed_leaf.ensures.rising)) (λ e. never (ap is_short e))
+
+pub sequences::feed_sequence-returns-in-Ok-clause-inside : goal.sequences::feed_sequence-returns-in-Ok-clause-inside
+sequences::feed_sequence-returns-in-Ok-clause-inside g t c =
+    costs_next c.feed_components.ensures.inside c.end_sequence.ensures.inside (depth_of_root (fields_seen c.args.root.now) (more_fields_of c.args.ext.now)) (omega arith) tt
+
+pub sequences::feed_sequence-returns-in-Ok-put-clause-inside : goal.sequences::feed_sequence-returns-in-Ok-put-clause-inside
+sequences::feed_sequence-returns-in-Ok-put-clause-inside g t c =
+    costs_like c.feed_components.ensures.inside (depth_of_root (fields_seen c.args.root.now) (more_fields_of c.args.ext.now)) (λ n o. o) (λ n o e. rw c.in-Ok-put.ensures (o (cc (c.in-Err-Short.is, c.in-Err-Short.field-0-is))))
+
+pub sequences::feed_sequence-returns-in-Err-clause-inside : goal.sequences::feed_sequence-returns-in-Err-clause-inside
+sequences::feed_sequence-returns-in-Err-clause-inside g t c =
+    costs_like c.feed_components.ensures.inside (depth_of_root (fields_seen c.args.root.now) (more_fields_of c.args.ext.now)) (λ n o. o) (λ n o e. never (ap is_short e))
+
+pub sequences::feed_sequence-returns-in-Err-Refused-clause-inside : goal.sequences::feed_sequence-returns-in-Err-Refused-clause-inside
+sequences::feed_sequence-returns-in-Err-Refused-clause-inside g t c =
+    costs_like c.feed_components.ensures.inside (depth_of_root (fields_seen c.args.root.now) (more_fields_of c.args.ext.now)) (λ n o. o) (λ n o e. never (ap is_short e))
+
+pub sequences::feed_sequence-returns-in-Err-Memory-clause-inside : goal.sequences::feed_sequence-returns-in-Err-Memory-clause-inside
+sequences::feed_sequence-returns-in-Err-Memory-clause-inside g t c =
+    costs_like c.feed_components.ensures.inside (depth_of_root (fields_seen c.args.root.now) (more_fields_of c.args.ext.now)) (λ n o. o) (λ n o e. never (ap is_short e))
+
+pub sequences::feed_components-returns-in_err-entry-clause-inside : goal.sequences::feed_components-returns-in_err-entry-clause-inside
+sequences::feed_components-returns-in_err-entry-clause-inside g t c =
+    let i = c.len-in-loop-alloc.result in
+    let lt : i < length c.args.root.now = omega (arith, c.loop-alloc-test.true, c.len.ensures, c.len-in-loop-alloc.ensures) in
+    let p = err_from_is_err_and c.from_residual.result c.from_residual.ensures.1 in
+    costs_like (costs_then c.loop-alloc.invariant.4 c.in_err-entry.ensures.inside (omega arith) (depth_of_component c.args.root.now i c.index-root-len.result lt c.index-root-len.is) (λ n o. o)) (omega arith) (λ n o. o) (λ n o e. o (cc (p.1, p.2, e)))
+
+pub sequences::feed_components-returns-in_err-push-clause-inside : goal.sequences::feed_components-returns-in_err-push-clause-inside
+sequences::feed_components-returns-in_err-push-clause-inside g t c =
+    let i = c.len-in-loop-alloc.result in
+    let lt : i < length c.args.root.now = omega (arith, c.loop-alloc-test.true, c.len.ensures, c.len-in-loop-alloc.ensures) in
+    let p = err_from_is_err_and c.from_residual-in_err-push.result c.from_residual-in_err-push.ensures.1 in
+    costs_like (costs_then c.loop-alloc.invariant.4 c.feed_component.ensures.inside (omega arith) (depth_of_component c.args.root.now i c.index-root-len.result lt c.index-root-len.is) (λ n o. o)) (omega arith) (λ n o. o) (λ n o e. absurd (let z : stop.Memory ≡ stop.Short = cc (p.1, p.2, e) in cc))
+
+pub sequences::feed_components-returns-clause-inside : goal.sequences::feed_components-returns-clause-inside
+sequences::feed_components-returns-clause-inside g t c =
+    costs_like c.loop-alloc.invariant.4 (omega arith) (λ n o. o) (λ n o e. never (ap is_short e))
+
+pub sequences::feed_component-returns-then-not-present-clause-inside : goal.sequences::feed_component-returns-then-not-present-clause-inside
+sequences::feed_component-returns-then-not-present-clause-inside g t c =
+    costs_same refl (omega arith) (λ e. never (ap is_short e))
+
+pub sequences::feed_component-returns-in_err-feed_other-in-Default-clause-inside : goal.sequences::feed_component-returns-in_err-feed_other-in-Default-clause-inside
+sequences::feed_component-returns-in_err-feed_other-in-Default-clause-inside g t c =
+    let p = err_from_is_err_and c.from_residual.result c.from_residual.ensures.1 in
+    costs_like c.in_err-feed_other-in-Default.ensures.inside (omega arith) (λ n o. tt) (λ n o e. o (cc (p.1, p.2, e)))
+
+pub sequences::feed_component-returns-in_ok-feed_other-in-Default-clause-inside : goal.sequences::feed_component-returns-in_ok-feed_other-in-Default-clause-inside
+sequences::feed_component-returns-in_ok-feed_other-in-Default-clause-inside g t c =
+    costs_like c.feed_other.ensures.inside (omega arith) (λ n o. tt) (λ n o e. never (ap is_short e))
+
+pub sequences::feed_component-returns-in_err-feed-in-Must-clause-inside : goal.sequences::feed_component-returns-in_err-feed-in-Must-clause-inside
+sequences::feed_component-returns-in_err-feed-in-Must-clause-inside g t c =
+    let p = err_from_is_err_and c.from_residual-in_err-feed-in-Must.result c.from_residual-in_err-feed-in-Must.ensures.1 in
+    costs_like c.in_err-feed-in-Must.ensures.inside (omega arith) (λ n o. o) (λ n o e. o (cc (p.1, p.2, e)))
+
+pub sequences::feed_component-returns-in_ok-feed-in-Must-clause-inside : goal.sequences::feed_component-returns-in_ok-feed-in-Must-clause-inside
+sequences::feed_component-returns-in_ok-feed-in-Must-clause-inside g t c =
+    costs_like c.feed.ensures.inside (omega arith) (λ n o. o) (λ n o e. never (ap is_short e))
+
+pub additions::end_sequence-returns-then-read-clause-inside : goal.additions::end_sequence-returns-then-read-clause-inside
+additions::end_sequence-returns-then-read-clause-inside g t c =
+    costs_like c.feed_bitmap.ensures.inside (depth_of_additions (fields_seen c.args.root.now) (more_fields_of c.args.ext.now) (fields_seen c.as_slice.result.now) (marked_fields c.args.ext.now c.in-Some.additions c.as_slice.result.now c.in-Some.is c.as_slice.ensures.value)) (λ n o. tt) (λ n o. o)
+
+pub additions::end_sequence-returns-in-Ok-clause-inside : goal.additions::end_sequence-returns-in-Ok-clause-inside
+additions::end_sequence-returns-in-Ok-clause-inside g t c =
+    costs_same refl (omega arith) (λ e. never (ap is_short e))
+
+pub additions::end_sequence-returns-in-Err-clause-inside : goal.additions::end_sequence-returns-in-Err-clause-inside
+additions::end_sequence-returns-in-Err-clause-inside g t c =
+    costs_same refl (omega arith) (λ e. never (ap is_short e))
+
+pub additions::feed_bitmap-returns-in-Ok-clause-inside : goal.additions::feed_bitmap-returns-in-Ok-clause-inside
+additions::feed_bitmap-returns-in-Ok-clause-inside g t c =
+    costs_after c.feed_additions.ensures.inside (omega arith) c.feed_leaf.ensures.inside (omega (arith, c.feed_leaf.ensures.ticked, c.feed_leaf.ensures.rising)) (none_come g.R.ReadLeaves.rules g.R.FeedLeaves.fields g.R.ReadLeaves.ahead g.R.ReadLeaves.is_between (nodes c.args.frames.now) c.requires.empty)
+
+pub additions::feed_bitmap-returns-in-Ok-put-clause-inside : goal.additions::feed_bitmap-returns-in-Ok-put-clause-inside
+additions::feed_bitmap-returns-in-Ok-put-clause-inside g t c =
+    costs_same c.feed_leaf.ensures.inside (omega (arith, c.feed_leaf.ensures.ticked, c.feed_leaf.ensures.rising)) (λ e. rw c.in-Ok-put.ensures refl)
+
+pub additions::feed_bitmap-returns-in-Err-clause-inside : goal.additions::feed_bitmap-returns-in-Err-clause-inside
+additions::feed_bitmap-returns-in-Err-clause-inside g t c =
+    costs_same c.feed_leaf.ensures.inside (omega (arith, c.feed_leaf.ensures.ticked, c.feed_leaf.ensures.rising)) (λ e. never (ap is_short e))
+
+pub additions::feed_bitmap-returns-in-Err-Refused-clause-inside : goal.additions::feed_bitmap-returns-in-Err-Refused-clause-inside
+additions::feed_bitmap-returns-in-Err-Refused-clause-inside g t c =
+    costs_same c.feed_leaf.ensures.inside (omega (arith, c.feed_leaf.ensures.ticked, c.feed_leaf.ensures.rising)) (λ e. never (ap is_short e))
+
+pub additions::feed_bitmap-returns-in-Err-Memory-clause-inside : goal.additions::feed_bitmap-returns-in-Err-Memory-clause-inside
+additions::feed_bitmap-returns-in-Err-Memory-clause-inside g t c =
+    costs_same c.feed_leaf.ensures.inside (omega (arith, c.feed_leaf.ensures.ticked, c.feed_leaf.ensures.rising)) (λ e. never (ap is_short e))
+
+pub additions::feed_additions-returns-in-Ok-clause-inside : goal.additions::feed_additions-returns-in-Ok-clause-inside
+additions::feed_additions-returns-in-Ok-clause-inside g t c =
+    costs_like c.feed_open_fields.ensures.inside (omega arith) (λ n o. o) (λ n o e. never (ap is_short e))
+
+pub additions::feed_additions-returns-in-Ok-put-clause-inside : goal.additions::feed_additions-returns-in-Ok-put-clause-inside
+additions::feed_additions-returns-in-Ok-put-clause-inside g t c =
+    costs_like c.feed_open_fields.ensures.inside (omega arith) (λ n o. o) (λ n o e. rw c.in-Ok-put.ensures (o (cc (c.in-Err-Short.is, c.in-Err-Short.field-0-is))))
+
+pub additions::feed_additions-returns-in-Err-clause-inside : goal.additions::feed_additions-returns-in-Err-clause-inside
+additions::feed_additions-returns-in-Err-clause-inside g t c =
+    costs_like c.feed_open_fields.ensures.inside (omega arith) (λ n o. o) (λ n o e. never (ap is_short e))
+
+pub additions::feed_additions-returns-in-Err-Refused-clause-inside : goal.additions::feed_additions-returns-in-Err-Refused-clause-inside
+additions::feed_additions-returns-in-Err-Refused-clause-inside g t c =
+    costs_like c.feed_open_fields.ensures.inside (omega arith) (λ n o. o) (λ n o e. never (ap is_short e))
+
+pub additions::feed_additions-returns-in-Err-Memory-clause-inside : goal.additions::feed_additions-returns-in-Err-Memory-clause-inside
+additions::feed_additions-returns-in-Err-Memory-clause-inside g t c =
+    costs_like c.feed_open_fields.ensures.inside (omega arith) (λ n o. o) (λ n o e. never (ap is_short e))
+
+pub additions::feed_open_fields-returns-in_err-entry-clause-inside : goal.additions::feed_open_fields-returns-in_err-entry-clause-inside
+additions::feed_open_fields-returns-in_err-entry-clause-inside g t c =
+    let w = left_within g.R.ReadLeaves.rules c.keep_laws.ensures c.keep_feed_laws.ensures g.R.FeedLeaves.fields g.R.ReadLeaves.ahead g.R.ReadLeaves.is_between (fields_seen c.args._root.now) c.args.additions.now c.requires.of_profile c.loop-read.read (nodes c.loop-read.frames) c.requires.reached.0 (g.R.ReadLeaves.rules.to_units c.loop-read.units) (c.loop-read.invariant.0 c.requires.reached.0 c.requires.reached.1) in
+    let i = length c.args.additions.now - c.loop-read.read.presence.left in
+    let lt : i < length c.args.additions.now = omega (arith, w.0, c.loop-read-test.true) in
+    let p = err_from_is_err_and c.from_residual.result c.from_residual.ensures.1 in
+    costs_like (costs_then c.loop-read.invariant.4 c.in_err-entry.ensures.inside (omega arith) (depth_of_addition c.args.additions.now i c.index-additions-index.result lt c.index-additions-index.is) (λ n o. o)) (omega arith) (λ n o. o) (λ n o e. o (cc (p.1, p.2, e)))
+
+pub additions::feed_open_fields-returns-in_err-push-clause-inside : goal.additions::feed_open_fields-returns-in_err-push-clause-inside
+additions::feed_open_fields-returns-in_err-push-clause-inside g t c =
+    let w = left_within g.R.ReadLeaves.rules c.keep_laws.ensures c.keep_feed_laws.ensures g.R.FeedLeaves.fields g.R.ReadLeaves.ahead g.R.ReadLeaves.is_between (fields_seen c.args._root.now) c.args.additions.now c.requires.of_profile c.loop-read.read (nodes c.loop-read.frames) c.requires.reached.0 (g.R.ReadLeaves.rules.to_units c.loop-read.units) (c.loop-read.invariant.0 c.requires.reached.0 c.requires.reached.1) in
+    let i = length c.args.additions.now - c.loop-read.read.presence.left in
+    let lt : i < length c.args.additions.now = omega (arith, w.0, c.loop-read-test.true) in
+    let p = err_from_is_err_and c.from_residual-in_err-push.result c.from_residual-in_err-push.ensures.1 in
+    costs_like (costs_then c.loop-read.invariant.4 c.feed_addition.ensures.inside (omega arith) (depth_of_addition c.args.additions.now i c.index-additions-index.result lt c.index-additions-index.is) (λ n o. o)) (omega arith) (λ n o. o) (λ n o e. absurd (let z : stop.Memory ≡ stop.Short = cc (p.1, p.2, e) in cc))
+
+pub additions::feed_open_fields-returns-clause-inside : goal.additions::feed_open_fields-returns-clause-inside
+additions::feed_open_fields-returns-clause-inside g t c =
+    costs_like c.loop-read.invariant.4 (omega arith) (λ n o. o) (λ n o e. never (ap is_short e))
+
+pub additions::feed_addition-returns-then-not-present-clause-inside : goal.additions::feed_addition-returns-then-not-present-clause-inside
+additions::feed_addition-returns-then-not-present-clause-inside g t c =
+    costs_same refl (omega arith) (λ e. never (ap is_short e))
+
+pub additions::feed_addition-returns-in_err-feed_open_field-clause-inside : goal.additions::feed_addition-returns-in_err-feed_open_field-clause-inside
+additions::feed_addition-returns-in_err-feed_open_field-clause-inside g t c =
+    let p = err_from_is_err_and c.from_residual.result c.from_residual.ensures.1 in
+    costs_like c.feed_open_field.ensures.inside (omega arith) (λ n o. o) (λ n o e. o (cc (p.1, p.2, e)))
+
+pub additions::feed_addition-returns-clause-inside : goal.additions::feed_addition-returns-clause-inside
+additions::feed_addition-returns-clause-inside g t c =
+    costs_like c.feed_open_field.ensures.inside (omega arith) (λ n o. o) (λ n o e. never (ap is_short e))
+
+pub open_fields::feed_open_field-returns-in_err-octets-clause-inside : goal.open_fields::feed_open_field-returns-in_err-octets-clause-inside
+open_fields::feed_open_field-returns-in_err-octets-clause-inside g t c =
+    let p = err_from_is_err_and c.from_residual.result c.from_residual.ensures.1 in
+    record {
+      pays = λ k n h w. (
+          let less : length (g.R.ReadLeaves.rules.to_units c.feed_octets.new.units) ≤ length (g.R.ReadLeaves.rules.to_units c.args.units.now) = omega (arith, c.feed_octets.ensures.ticked, c.feed_octets.ensures.rising) in
+          let q = field_stops g.R.ReadLeaves.rules g.R.FeedLeaves.fields g.R.ReadLeaves.ahead g.R.ReadLeaves.is_between (nodes c.feed_octets.new.frames) w.0 c.args.units.now c.feed_octets.new.units c.in_err-octets.field-0.0 k n c.args.ticks.now.inside c.feed_octets.new.ticks.inside w.2 (c.in_err-octets.ensures.kept w.0 w.1) c.in_err-octets.ensures.after less c.feed_octets.ensures.inside in
+          record { still = q.still; is_open = λ e. q.is_open (cc (p.1, p.2, e)); cost = q.cost });
+    }
+
+pub open_fields::feed_open_field-returns-clause-inside : goal.open_fields::feed_open_field-returns-clause-inside
+open_fields::feed_open_field-returns-clause-inside g t c =
+    record {
+      pays = λ k n h w. (
+          let mid = length (g.R.ReadLeaves.rules.to_units c.feed_octets.new.units) in
+          let content = length (g.R.ReadLeaves.rules.ruling.units c.as_slice.result.now) in
+          let read = same_spells c.keep_field_laws.ensures.same (c.in_ok-octets.ensures.done w.0 w.1) in
+          let field = content_within g.R.ReadLeaves.rules c.keep_laws.ensures c.as_slice.result.now (w.0 ++ g.R.ReadLeaves.rules.to_units c.args.units.now) (g.R.ReadLeaves.rules.to_units c.feed_octets.new.units) (rw (← c.as_slice.ensures.value) at read) in
+          let all = length-append w.0 (g.R.ReadLeaves.rules.to_units c.args.units.now) in
+          let within : content + mid ≤ n + length (g.R.ReadLeaves.rules.to_units c.args.units.now) = omega (arith, field, all, w.2) in
+          let inside : c.add_inside.new.self.inside ≤ c.args.ticks.now.inside + k * content = adds_inside c.args.ticks.now.inside c.feed_octets.new.ticks.inside c.add_inside.new.self.inside (c.read_content-value.new.ticks.taken + c.read_content-value.new.ticks.inside) (k * content) (2 ^ 64 - 1) c.feed_octets.ensures.inside c.add_inside.ensures.inside (c.read_content-value.ensures.cost k h) in
+          record {
+            still = 0;
+            is_open = λ e. (let z : ⊥ = rw e at c.read_content-value.ensures.after in absurd z);
+            cost = field_pays k c.args.ticks.now.inside c.add_inside.new.self.inside n (length (g.R.ReadLeaves.rules.to_units c.args.units.now)) mid content inside within;
+          });
+    }
+
+pub open_fields::read_content-returns-in-Ok-clause-cost : goal.open_fields::read_content-returns-in-Ok-clause-cost
+open_fields::read_content-returns-in-Ok-clause-cost g t c =
+    λ k h.
+    let os = c.args.octets.now in
+    let over : g.R.ReadLeaves.rules.to_units c.over-units.result ≡ g.R.ReadLeaves.rules.ruling.units os = ap g.R.ReadLeaves.rules.to_units c.over-units.ensures ∙ c.keep_laws.ensures.over os c.requires.content.2 in
+    level_of_none c.read_complete.new.ticks.taken c.read_complete.new.ticks.inside c.args.ticks.now.taken c.args.ticks.now.inside k (length (g.R.ReadLeaves.rules.to_units c.over-units.result)) (length (g.R.ReadLeaves.rules.ruling.units os)) (c.read_complete.ensures.cost k h) c.requires.none c.requires.none_inside (ap length over)
+
+pub open_fields::read_content-returns-in-Ok-2-clause-cost : goal.open_fields::read_content-returns-in-Ok-2-clause-cost
+open_fields::read_content-returns-in-Ok-2-clause-cost g t c =
+    λ k h.
+    let os = c.args.octets.now in
+    let over : g.R.ReadLeaves.rules.to_units c.over-units.result ≡ g.R.ReadLeaves.rules.ruling.units os = ap g.R.ReadLeaves.rules.to_units c.over-units.ensures ∙ c.keep_laws.ensures.over os c.requires.content.2 in
+    level_of_none c.read_complete.new.ticks.taken c.read_complete.new.ticks.inside c.args.ticks.now.taken c.args.ticks.now.inside k (length (g.R.ReadLeaves.rules.to_units c.over-units.result)) (length (g.R.ReadLeaves.rules.ruling.units os)) (c.read_complete.ensures.cost k h) c.requires.none c.requires.none_inside (ap length over)
+
+pub open_fields::read_content-returns-in-Err-Short-clause-cost : goal.open_fields::read_content-returns-in-Err-Short-clause-cost
+open_fields::read_content-returns-in-Err-Short-clause-cost g t c =
+    λ k h.
+    let os = c.args.octets.now in
+    let over : g.R.ReadLeaves.rules.to_units c.over-units.result ≡ g.R.ReadLeaves.rules.ruling.units os = ap g.R.ReadLeaves.rules.to_units c.over-units.ensures ∙ c.keep_laws.ensures.over os c.requires.content.2 in
+    level_of_none c.read_complete.new.ticks.taken c.read_complete.new.ticks.inside c.args.ticks.now.taken c.args.ticks.now.inside k (length (g.R.ReadLeaves.rules.to_units c.over-units.result)) (length (g.R.ReadLeaves.rules.ruling.units os)) (c.read_complete.ensures.cost k h) c.requires.none c.requires.none_inside (ap length over)
+
+pub open_fields::read_content-returns-in-Err-Refused-clause-cost : goal.open_fields::read_content-returns-in-Err-Refused-clause-cost
+open_fields::read_content-returns-in-Err-Refused-clause-cost g t c =
+    λ k h.
+    let os = c.args.octets.now in
+    let over : g.R.ReadLeaves.rules.to_units c.over-units.result ≡ g.R.ReadLeaves.rules.ruling.units os = ap g.R.ReadLeaves.rules.to_units c.over-units.ensures ∙ c.keep_laws.ensures.over os c.requires.content.2 in
+    level_of_none c.read_complete.new.ticks.taken c.read_complete.new.ticks.inside c.args.ticks.now.taken c.args.ticks.now.inside k (length (g.R.ReadLeaves.rules.to_units c.over-units.result)) (length (g.R.ReadLeaves.rules.ruling.units os)) (c.read_complete.ensures.cost k h) c.requires.none c.requires.none_inside (ap length over)
+
+pub open_fields::read_content-returns-in-Err-Memory-clause-cost : goal.open_fields::read_content-returns-in-Err-Memory-clause-cost
+open_fields::read_content-returns-in-Err-Memory-clause-cost g t c =
+    λ k h.
+    let os = c.args.octets.now in
+    let over : g.R.ReadLeaves.rules.to_units c.over-units.result ≡ g.R.ReadLeaves.rules.ruling.units os = ap g.R.ReadLeaves.rules.to_units c.over-units.ensures ∙ c.keep_laws.ensures.over os c.requires.content.2 in
+    level_of_none c.read_complete.new.ticks.taken c.read_complete.new.ticks.inside c.args.ticks.now.taken c.args.ticks.now.inside k (length (g.R.ReadLeaves.rules.to_units c.over-units.result)) (length (g.R.ReadLeaves.rules.ruling.units os)) (c.read_complete.ensures.cost k h) c.requires.none c.requires.none_inside (ap length over)
+
+pub open_fields::read_complete-returns-in_err-value-clause-cost : goal.open_fields::read_complete-returns-in_err-value-clause-cost
+open_fields::read_complete-returns-in_err-value-clause-cost g t c =
+    λ k h. level_costs c.feed.ensures.inside (none_open g.R.ReadLeaves.rules g.R.FeedLeaves.fields g.R.ReadLeaves.ahead g.R.ReadLeaves.is_between (nodes c.none-frames.result) c.none-frames.ensures) c.feed.new.ticks.taken c.args.ticks.now.taken (omega (arith, c.feed.ensures.ticked)) k h
+
+pub open_fields::read_complete-returns-in_err-read_padding-clause-cost : goal.open_fields::read_complete-returns-in_err-read_padding-clause-cost
+open_fields::read_complete-returns-in_err-read_padding-clause-cost g t c =
+    λ k h. level_costs c.feed.ensures.inside (none_open g.R.ReadLeaves.rules g.R.FeedLeaves.fields g.R.ReadLeaves.ahead g.R.ReadLeaves.is_between (nodes c.none-frames.result) c.none-frames.ensures) c.feed.new.ticks.taken c.args.ticks.now.taken (omega (arith, c.feed.ensures.ticked)) k h
+
+pub open_fields::read_complete-returns-clause-cost : goal.open_fields::read_complete-returns-clause-cost
+open_fields::read_complete-returns-clause-cost g t c =
+    λ k h.
+    let most : c.take_to.new.ticks.taken ≤ c.args.ticks.now.taken + length (g.R.ReadLeaves.rules.to_units c.args.units.now) = omega (arith, c.feed.ensures.ticked, c.take_to.ensures.ticked) in
+    rw c.take_to.ensures.inside (level_costs c.feed.ensures.inside (none_open g.R.ReadLeaves.rules g.R.FeedLeaves.fields g.R.ReadLeaves.ahead g.R.ReadLeaves.is_between (nodes c.none-frames.result) c.none-frames.ensures) c.take_to.new.ticks.taken c.args.ticks.now.taken most k h)
+
+pub choices::resume_choice-returns-in-Some-Chosen-clause-inside : goal.choices::resume_choice-returns-in-Some-Chosen-clause-inside
+choices::resume_choice-returns-in-Some-Chosen-clause-inside g t c =
+    costs_like c.feed_choice.ensures.inside (depth_of_alternatives (alternatives_seen c.args.root.now) (more_alternatives_of c.args.ext.now)) (λ n o. open_chosen g.R.ReadLeaves.rules g.R.FeedLeaves.fields g.R.ReadLeaves.ahead g.R.ReadLeaves.is_between c.args.node c.in-Some-Chosen.field-0 c.in-Some-Chosen.index (nodes c.args.frames.now) n c.in-Some-Chosen.is c.in-Some-Chosen.field-0-is o) (λ n o. o)
+
+pub choices::resume_choice-returns-in-Some-Added-clause-inside : goal.choices::resume_choice-returns-in-Some-Added-clause-inside
+choices::resume_choice-returns-in-Some-Added-clause-inside g t c =
+    costs_like c.feed_added.ensures.inside (omega arith) (λ n o. open_added g.R.ReadLeaves.rules g.R.FeedLeaves.fields g.R.ReadLeaves.ahead g.R.ReadLeaves.is_between c.args.node c.in-Some-Added.field-0 c.in-Some-Added.index (nodes c.args.frames.now) n c.in-Some-Added.is c.in-Some-Added.field-0-is o) (λ n o. o)
+
+pub choices::resume_choice-returns-in-Some-Start-clause-inside : goal.choices::resume_choice-returns-in-Some-Start-clause-inside
+choices::resume_choice-returns-in-Some-Start-clause-inside g t c =
+    costs_like c.start_choice.ensures.inside (omega arith) (λ n o. tt) (λ n o. o)
+
+pub choices::resume_choice-returns-in-None-clause-inside : goal.choices::resume_choice-returns-in-None-clause-inside
+choices::resume_choice-returns-in-None-clause-inside g t c =
+    costs_like c.start_choice-in-None.ensures.inside (omega arith) (λ n o. tt) (λ n o. o)
+
+pub choices::start_choice-returns-in-Ok-Root-clause-inside : goal.choices::start_choice-returns-in-Ok-Root-clause-inside
+choices::start_choice-returns-in-Ok-Root-clause-inside g t c =
+    costs_after c.feed_choice.ensures.inside (depth_of_alternatives (alternatives_seen c.args.root.now) (more_alternatives_of c.args.ext.now)) c.feed_leaf.ensures.inside (omega (arith, c.feed_leaf.ensures.ticked, c.feed_leaf.ensures.rising)) (none_open g.R.ReadLeaves.rules g.R.FeedLeaves.fields g.R.ReadLeaves.ahead g.R.ReadLeaves.is_between (nodes c.args.frames.now) c.requires.empty)
+
+pub choices::start_choice-returns-in-Ok-Added-clause-inside : goal.choices::start_choice-returns-in-Ok-Added-clause-inside
+choices::start_choice-returns-in-Ok-Added-clause-inside g t c =
+    costs_after c.feed_added.ensures.inside (omega arith) c.feed_leaf.ensures.inside (omega (arith, c.feed_leaf.ensures.ticked, c.feed_leaf.ensures.rising)) (none_come g.R.ReadLeaves.rules g.R.FeedLeaves.fields g.R.ReadLeaves.ahead g.R.ReadLeaves.is_between (nodes c.args.frames.now) c.requires.empty)
+
+pub choices::start_choice-returns-in-Ok-clause-inside : goal.choices::start_choice-returns-in-Ok-clause-inside
+choices::start_choice-returns-in-Ok-clause-inside g t c =
+    costs_same c.feed_leaf.ensures.inside (omega (arith, c.feed_leaf.ensures.ticked, c.feed_leaf.ensures.rising)) (λ e. rw c.in-Ok.ensures refl)
+
+pub choices::start_choice-returns-in-Err-clause-inside : goal.choices::start_choice-returns-in-Err-clause-inside
+choices::start_choice-returns-in-Err-clause-inside g t c =
+    costs_same c.feed_leaf.ensures.inside (omega (arith, c.feed_leaf.ensures.ticked, c.feed_leaf.ensures.rising)) (λ e. never (ap is_short e))
+
+pub choices::start_choice-returns-in-Err-Refused-clause-inside : goal.choices::start_choice-returns-in-Err-Refused-clause-inside
+choices::start_choice-returns-in-Err-Refused-clause-inside g t c =
+    costs_same c.feed_leaf.ensures.inside (omega (arith, c.feed_leaf.ensures.ticked, c.feed_leaf.ensures.rising)) (λ e. never (ap is_short e))
+
+pub choices::start_choice-returns-in-Err-Memory-clause-inside : goal.choices::start_choice-returns-in-Err-Memory-clause-inside
+choices::start_choice-returns-in-Err-Memory-clause-inside g t c =
+    costs_same c.feed_leaf.ensures.inside (omega (arith, c.feed_leaf.ensures.ticked, c.feed_leaf.ensures.rising)) (λ e. never (ap is_short e))
+
+pub choices::feed_choice-returns-in-Ok-new-clause-inside : goal.choices::feed_choice-returns-in-Ok-new-clause-inside
+choices::feed_choice-returns-in-Ok-new-clause-inside g t c =
+    costs_like c.feed.ensures.inside (depth_of_alternative c.args.root.now c.args.index c.index-root-index.result c.requires.inside c.index-root-index.is) (λ n o. o) (λ n o e. never (ap is_short e))
+
+pub choices::feed_choice-returns-in-Ok-clause-inside : goal.choices::feed_choice-returns-in-Ok-clause-inside
+choices::feed_choice-returns-in-Ok-clause-inside g t c =
+    costs_like c.feed.ensures.inside (depth_of_alternative c.args.root.now c.args.index c.index-root-index.result c.requires.inside c.index-root-index.is) (λ n o. o) (λ n o e. never (ap is_short e))
+
+pub choices::feed_choice-returns-in-Ok-put-clause-inside : goal.choices::feed_choice-returns-in-Ok-put-clause-inside
+choices::feed_choice-returns-in-Ok-put-clause-inside g t c =
+    costs_like c.feed.ensures.inside (depth_of_alternative c.args.root.now c.args.index c.index-root-index.result c.requires.inside c.index-root-index.is) (λ n o. o) (λ n o e. rw c.in-Ok-put.ensures (o (cc (c.in-Err-Short.is, c.in-Err-Short.field-0-is))))
+
+pub choices::feed_choice-returns-in-Err-Short-clause-inside : goal.choices::feed_choice-returns-in-Err-Short-clause-inside
+choices::feed_choice-returns-in-Err-Short-clause-inside g t c =
+    costs_like c.feed.ensures.inside (depth_of_alternative c.args.root.now c.args.index c.index-root-index.result c.requires.inside c.index-root-index.is) (λ n o. o) (λ n o e. never (ap is_short e))
+
+pub choices::feed_choice-returns-in-Err-Refused-clause-inside : goal.choices::feed_choice-returns-in-Err-Refused-clause-inside
+choices::feed_choice-returns-in-Err-Refused-clause-inside g t c =
+    costs_like c.feed.ensures.inside (depth_of_alternative c.args.root.now c.args.index c.index-root-index.result c.requires.inside c.index-root-index.is) (λ n o. o) (λ n o e. never (ap is_short e))
+
+pub choices::feed_choice-returns-clause-inside : goal.choices::feed_choice-returns-clause-inside
+choices::feed_choice-returns-clause-inside g t c =
+    costs_like c.feed.ensures.inside (depth_of_alternative c.args.root.now c.args.index c.index-root-index.result c.requires.inside c.index-root-index.is) (λ n o. o) (λ n o e. never (ap is_short e))
+
+pub choices::feed_added-returns-in-Ok-new-clause-inside : goal.choices::feed_added-returns-in-Ok-new-clause-inside
+choices::feed_added-returns-in-Ok-new-clause-inside g t c =
+    let inside : c.args.index < length c.as_slice-additions.result.now = rw c.as_slice-additions.ensures.value (addition_inside g.R.ReadLeaves.rules c.keep_laws.ensures g.R.FeedLeaves.fields g.R.ReadLeaves.ahead g.R.ReadLeaves.is_between c.args.root.now c.args.ext.now c.requires.of_profile c.in-Some.additions c.in-Some.is c.args.index (nodes c.args.frames.now) c.requires.reached.0 (g.R.ReadLeaves.rules.to_units c.args.units.now) c.requires.reached.1) in
+    let one = depth_of_added_one c.as_slice-additions.result.now c.args.index c.index-additions-index.result inside c.index-additions-index.is in
+    let all = depth_of_added (alternatives_seen c.args.root.now) (more_alternatives_of c.args.ext.now) (alternatives_seen c.as_slice-additions.result.now) (additions_are c.args.ext.now c.in-Some.additions c.as_slice-additions.result.now c.in-Some.is c.as_slice-additions.ensures.value) in
+    costs_like c.feed_open_field.ensures.inside (omega (arith, one, all)) (λ n o. o) (λ n o e. never (ap is_short e))
+
+pub choices::feed_added-returns-in-Ok-clause-inside : goal.choices::feed_added-returns-in-Ok-clause-inside
+choices::feed_added-returns-in-Ok-clause-inside g t c =
+    let inside : c.args.index < length c.as_slice-additions.result.now = rw c.as_slice-additions.ensures.value (addition_inside g.R.ReadLeaves.rules c.keep_laws.ensures g.R.FeedLeaves.fields g.R.ReadLeaves.ahead g.R.ReadLeaves.is_between c.args.root.now c.args.ext.now c.requires.of_profile c.in-Some.additions c.in-Some.is c.args.index (nodes c.args.frames.now) c.requires.reached.0 (g.R.ReadLeaves.rules.to_units c.args.units.now) c.requires.reached.1) in
+    let one = depth_of_added_one c.as_slice-additions.result.now c.args.index c.index-additions-index.result inside c.index-additions-index.is in
+    let all = depth_of_added (alternatives_seen c.args.root.now) (more_alternatives_of c.args.ext.now) (alternatives_seen c.as_slice-additions.result.now) (additions_are c.args.ext.now c.in-Some.additions c.as_slice-additions.result.now c.in-Some.is c.as_slice-additions.ensures.value) in
+    costs_like c.feed_open_field.ensures.inside (omega (arith, one, all)) (λ n o. o) (λ n o e. never (ap is_short e))
+
+pub choices::feed_added-returns-in-Ok-put-clause-inside : goal.choices::feed_added-returns-in-Ok-put-clause-inside
+choices::feed_added-returns-in-Ok-put-clause-inside g t c =
+    let inside : c.args.index < length c.as_slice-additions.result.now = rw c.as_slice-additions.ensures.value (addition_inside g.R.ReadLeaves.rules c.keep_laws.ensures g.R.FeedLeaves.fields g.R.ReadLeaves.ahead g.R.ReadLeaves.is_between c.args.root.now c.args.ext.now c.requires.of_profile c.in-Some.additions c.in-Some.is c.args.index (nodes c.args.frames.now) c.requires.reached.0 (g.R.ReadLeaves.rules.to_units c.args.units.now) c.requires.reached.1) in
+    let one = depth_of_added_one c.as_slice-additions.result.now c.args.index c.index-additions-index.result inside c.index-additions-index.is in
+    let all = depth_of_added (alternatives_seen c.args.root.now) (more_alternatives_of c.args.ext.now) (alternatives_seen c.as_slice-additions.result.now) (additions_are c.args.ext.now c.in-Some.additions c.as_slice-additions.result.now c.in-Some.is c.as_slice-additions.ensures.value) in
+    costs_like c.feed_open_field.ensures.inside (omega (arith, one, all)) (λ n o. o) (λ n o e. rw c.in-Ok-put.ensures (o (cc (c.in-Err-Short.is, c.in-Err-Short.field-0-is))))
+
+pub choices::feed_added-returns-in-Err-Short-clause-inside : goal.choices::feed_added-returns-in-Err-Short-clause-inside
+choices::feed_added-returns-in-Err-Short-clause-inside g t c =
+    let inside : c.args.index < length c.as_slice-additions.result.now = rw c.as_slice-additions.ensures.value (addition_inside g.R.ReadLeaves.rules c.keep_laws.ensures g.R.FeedLeaves.fields g.R.ReadLeaves.ahead g.R.ReadLeaves.is_between c.args.root.now c.args.ext.now c.requires.of_profile c.in-Some.additions c.in-Some.is c.args.index (nodes c.args.frames.now) c.requires.reached.0 (g.R.ReadLeaves.rules.to_units c.args.units.now) c.requires.reached.1) in
+    let one = depth_of_added_one c.as_slice-additions.result.now c.args.index c.index-additions-index.result inside c.index-additions-index.is in
+    let all = depth_of_added (alternatives_seen c.args.root.now) (more_alternatives_of c.args.ext.now) (alternatives_seen c.as_slice-additions.result.now) (additions_are c.args.ext.now c.in-Some.additions c.as_slice-additions.result.now c.in-Some.is c.as_slice-additions.ensures.value) in
+    costs_like c.feed_open_field.ensures.inside (omega (arith, one, all)) (λ n o. o) (λ n o e. never (ap is_short e))
+
+pub choices::feed_added-returns-in-Err-Refused-clause-inside : goal.choices::feed_added-returns-in-Err-Refused-clause-inside
+choices::feed_added-returns-in-Err-Refused-clause-inside g t c =
+    let inside : c.args.index < length c.as_slice-additions.result.now = rw c.as_slice-additions.ensures.value (addition_inside g.R.ReadLeaves.rules c.keep_laws.ensures g.R.FeedLeaves.fields g.R.ReadLeaves.ahead g.R.ReadLeaves.is_between c.args.root.now c.args.ext.now c.requires.of_profile c.in-Some.additions c.in-Some.is c.args.index (nodes c.args.frames.now) c.requires.reached.0 (g.R.ReadLeaves.rules.to_units c.args.units.now) c.requires.reached.1) in
+    let one = depth_of_added_one c.as_slice-additions.result.now c.args.index c.index-additions-index.result inside c.index-additions-index.is in
+    let all = depth_of_added (alternatives_seen c.args.root.now) (more_alternatives_of c.args.ext.now) (alternatives_seen c.as_slice-additions.result.now) (additions_are c.args.ext.now c.in-Some.additions c.as_slice-additions.result.now c.in-Some.is c.as_slice-additions.ensures.value) in
+    costs_like c.feed_open_field.ensures.inside (omega (arith, one, all)) (λ n o. o) (λ n o e. never (ap is_short e))
+
+pub choices::feed_added-returns-clause-inside : goal.choices::feed_added-returns-clause-inside
+choices::feed_added-returns-clause-inside g t c =
+    let inside : c.args.index < length c.as_slice-additions.result.now = rw c.as_slice-additions.ensures.value (addition_inside g.R.ReadLeaves.rules c.keep_laws.ensures g.R.FeedLeaves.fields g.R.ReadLeaves.ahead g.R.ReadLeaves.is_between c.args.root.now c.args.ext.now c.requires.of_profile c.in-Some.additions c.in-Some.is c.args.index (nodes c.args.frames.now) c.requires.reached.0 (g.R.ReadLeaves.rules.to_units c.args.units.now) c.requires.reached.1) in
+    let one = depth_of_added_one c.as_slice-additions.result.now c.args.index c.index-additions-index.result inside c.index-additions-index.is in
+    let all = depth_of_added (alternatives_seen c.args.root.now) (more_alternatives_of c.args.ext.now) (alternatives_seen c.as_slice-additions.result.now) (additions_are c.args.ext.now c.in-Some.additions c.as_slice-additions.result.now c.in-Some.is c.as_slice-additions.ensures.value) in
+    costs_like c.feed_open_field.ensures.inside (omega (arith, one, all)) (λ n o. o) (λ n o e. never (ap is_short e))
+
+-- ---- before the first turn of a loop
+
+pub lists::feed_elements-loop-alloc-init : goal.lists::feed_elements-loop-alloc-init
+lists::feed_elements-loop-alloc-init g t c = (λ all h. h, refl, c.requires.at_unit, omega arith, costs_none)
+
+pub lists::feed_fragment-loop-list-init : goal.lists::feed_fragment-loop-list-init
+lists::feed_fragment-loop-list-init g t c = (λ s p all h. h, refl, c.requires.at_unit, refl, omega arith, omega arith, costs_none)
+
+pub sequences::feed_components-loop-alloc-init : goal.sequences::feed_components-loop-alloc-init
+sequences::feed_components-loop-alloc-init g t c = (λ more p all h. h, refl, c.requires.at_unit, omega arith, costs_none)
+
+pub additions::feed_open_fields-loop-read-init : goal.additions::feed_open_fields-loop-read-init
+additions::feed_open_fields-loop-read-init g t c = (λ all h. h, refl, c.requires.at_unit, omega arith, costs_none)

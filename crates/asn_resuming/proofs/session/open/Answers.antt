@@ -14,8 +14,8 @@ returns g c =
     elim c.if-branch.branch [
       | then-branch w ↦
           (let told : TellsIfNone r.ruling t true = subst (λ (b : Bool). TellsIfNone r.ruling t b) w.if-branch.true c.in_ok-may_be_empty.ensures in
-          opened_whole r laws g.R.FeedLeaves.fields g.R.ReadLeaves.ahead g.R.ReadLeaves.is_between t _ refl good c.none.ensures refl refl refl w.end-is told)
+          opened_whole r laws g.R.FeedLeaves.fields g.R.ReadLeaves.ahead g.R.ReadLeaves.is_between t _ refl good c.none.ensures refl refl c.none-2.ensures.taken c.none-2.ensures.inside refl w.end-is told)
       | else-branch w ↦
           (let told : TellsIfNone r.ruling t false = subst (λ (b : Bool). TellsIfNone r.ruling t b) w.if-branch.false c.in_ok-may_be_empty.ensures in
-          opened_empty r laws g.R.FeedLeaves.fields g.R.ReadLeaves.ahead g.R.ReadLeaves.is_between t _ refl good c.none.ensures refl refl refl (record { taken = 0 }) refl w.end-is told)
+          opened_empty r laws g.R.FeedLeaves.fields g.R.ReadLeaves.ahead g.R.ReadLeaves.is_between t _ refl good c.none.ensures refl refl c.none-2.ensures.taken c.none-2.ensures.inside refl (record { taken = 0 }) refl w.end-is told)
     ]

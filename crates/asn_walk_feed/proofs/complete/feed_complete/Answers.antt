@@ -6,6 +6,7 @@ use Rattle.asn_values.specs.View.{shape_of, datum_of}
 use Rattle.asn_walk.proofs.OpenRead.{value_stops, fill_leads, left_fewer}
 use Rattle.asn_walk_feed.specs.Nodes.{nodes}
 use Rattle.asn_walk_feed.proofs.CompleteRead.{filling_kept}
+use Rattle.asn_walk_feed.proofs.Levels.{is_short, never, costs_like, costs_last, none_open}
 use Rattle.asn_walk_feed.proofs.complete.feed_complete.Goals as goal
 
 pub feed-requires : goal.feed-requires
@@ -51,3 +52,16 @@ returns-clause-done g c =
     let b = (c.units_left-rest.ensures ∙ ap (λ (xs : List ℕ). length (g.R.ReadLeaves.rules.to_units xs)) c.ahead-2.ensures) in
     let n : (us : List ℕ) → length us ≡ c.args.taken → c.from.result + c.units_left-left.result - c.units_left-rest.result ≡ length (us ++ g.R.ReadLeaves.rules.to_units c.args.units.now) - length (g.R.ReadLeaves.rules.to_units c.feed.new.units) = λ us e. omega (arith, a, b, e, length-append us (g.R.ReadLeaves.rules.to_units c.args.units.now), c.from.ensures) in
     λ us k e. (fill_leads g.R.ReadLeaves.rules c.keep_laws.ensures (shape_of c.args.ty.now) c.requires.of_profile (datum_of c.in_ok-value.value) (us ++ g.R.ReadLeaves.rules.to_units c.args.units.now) (g.R.ReadLeaves.rules.to_units c.feed.new.units) (c.in_ok-value.ensures.done us k)).done c.in_ok-feed_leaf.field-0 (g.R.ReadLeaves.rules.to_units c.feed_leaf.new.units) (rw (n us e, c.none-begun.ensures, c.keep_feed_laws.ensures.none) at c.in_ok-feed_leaf.ensures.done)
+
+pub returns-in_err-value-clause-inside : goal.returns-in_err-value-clause-inside
+returns-in_err-value-clause-inside g c =
+    let p = err_from_is_err_and c.from_residual.result c.from_residual.ensures.1 in
+    costs_like c.feed.ensures.inside (omega arith) (λ n o. o) (λ n o e. o (cc (p.1, p.2, e)))
+
+pub returns-in_err-feed_leaf-clause-inside : goal.returns-in_err-feed_leaf-clause-inside
+returns-in_err-feed_leaf-clause-inside g c =
+    costs_last c.feed.ensures.inside (omega arith) (λ e. none_open g.R.ReadLeaves.rules g.R.FeedLeaves.fields g.R.ReadLeaves.ahead g.R.ReadLeaves.is_between (nodes c.feed.new.frames) c.in_ok-value.ensures.emptied) c.feed_leaf.ensures.inside (omega (arith, c.feed_leaf.ensures.ticked, c.feed_leaf.ensures.rising))
+
+pub returns-clause-inside : goal.returns-clause-inside
+returns-clause-inside g c =
+    costs_last c.feed.ensures.inside (omega arith) (λ e. never (ap is_short e)) c.feed_leaf.ensures.inside (omega (arith, c.feed_leaf.ensures.ticked, c.feed_leaf.ensures.rising))

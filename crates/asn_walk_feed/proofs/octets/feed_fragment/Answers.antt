@@ -1,4 +1,4 @@
-use Rattle.std.proofs.Common.{◌≡◌, refl, arith}
+use Rattle.std.proofs.Common.{◌≡◌, refl, ◌∙◌, arith}
 use Rattle.std.proofs.lemmas.Result.{err_from_is_err_and}
 use Rattle.asn_rules.specs.declared.stop.Stop.TheVariants as stop
 use Rattle.asn_walk_feed.proofs.OctetsRead.{octet_ahead}
@@ -30,4 +30,5 @@ loop-octets-preserved g c =
       inv.3,
       omega (arith, inv.4, c.feed_leaf.ensures.ticked, c.feed_leaf.ensures.rising),
       omega (arith, inv.5, c.feed_leaf.ensures.rising),
+      c.feed_leaf.ensures.inside ∙ inv.6,
     )

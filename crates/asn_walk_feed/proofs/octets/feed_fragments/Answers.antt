@@ -1,4 +1,4 @@
-use Rattle.std.proofs.Common.{◌≡◌, ◌<◌, ◌+◌, length, refl, arith}
+use Rattle.std.proofs.Common.{◌≡◌, ◌<◌, ◌+◌, length, refl, ◌∙◌, arith}
 use Rattle.std.proofs.lemmas.Result.{err_from_is_err_and}
 use Rattle.asn_rules.specs.declared.stop.Stop.TheVariants as stop
 use Rattle.asn_walk.proofs.Listing.{steps_left}
@@ -52,6 +52,7 @@ loop-alloc-preserved g c =
       omega (arith, inv.1, c.feed_fragment.ensures.ticked, c.next_fragment.ensures.ticked),
       c.next_fragment.ensures.at_unit,
       omega (arith, inv.3, c.feed_fragment.ensures.rising, c.next_fragment.ensures.rising),
+      c.next_fragment.ensures.inside ∙ c.feed_fragment.ensures.inside ∙ inv.4,
     )
 
 pub loop-alloc-smaller : goal.loop-alloc-smaller

@@ -1,4 +1,4 @@
-use Rattle.std.proofs.Common.{◌≤◌, ◌+◌, ℕ, List, length}
+use Rattle.std.proofs.Common.{◌≡◌, ◌≤◌, ◌+◌, ℕ, List, length}
 use Rattle.asn_walk.proofs.Listing.{steps_left}
 use Rattle.asn_walk_feed.specs.Feeding.{Ticked}
 use Rattle.asn_walk_feed.specs.Octets.{OctetsGoOn}
@@ -7,7 +7,7 @@ use Rattle.asn_walk_feed.proofs.octets.feed_fragments.Given as goal
 abbrev pub invariant-loop-alloc : goal.invariant-loop-alloc
 invariant-loop-alloc g l =
     ((all : List ℕ) → OctetsGoOn g.R.ReadLeaves.rules (g.K.InFragments.coding l.kind) g.R.ReadLeaves.ahead g.R.ReadLeaves.is_between l.fn.octets all (g.R.ReadLeaves.rules.to_units l.fn.units) → OctetsGoOn g.R.ReadLeaves.rules (g.K.InFragments.coding l.kind) g.R.ReadLeaves.ahead g.R.ReadLeaves.is_between l.octets all (g.R.ReadLeaves.rules.to_units l.units))
-    × Ticked g.R.ReadLeaves.rules l.fn.units l.fn.ticks l.units l.ticks × g.R.ReadLeaves.rules.at_unit l.units × (l.fn.ticks ≤ l.ticks)
+    × Ticked g.R.ReadLeaves.rules l.fn.units l.fn.ticks.taken l.units l.ticks.taken × g.R.ReadLeaves.rules.at_unit l.units × (l.fn.ticks.taken ≤ l.ticks.taken) × (l.ticks.inside ≡ l.fn.ticks.inside)
 
 abbrev pub decreases-loop-alloc : goal.decreases-loop-alloc
 decreases-loop-alloc g l = steps_left (g.R.ReadLeaves.ahead l.octets.fragments) + length (g.R.ReadLeaves.rules.to_units l.units)

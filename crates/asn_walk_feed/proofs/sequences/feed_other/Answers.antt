@@ -1,4 +1,4 @@
-use Rattle.std.proofs.Common.{◌≡◌, ◌++◌, ◌∷◌, [], ℕ, List, inr, sym, ap, ◌∙◌, subst}
+use Rattle.std.proofs.Common.{◌≡◌, ◌++◌, ◌∷◌, [], ℕ, List, inr, refl, sym, ap, ◌∙◌, subst, arith}
 use Rattle.asn_values.specs.View.{shape_of, datum_of}
 use Rattle.asn_rules.specs.Languages.{Spells, Short}
 use Rattle.asn_rules.specs.Stops.{Stops}
@@ -10,6 +10,7 @@ use Rattle.asn_walk_feed.specs.Roots.{OtherTook}
 use Rattle.asn_walk_feed.specs.declared.frame.Frame.{Frame}
 use Rattle.asn_walk_feed.specs.declared.frame.Frame.TheVariants as frame
 use Rattle.asn_walk_feed.proofs.Goings.{taken_is}
+use Rattle.asn_walk_feed.proofs.Levels.{is_short, never, costs_same}
 use Rattle.asn_walk_feed.proofs.Scalars.{other_node}
 use Rattle.asn_walk_feed.proofs.sequences.feed_other.Goals as goal
 
@@ -61,3 +62,23 @@ returns-in-Err-Refused-clause-stop g c = λ us k.
     let w = stop.Refused c.in-Err-Refused.left c.in-Err-Refused.why in
     let a : Stops g.R.ReadLeaves.rules.ruling.fielding (OthersOf g.R.ReadLeaves.rules (datum_of c.args.default.now) (shape_of c.args.ty.now)) (g.R.ReadLeaves.rules.to_units c.begun_of-begun.result ++ g.R.ReadLeaves.rules.to_units c.args.units.now) w = rw c.in-Err-Refused.field-0-is at c.in-Err-Refused.ensures.stop in
     rw (c.in-Err-Refused.left-is, c.in-Err-Refused.why-is) (subst (λ (xs : List ℕ). Stops g.R.ReadLeaves.rules.ruling.fielding (OthersOf g.R.ReadLeaves.rules (datum_of c.args.default.now) (shape_of c.args.ty.now)) (xs ++ g.R.ReadLeaves.rules.to_units c.args.units.now) w) (ap g.R.ReadLeaves.rules.to_units c.begun_of-begun.ensures ∙ x.waits.come) a)
+
+pub returns-in-Ok-clause-inside : goal.returns-in-Ok-clause-inside
+returns-in-Ok-clause-inside g c =
+    costs_same c.feed_leaf.ensures.inside (omega (arith, c.feed_leaf.ensures.ticked, c.feed_leaf.ensures.rising)) (λ e. never (ap is_short e))
+
+pub returns-in-Ok-put-clause-inside : goal.returns-in-Ok-put-clause-inside
+returns-in-Ok-put-clause-inside g c =
+    costs_same c.feed_leaf.ensures.inside (omega (arith, c.feed_leaf.ensures.ticked, c.feed_leaf.ensures.rising)) (λ e. rw c.in-Ok-put.ensures refl)
+
+pub returns-in-Err-clause-inside : goal.returns-in-Err-clause-inside
+returns-in-Err-clause-inside g c =
+    costs_same c.feed_leaf.ensures.inside (omega (arith, c.feed_leaf.ensures.ticked, c.feed_leaf.ensures.rising)) (λ e. never (ap is_short e))
+
+pub returns-in-Err-Refused-clause-inside : goal.returns-in-Err-Refused-clause-inside
+returns-in-Err-Refused-clause-inside g c =
+    costs_same c.feed_leaf.ensures.inside (omega (arith, c.feed_leaf.ensures.ticked, c.feed_leaf.ensures.rising)) (λ e. never (ap is_short e))
+
+pub returns-in-Err-Memory-clause-inside : goal.returns-in-Err-Memory-clause-inside
+returns-in-Err-Memory-clause-inside g c =
+    costs_same c.feed_leaf.ensures.inside (omega (arith, c.feed_leaf.ensures.ticked, c.feed_leaf.ensures.rising)) (λ e. never (ap is_short e))

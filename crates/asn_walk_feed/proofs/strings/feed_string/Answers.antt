@@ -1,8 +1,9 @@
-use Rattle.std.proofs.Common.{◌++◌, ℕ, List, length, sym, ap, ◌∙◌}
+use Rattle.std.proofs.Common.{◌++◌, ℕ, List, length, sym, ap, ◌∙◌, arith}
 use Rattle.std.proofs.lemmas.Result.{err_from_is_err_and, IfOk-weaker, IfErr-weaker}
 use Rattle.asn_values.specs.View.{shape_of}
 use Rattle.asn_walk_feed.specs.Nodes.{nodes}
 use Rattle.asn_walk_feed.proofs.FieldsRead.{stands_after}
+use Rattle.asn_walk_feed.proofs.Levels.{costs_same, string_kept}
 use Rattle.asn_walk_feed.proofs.StringsRead.{took_items, keeps_items, keeps_no_frames}
 use Rattle.asn_walk_feed.proofs.strings.feed_string.Goals as goal
 
@@ -40,3 +41,14 @@ returns-clause-after g c =
 pub returns-clause-kept : goal.returns-clause-kept
 returns-clause-kept g c =
     IfErr-weaker c.string_of.result _ _ (λ why s us k. keeps_no_frames g.R.ReadLeaves.rules g.R.FeedLeaves.fields g.R.ReadLeaves.ahead g.R.ReadLeaves.is_between (shape_of c.args.ty.now) (nodes c.feed_octets.new.frames) (us ++ g.R.ReadLeaves.rules.to_units c.args.units.now) c.units_left-left.result why s) c.string_of.ensures.after
+
+pub returns-in_err-items-clause-inside : goal.returns-in_err-items-clause-inside
+returns-in_err-items-clause-inside g c =
+    let p = err_from_is_err_and c.from_residual.result c.from_residual.ensures.1 in
+    let us = c.requires.reached.0 in
+    let took = took_items g.R.ReadLeaves.rules g.R.FeedLeaves.fields g.R.ReadLeaves.ahead g.R.ReadLeaves.is_between (shape_of c.args.ty.now) c.requires.string (nodes c.args.frames.now) us c.requires.reached.1 in
+    costs_same c.feed_octets.ensures.inside (omega (arith, c.feed_octets.ensures.ticked, c.feed_octets.ensures.rising)) (λ e. string_kept g.R.ReadLeaves.rules g.R.FeedLeaves.fields g.R.ReadLeaves.ahead g.R.ReadLeaves.is_between (g.R.FeedLeaves.fields.string (shape_of c.args.ty.now)) (nodes c.feed_octets.new.frames) (us ++ g.R.ReadLeaves.rules.to_units c.args.units.now) c.in_err-items.field-0.0 (c.in_err-items.ensures.kept us took) (cc (p.1, p.2, e)))
+
+pub returns-clause-inside : goal.returns-clause-inside
+returns-clause-inside g c =
+    costs_same c.feed_octets.ensures.inside (omega (arith, c.feed_octets.ensures.ticked, c.feed_octets.ensures.rising)) (λ e. (let z : ⊥ = rw e at c.string_of.ensures.after in absurd z))

@@ -38,9 +38,8 @@ TOP = os.path.dirname(os.path.dirname(os.path.abspath(__file__)))
 sys.path.insert(0, f"{TOP}/tests")
 from room import files_of
 
-# the test programs that are parts of one (tests/programs/checks), and those that stand alone
-PARTS_OF_ONE = ("rows", "hostile", "texts", "types", "names", "fields", "published")
-ALONE = ("memory", "memory_texts")
+# the test programs that are parts of one (tests/programs/checks)
+PARTS_OF_ONE = ("rows", "hostile", "texts", "types", "names", "fields", "published", "memory", "memory_texts")
 FIRST, TOOL = "crates/asn_first/out/asn_first", "crates/asn_tool/out/asn_tool"
 
 
@@ -188,12 +187,10 @@ def compare_one(part, words, name, given, wanted):
 
 def tests_of_sources(part, room):
     """The tests that want nothing of the proofs: what they build is built without one, from the sources."""
-    words = [f"tests/programs/{it}" for it in ("outcomes", "checks", *ALONE)]
-    step(part, ["tests/room.py", "build", room, *words])
-    programs = {name: [f"{room}/test_checks", name] for name in PARTS_OF_ONE} | {name: [f"{room}/test_{name}"] for name in ALONE}
-    for name, words in programs.items():
-        if os.path.isfile(words[0]):
-            compare(part, words, name)
+    step(part, ["tests/room.py", "build", room, "tests/programs/outcomes", "tests/programs/checks"])
+    for name in PARTS_OF_ONE:
+        if os.path.isfile(f"{room}/test_checks"):
+            compare(part, [f"{room}/test_checks", name], name)
     step(part, ["tests/octet_counts.py"])
     step(part, ["tests/published_rows.py"])
 

@@ -29,7 +29,8 @@ def lacking(crate, as_they_stand):
 
 def build(crate, room):
     """Proves the crate, and compiles what was proved: the status of the first step that failed, or 0."""
-    words = crate.words(["--jobs", str(rt.processors())], keeps=False)
+    # (each job more would read all libraries below once more)
+    words = crate.words(["--jobs", "1"], keeps=False)
     with tempfile.TemporaryDirectory(prefix=f"rt-proved-{os.getpid()}-") as kept:
         steps = [["check", *words, "-o", f"{kept}/checked"]]
         for flag in ("--logic-built", "--jobs"):

@@ -36,11 +36,11 @@ from concurrent.futures import ThreadPoolExecutor
 sys.dont_write_bytecode = True
 TOP = os.path.dirname(os.path.dirname(os.path.abspath(__file__)))
 sys.path.insert(0, f"{TOP}/tests")
+from kit import rt
 from room import files_of
 
-# the test programs that are parts of one (tests/programs/checks), and those that stand alone
-PARTS_OF_ONE = ("rows", "hostile", "texts", "types", "names", "fields", "published")
-ALONE = ("memory", "memory_texts")
+# the test programs that are parts of one (tests/programs/checks)
+PARTS_OF_ONE = ("rows", "hostile", "texts", "types", "names", "fields", "published", "memory", "memory_texts")
 FIRST, TOOL = "crates/asn_first/out/asn_first", "crates/asn_tool/out/asn_tool"
 
 
@@ -70,9 +70,11 @@ def say(text):
         print(text, flush=True)
 
 
-def begin(words, given=subprocess.DEVNULL):
-    say(f"== {' '.join(words)}")
-    return subprocess.Popen(words, stdin=given, stdout=subprocess.PIPE, stderr=subprocess.STDOUT, text=True, errors="replace")
+def begin(words, given=subprocess.DEVNULL, more={}):
+    """Begins a command, with these variables in its environment too."""
+    say(f"== {' '.join([*(f'{name}={it}' for name, it in more.items()), *words])}")
+    env = {**os.environ, **more}
+    return subprocess.Popen(words, stdin=given, stdout=subprocess.PIPE, stderr=subprocess.STDOUT, text=True, errors="replace", env=env)
 
 
 def ended(ran):
@@ -109,6 +111,17 @@ def step(part, words):
     follow(part, begin(words))
 
 
+# the most memory that a check of a crate is given
+MEMORY = 6_000_000_000
+
+
+def begin_proofs(left):
+    """Begins `rt ci`: one job a crate, since each job more reads all libraries below once more, and as many crates side by
+    side as there are processors but those that are left to others, and as memory holds."""
+    lanes = max(1, min(rt.processors() - left, int(rt.free() // MEMORY)))
+    return begin(["rt", "ci"], more={"RT_JOBS": str(lanes)})
+
+
 PROVED = re.compile(r"rt: (\w+) (?:proved$|is kept: )")
 
 
@@ -134,7 +147,7 @@ def proofs_and_edits(parts, once_proved):
                 # (it has ended, and its status counts)
                 pass
 
-    follow(parts["proofs"], begin(["rt", "ci"]), name_to_edits)
+    follow(parts["proofs"], begin_proofs(1), name_to_edits)
     try:
         tried.stdin.close()
     except BrokenPipeError:
@@ -144,7 +157,7 @@ def proofs_and_edits(parts, once_proved):
 
 
 def proofs(part):
-    step(part, ["rt", "ci"])
+    follow(part, begin_proofs(0))
 
 
 def edits(part):
@@ -188,12 +201,10 @@ def compare_one(part, words, name, given, wanted):
 
 def tests_of_sources(part, room):
     """The tests that want nothing of the proofs: what they build is built without one, from the sources."""
-    words = [f"tests/programs/{it}" for it in ("outcomes", "checks", *ALONE)]
-    step(part, ["tests/room.py", "build", room, *words])
-    programs = {name: [f"{room}/test_checks", name] for name in PARTS_OF_ONE} | {name: [f"{room}/test_{name}"] for name in ALONE}
-    for name, words in programs.items():
-        if os.path.isfile(words[0]):
-            compare(part, words, name)
+    step(part, ["tests/room.py", "build", room, "tests/programs/outcomes", "tests/programs/checks"])
+    for name in PARTS_OF_ONE:
+        if os.path.isfile(f"{room}/test_checks"):
+            compare(part, [f"{room}/test_checks", name], name)
     step(part, ["tests/octet_counts.py"])
     step(part, ["tests/published_rows.py"])
 

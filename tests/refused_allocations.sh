@@ -3,9 +3,9 @@
 #
 # usage: tests/refused_allocations.sh ROOM
 #
-# The programs `memory`, `memory_texts` and `checks` of tests/programs, which tests/room.py has built in ROOM, make the
-# calls of the libraries. Of the first two one call has to answer `Memory`, and each other call, and that one when it is
-# made again, what it answers where no allocation is refused. `refused` makes the calls on the rows of
+# The program `checks` of tests/programs, which tests/room.py has built in ROOM, makes the calls of the libraries. Of its
+# parts `memory` and `memory_texts` one call has to answer `Memory`, and each other call, and that one when it is made
+# again, what it answers where no allocation is refused. `refused` makes the calls on the rows of
 # tests/programs/rows again and again, and says itself which allocation is refused. The runner asn_first and the program
 # asn_tool, as `rt ci` has built them, have to end with `memory` and status 3.
 set -euo pipefail
@@ -45,8 +45,9 @@ run() { # the program; what it writes is in $work/out and $work/err, and `r` in 
     <"$given" >"$work/out" 2>"$work/err" 3>"$work/refused" || status=$?
 }
 
-refuse_each() { # the program, the folder of what it reads and writes, and the function that looks at a run with a refusal
-  local program=$1 crate look=$3 words=()
+refuse_each() { # the program, the folder of what it reads and writes, the function that looks at a run with a refusal, and
+  # words, where the folder has none
+  local program=$1 crate look=$3 words=("${@:4}")
   folder=$2
   crate=$(basename "$1")
   given=$folder/stdin
@@ -70,10 +71,13 @@ refuse_each() { # the program, the folder of what it reads and writes, and the f
 call='(memory|arguments): [A-Za-z ]+: [A-Za-z_:]+'
 line=$'\n'
 calls=0 # runs in which a call was refused memory
+no_words='Error: out of memory'
 
 one_call_tells() {
   local said
   said=$(<"$work/out")
+  # the words of the command line take memory too: where it is refused, no call is made
+  if [ "$status" = 1 ] && [ -z "$said" ] && [ "$(<"$work/err")" = "$no_words" ]; then return; fi
   # some calls make allocations that they can do without: nothing is told then, and each answer is right
   if [ "$status" = 0 ] && cmp -s "$work/out" "$folder/stdout"; then return; fi
   [ "$status" = 0 ] && [[ $said =~ ^${call}${line}again${line}done$ || $said =~ ^again${line}${call}${line}done$ ]] &&
@@ -89,7 +93,7 @@ told_of() { # what was called for, and the names of the calls of which each has 
 }
 
 : >"$work/told"
-refuse_each "$room/test_memory" tests/programs/memory one_call_tells
+refuse_each "$room/test_checks" tests/programs/memory one_call_tells memory
 for of in message simple composed; do
   told_of "$of" Checked::new
   told_of "$of in PER" encode decode decode_into Planned::new feed
@@ -105,7 +109,7 @@ told_of names sequence choice list of text misfit
 told_of 'missing name' sequence
 told_of 'unknown name' sequence item
 
-refuse_each "$room/test_memory_texts" tests/programs/memory_texts one_call_tells
+refuse_each "$room/test_checks" tests/programs/memory_texts one_call_tells memory_texts
 told_of value to_json from_json
 told_of shape from_json
 told_of module read print print_type run

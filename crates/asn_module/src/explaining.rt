@@ -85,21 +85,32 @@ fn may_follow(alloc: Global, before: &str, token: &str) -> Result<bool, AllocErr
     }
 }
 
+/// Adds what a token is called to those before it, where a module can go on with it after a text.
+fn push_expected(
+    alloc: Global,
+    all: &mut String,
+    before: &str,
+    token: &str,
+    called: &str,
+) -> Result<(), AllocError> {
+    if !may_follow(alloc, before, token)? {
+        return Ok(());
+    }
+    if !all.is_empty() {
+        all.push_str(" or ")?;
+    }
+    all.push_str(called)
+}
+
 /// The tokens with which a module can go on after a text, in words; nothing where the text has a fault itself.
 fn expected(alloc: Global, before: &str) -> Result<String, AllocError> {
     let mut all = String::new(alloc);
-    if may_follow(alloc, before, "NULL")? {
-        all.push_str("a type")?;
-    } else if may_follow(alloc, before, "N")? {
-        all.push_str("a name")?;
+    push_expected(alloc, &mut all, before, "NULL", "a type")?;
+    if all.is_empty() {
+        push_expected(alloc, &mut all, before, "N", "a name")?;
     }
-    for (token, called) in TOKENS {
-        if may_follow(alloc, before, token)? {
-            if !all.is_empty() {
-                all.push_str(" or ")?;
-            }
-            all.push_str(called)?;
-        }
+    for (token, called) in &TOKENS {
+        push_expected(alloc, &mut all, before, token, called)?;
     }
     Ok(all)
 }

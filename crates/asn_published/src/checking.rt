@@ -25,7 +25,7 @@ impl<'t> Writer<'t> {
     pub fn check_members(
         &mut self,
         alloc: Global,
-        known: Known<'_, 't>,
+        known: &Known<'_, 't>,
         layout: &Layout,
         holder: Holder,
     ) -> Result<(), Refusal> {
@@ -46,7 +46,7 @@ impl<'t> Writer<'t> {
     /// Refuses more than `most` members, at the first that is one too many.
     fn check_count(
         &mut self,
-        known: Known<'_, 't>,
+        known: &Known<'_, 't>,
         members: &[Placed],
         what: &'static str,
         most: usize,
@@ -64,7 +64,7 @@ impl<'t> Writer<'t> {
     fn check_names(
         &mut self,
         alloc: Global,
-        known: Known<'_, 't>,
+        known: &Known<'_, 't>,
         members: &[Placed],
     ) -> Result<(), Refusal> {
         let mut taken: HashMap<String, ()> = HashMap::new(alloc);
@@ -78,7 +78,7 @@ impl<'t> Writer<'t> {
     }
 
     /// Goes to the node of a member, where a fault is told from now on, and gives its line.
-    fn go_to(&mut self, known: Known<'_, 't>, index: usize) -> u32 {
+    fn go_to(&mut self, known: &Known<'_, 't>, index: usize) -> u32 {
         let Some(member) = known.forest.member(index) else {
             return 0;
         };

@@ -26,7 +26,7 @@ impl<'t> Writer<'t> {
     pub fn default_text(
         &mut self,
         alloc: Global,
-        known: Known<'_, 't>,
+        known: &Known<'_, 't>,
         index: usize,
         start: usize,
         end: usize,
@@ -64,7 +64,7 @@ impl<'t> Writer<'t> {
     fn default_number(
         &self,
         alloc: Global,
-        known: Known<'_, 't>,
+        known: &Known<'_, 't>,
         scope: Scope,
         start: usize,
         end: usize,
@@ -89,7 +89,7 @@ impl<'t> Writer<'t> {
     fn default_item(
         &self,
         alloc: Global,
-        known: Known<'_, 't>,
+        known: &Known<'_, 't>,
         name: &str,
     ) -> Result<Option<String>, Refusal> {
         let Some((module, braces)) = self.last.named else {

@@ -15,7 +15,7 @@ impl<'t> Writer<'t> {
     pub fn write_members(
         &mut self,
         alloc: Global,
-        known: Known<'_, 't>,
+        known: &Known<'_, 't>,
         index: usize,
         node: &Node<'t>,
         depth: usize,
@@ -54,7 +54,7 @@ impl<'t> Writer<'t> {
     fn layout_of_node(
         &mut self,
         alloc: Global,
-        known: Known<'_, 't>,
+        known: &Known<'_, 't>,
         node: &Node<'t>,
         holder: Holder,
         written: (usize, usize),
@@ -85,7 +85,7 @@ impl<'t> Writer<'t> {
     fn in_order(
         &mut self,
         alloc: Global,
-        known: Known<'_, 't>,
+        known: &Known<'_, 't>,
         index: usize,
         node: &Node<'t>,
         holder: Holder,
@@ -111,7 +111,7 @@ impl<'t> Writer<'t> {
     fn push_members(
         &mut self,
         alloc: Global,
-        known: Known<'_, 't>,
+        known: &Known<'_, 't>,
         tasks: &mut Vec<Task<'t>>,
         holder: Holder,
         layout: &Layout,
@@ -140,7 +140,7 @@ impl<'t> Writer<'t> {
     fn push_additions(
         &mut self,
         alloc: Global,
-        known: Known<'_, 't>,
+        known: &Known<'_, 't>,
         tasks: &mut Vec<Task<'t>>,
         holder: Holder,
         layout: &Layout,
@@ -159,7 +159,7 @@ impl<'t> Writer<'t> {
     fn push_member(
         &mut self,
         alloc: Global,
-        known: Known<'_, 't>,
+        known: &Known<'_, 't>,
         tasks: &mut Vec<Task<'t>>,
         one: (Placed, bool),
         comma: bool,
@@ -189,7 +189,7 @@ impl<'t> Writer<'t> {
     fn remark_default(
         &mut self,
         alloc: Global,
-        known: Known<'_, 't>,
+        known: &Known<'_, 't>,
         index: usize,
         need: Need,
     ) -> Result<(), Refusal> {
@@ -201,7 +201,7 @@ impl<'t> Writer<'t> {
 }
 
 /// Whether the members of a node are an addition group.
-fn is_group(known: Known<'_, '_>, node: &Node<'_>) -> bool {
+fn is_group(known: &Known<'_, '_>, node: &Node<'_>) -> bool {
     match known.values.world.tokens_of(node.module) {
         Some(tokens) => {
             let at = after_tags(tokens, node.at);

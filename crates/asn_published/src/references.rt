@@ -1,5 +1,4 @@
 //! Writes lists, and names of types with further constraints.
-use crate::widths::is_zero;
 use crate::writer::{Known, Task, Writer};
 use asn_published_read::nodes::{Member, Node, Shape};
 use asn_published_read::refusal::{Refusal, Why, refused};
@@ -18,7 +17,7 @@ impl<'t> Writer<'t> {
     pub fn write_list(
         &mut self,
         alloc: Global,
-        known: Known<'_, 't>,
+        known: &Known<'_, 't>,
         index: usize,
         node: &Node<'t>,
         depth: usize,
@@ -49,7 +48,7 @@ impl<'t> Writer<'t> {
     fn put_list(
         &mut self,
         alloc: Global,
-        known: Known<'_, 't>,
+        known: &Known<'_, 't>,
         index: usize,
         seen: Seen,
         element: usize,
@@ -57,11 +56,10 @@ impl<'t> Writer<'t> {
         depth: usize,
     ) -> Result<(), Refusal> {
         self.out.push_str(" SEQUENCE")?;
-        self.put_size(alloc, known, index, &seen, line)?;
         let end = Task::List {
             element,
             marked: seen.marked,
-            is_empty: is_zero(&seen, line)?,
+            is_empty: self.put_size(alloc, known, index, &seen, line)?,
         };
         self.sizes.push(seen.sizes)?;
         self.ask_for_element(element, end, depth)
@@ -86,7 +84,7 @@ impl<'t> Writer<'t> {
     pub fn write_reference(
         &mut self,
         alloc: Global,
-        known: Known<'_, 't>,
+        known: &Known<'_, 't>,
         index: usize,
         node: &Node<'t>,
         to: usize,
@@ -112,7 +110,7 @@ impl<'t> Writer<'t> {
     fn write_last_level(
         &mut self,
         alloc: Global,
-        known: Known<'_, 't>,
+        known: &Known<'_, 't>,
         index: usize,
         line: u32,
     ) -> Result<(), Refusal> {
@@ -130,7 +128,7 @@ impl<'t> Writer<'t> {
     fn take_info(
         &mut self,
         alloc: Global,
-        known: Known<'_, 't>,
+        known: &Known<'_, 't>,
         index: usize,
         to: usize,
         depth: usize,
@@ -153,7 +151,7 @@ impl<'t> Writer<'t> {
     /// Asks for the alternative of a CHOICE (X.680, "selection type").
     pub fn write_selection(
         &mut self,
-        known: Known<'_, 't>,
+        known: &Known<'_, 't>,
         node: &Node<'t>,
         of: usize,
         at: usize,
@@ -173,7 +171,7 @@ impl<'t> Writer<'t> {
     }
 
     /// Writes the name of a type, of one of its cycle with a level less.
-    fn put_name(&mut self, alloc: Global, known: Known<'_, 't>, to: usize) -> Result<(), Refusal> {
+    fn put_name(&mut self, alloc: Global, known: &Known<'_, 't>, to: usize) -> Result<(), Refusal> {
         let name = match known.names.get(to) {
             Some(name) => name.as_str(),
             None => "",
@@ -191,7 +189,7 @@ impl<'t> Writer<'t> {
     fn write_constrained(
         &mut self,
         alloc: Global,
-        known: Known<'_, 't>,
+        known: &Known<'_, 't>,
         index: usize,
         node: &Node<'t>,
         to: usize,
@@ -232,7 +230,7 @@ impl<'t> Writer<'t> {
     fn write_list_again(
         &mut self,
         alloc: Global,
-        known: Known<'_, 't>,
+        known: &Known<'_, 't>,
         index: usize,
         own: Seen,
         to: usize,
@@ -254,7 +252,7 @@ impl<'t> Writer<'t> {
     fn put_further_size(
         &mut self,
         alloc: Global,
-        known: Known<'_, 't>,
+        known: &Known<'_, 't>,
         index: usize,
         own: Seen,
         line: u32,
@@ -263,8 +261,7 @@ impl<'t> Writer<'t> {
             return Ok(());
         }
         let both = seen_with(alloc, &self.last, own, line)?;
-        self.put_size(alloc, known, index, &both, line)?;
-        self.last.no_bits = is_zero(&both, line)?;
+        self.last.no_bits = self.put_size(alloc, known, index, &both, line)?;
         self.last.left = both.sizes;
         self.last.marked = both.marked;
         Ok(())
@@ -273,7 +270,7 @@ impl<'t> Writer<'t> {
 
 /// The alternative that a node selects, by the identifier at `at`, of the CHOICE that another node stands for.
 fn selected<'t>(
-    known: Known<'_, 't>,
+    known: &Known<'_, 't>,
     node: &Node<'t>,
     of: usize,
     at: usize,
@@ -298,7 +295,7 @@ fn selected<'t>(
 }
 
 /// The node of the element of the list that a name stands for.
-fn element_of(known: Known<'_, '_>, to: usize) -> Option<usize> {
+fn element_of(known: &Known<'_, '_>, to: usize) -> Option<usize> {
     let mut to = to;
     for _ in 0..MOST_SELECTIONS {
         let Some(Some(first)) = known.firsts.get(to) else {
@@ -319,7 +316,7 @@ fn seen_with(alloc: Global, info: &Info, own: Seen, line: u32) -> Result<Seen, R
 }
 
 /// What is known of a type that is referred to.
-fn info_of(alloc: Global, known: Known<'_, '_>, to: usize, line: u32) -> Result<Info, Refusal> {
+fn info_of(alloc: Global, known: &Known<'_, '_>, to: usize, line: u32) -> Result<Info, Refusal> {
     let states = if known.is_below(to) {
         known.below
     } else {

@@ -9,7 +9,7 @@ use std::alloc::{AllocError, Global};
 /// Writes a type, unless the profile refused it before.
 fn write_one<'t>(
     alloc: Global,
-    known: Known<'_, 't>,
+    known: &Known<'_, 't>,
     first: usize,
     is_refused: bool,
     writer: &mut Writer<'t>,
@@ -41,7 +41,7 @@ pub(crate) struct Outcome<'t> {
 /// Writes a type, of which `first` is the first node, after `written` nodes of other types.
 pub(crate) fn outcome_of<'t>(
     alloc: Global,
-    known: Known<'_, 't>,
+    known: &Known<'_, 't>,
     first: usize,
     is_refused: bool,
     written: usize,
@@ -68,6 +68,36 @@ pub(crate) struct Settled {
     pub written: usize,
 }
 
+/// A type that was written.
+fn ready(writer: Writer<'_>) -> Settled {
+    let mut info = writer.last;
+    info.nodes = writer.nodes;
+    info.depth = writer.depth;
+    info.status = writer.status;
+    Settled {
+        state: State::Ready(info),
+        line: Some(writer.out),
+        status: writer.status,
+        notes: writer.notes,
+        uses: writer.uses,
+        written: writer.written,
+    }
+}
+
+/// A type that is refused, as the note tells.
+fn refused(writer: Writer<'_>, note: Note) -> Result<Settled, AllocError> {
+    let mut writer = writer;
+    writer.notes.push(note)?;
+    Ok(Settled {
+        state: State::Refused,
+        line: None,
+        status: Status::Refused,
+        notes: writer.notes,
+        uses: writer.uses,
+        written: writer.written,
+    })
+}
+
 /// What became of a type that the text `file` assigns on the line `own_line`. A fault in another text is told on that
 /// line.
 pub(crate) fn settle_type<'t>(
@@ -78,50 +108,16 @@ pub(crate) fn settle_type<'t>(
     outcome: Outcome<'t>,
 ) -> Result<Settled, AllocError> {
     let Outcome { writer, refusal } = outcome;
-    let Writer {
-        out,
-        stack: _,
-        last,
-        notes,
-        status,
-        nodes,
-        depth,
-        passed: _,
-        written,
-        selections: _,
-        without_bits: _,
-        sizes: _,
-        node,
-        uses,
-    } = writer;
-    let mut settled = Settled {
-        state: State::Refused,
-        line: None,
-        status: Status::Refused,
-        notes,
-        uses,
-        written,
+    let Some((line, why)) = refusal else {
+        return Ok(ready(writer));
     };
-    match refusal {
-        None => {
-            let mut info = last;
-            info.nodes = nodes;
-            info.depth = depth;
-            info.status = status;
-            settled.state = State::Ready(info);
-            settled.line = Some(out);
-            settled.status = status;
-        }
-        Some((line, why)) => {
-            let is_here = line != 0 && file_of(sources, node) == file;
-            settled.notes.push(Note {
-                line: if is_here { line } else { own_line },
-                component: path_of(alloc, &sources.forest, node)?,
-                remark: Remark::Refused(why),
-            })?;
-        }
-    }
-    Ok(settled)
+    let is_here = line != 0 && file_of(sources, writer.node) == file;
+    let note = Note {
+        line: if is_here { line } else { own_line },
+        component: path_of(alloc, &sources.forest, writer.node)?,
+        remark: Remark::Refused(why),
+    };
+    refused(writer, note)
 }
 
 /// Which of the texts has a node, from 0.

@@ -15,12 +15,32 @@ use asn_published_types::report::Remark;
 use asn_published_types::seen::{Mode, Seen};
 use std::alloc::Global;
 
+/// What is known of an INTEGER of which this is left.
+fn integer_info(seen: Seen, named: Option<(usize, usize)>, no_bits: bool) -> Info {
+    let mut info = Info::of(Base::Integer);
+    info.no_bits = no_bits;
+    info.left = seen.numbers;
+    info.marked = seen.marked;
+    info.named = named;
+    info
+}
+
+/// What is known of a string of which this is left.
+fn string_info(base: Base, seen: Seen, no_bits: bool) -> Info {
+    let mut info = Info::of(base);
+    info.no_bits = no_bits;
+    info.left = seen.sizes;
+    info.letters = seen.letters;
+    info.marked = seen.marked;
+    info
+}
+
 impl<'t> Writer<'t> {
     /// What the constraints of a node leave, whose values stand in `scope`.
     pub fn seen_of(
         &mut self,
         alloc: Global,
-        known: Known<'_, 't>,
+        known: &Known<'_, 't>,
         index: usize,
         node: &Node<'t>,
         mode: Mode,
@@ -37,7 +57,7 @@ impl<'t> Writer<'t> {
     pub fn write_integer(
         &mut self,
         alloc: Global,
-        known: Known<'_, 't>,
+        known: &Known<'_, 't>,
         index: usize,
         node: &Node<'t>,
         braces: Option<usize>,
@@ -55,19 +75,15 @@ impl<'t> Writer<'t> {
     pub fn put_integer(
         &mut self,
         alloc: Global,
-        known: Known<'_, 't>,
+        known: &Known<'_, 't>,
         index: usize,
         seen: Seen,
         named: Option<(usize, usize)>,
         line: u32,
     ) -> Result<(), Refusal> {
         self.put_numbers(alloc, known, index, &seen, line)?;
-        let mut info = Info::of(Base::Integer);
-        info.no_bits = is_one_number(&seen, line)?;
-        info.left = seen.numbers;
-        info.marked = seen.marked;
-        info.named = named;
-        self.last = info;
+        let no_bits = is_one_number(&seen, line)?;
+        self.last = integer_info(seen, named, no_bits);
         Ok(())
     }
 
@@ -75,7 +91,7 @@ impl<'t> Writer<'t> {
     fn put_numbers(
         &mut self,
         alloc: Global,
-        known: Known<'_, 't>,
+        known: &Known<'_, 't>,
         index: usize,
         seen: &Seen,
         line: u32,
@@ -95,7 +111,7 @@ impl<'t> Writer<'t> {
     pub fn write_string(
         &mut self,
         alloc: Global,
-        known: Known<'_, 't>,
+        known: &Known<'_, 't>,
         index: usize,
         node: &Node<'t>,
     ) -> Result<(), Refusal> {
@@ -113,7 +129,7 @@ impl<'t> Writer<'t> {
     pub fn put_string(
         &mut self,
         alloc: Global,
-        known: Known<'_, 't>,
+        known: &Known<'_, 't>,
         index: usize,
         base: Base,
         seen: Seen,
@@ -121,39 +137,35 @@ impl<'t> Writer<'t> {
     ) -> Result<(), Refusal> {
         let is_fixed = is_fixed(&seen, line)?;
         self.put_kind(alloc, known, index, base, &seen, is_fixed, line)?;
-        self.put_size(alloc, known, index, &seen, line)?;
-        let mut info = Info::of(base);
-        info.no_bits = is_zero(&seen, line)?;
-        info.left = seen.sizes;
-        info.letters = seen.letters;
-        info.marked = seen.marked;
-        self.last = info;
+        let no_bits = self.put_size(alloc, known, index, &seen, line)?;
+        self.last = string_info(base, seen, no_bits);
         Ok(())
     }
 
-    /// Writes what is left of the size of a string or a list.
+    /// Writes what is left of the size of a string or a list, and tells whether that is 0 alone.
     pub fn put_size(
         &mut self,
         alloc: Global,
-        known: Known<'_, 't>,
+        known: &Known<'_, 't>,
         index: usize,
         seen: &Seen,
         line: u32,
-    ) -> Result<(), Refusal> {
+    ) -> Result<bool, Refusal> {
         if let Some(lengths) = lengths_between(&seen.sizes, seen.marked, line)? {
             if lengths.cut {
                 self.remark(alloc, known, index, Remark::SizeToMax)?;
             }
             write_size(alloc, &mut self.out, lengths, seen.marked)?;
         }
-        self.remark_gap(alloc, known, index, &seen.sizes)
+        self.remark_gap(alloc, known, index, &seen.sizes)?;
+        is_zero(seen, line)
     }
 
     /// Writes the kind of a string: named bits have a fixed size, or are asked for as they are.
     fn put_kind(
         &mut self,
         alloc: Global,
-        known: Known<'_, 't>,
+        known: &Known<'_, 't>,
         index: usize,
         base: Base,
         seen: &Seen,
@@ -179,7 +191,7 @@ impl<'t> Writer<'t> {
     fn remark_bits(
         &mut self,
         alloc: Global,
-        known: Known<'_, 't>,
+        known: &Known<'_, 't>,
         index: usize,
         line: u32,
     ) -> Result<(), Refusal> {
@@ -193,7 +205,7 @@ impl<'t> Writer<'t> {
     fn remark_gap(
         &mut self,
         alloc: Global,
-        known: Known<'_, 't>,
+        known: &Known<'_, 't>,
         index: usize,
         left: &Option<Ranges>,
     ) -> Result<(), Refusal> {
@@ -207,7 +219,7 @@ impl<'t> Writer<'t> {
     fn remark_letters(
         &mut self,
         alloc: Global,
-        known: Known<'_, 't>,
+        known: &Known<'_, 't>,
         index: usize,
         kind: Letters,
         seen: &Seen,

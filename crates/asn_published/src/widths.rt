@@ -26,7 +26,7 @@ impl<'t> Writer<'t> {
     /// Ends a list, whose element was written last.
     pub fn end_list(
         &mut self,
-        known: Known<'_, 't>,
+        known: &Known<'_, 't>,
         element: usize,
         marked: bool,
         is_empty: bool,

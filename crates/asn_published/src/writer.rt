@@ -208,7 +208,7 @@ impl<'t> Writer<'t> {
     pub fn remark(
         &mut self,
         alloc: Global,
-        known: Known<'_, 't>,
+        known: &Known<'_, 't>,
         index: usize,
         remark: Remark,
     ) -> Result<(), Refusal> {
@@ -243,7 +243,7 @@ impl<'t> Writer<'t> {
     /// Takes nodes from those that may be written of all types.
     pub fn take_nodes(
         &mut self,
-        known: Known<'_, 't>,
+        known: &Known<'_, 't>,
         nodes: usize,
         line: u32,
     ) -> Result<(), Refusal> {
@@ -272,7 +272,7 @@ impl<'t> Writer<'t> {
     pub fn write_type(
         &mut self,
         alloc: Global,
-        known: Known<'_, 't>,
+        known: &Known<'_, 't>,
         first: usize,
     ) -> Result<(), Refusal>
         // A type that is written has no more nodes and levels than the profile allows.
@@ -287,7 +287,7 @@ impl<'t> Writer<'t> {
     }
 
     /// Writes all that is still to be written; after a limit was passed, up to the first refusal.
-    fn take_all(&mut self, alloc: Global, known: Known<'_, 't>) -> Result<(), Refusal> {
+    fn take_all(&mut self, alloc: Global, known: &Known<'_, 't>) -> Result<(), Refusal> {
         for _ in 0..u64::MAX {
             let Some(task) = self.stack.pop() else {
                 break;
@@ -302,7 +302,12 @@ impl<'t> Writer<'t> {
     }
 
     /// Writes what is next.
-    fn take(&mut self, alloc: Global, known: Known<'_, 't>, task: Task<'t>) -> Result<(), Refusal> {
+    fn take(
+        &mut self,
+        alloc: Global,
+        known: &Known<'_, 't>,
+        task: Task<'t>,
+    ) -> Result<(), Refusal> {
         match task {
             Task::Node(index, depth) => {
                 self.node = index;
@@ -333,7 +338,7 @@ impl<'t> Writer<'t> {
     pub fn remark_dropped(
         &mut self,
         alloc: Global,
-        known: Known<'_, 't>,
+        known: &Known<'_, 't>,
         index: usize,
         seen: &Seen,
     ) -> Result<(), Refusal> {
@@ -347,7 +352,7 @@ impl<'t> Writer<'t> {
     fn write_need(
         &mut self,
         alloc: Global,
-        known: Known<'_, 't>,
+        known: &Known<'_, 't>,
         index: usize,
         need: Need,
     ) -> Result<(), Refusal> {

@@ -12,7 +12,7 @@ impl<'t> Writer<'t> {
     pub fn write_node(
         &mut self,
         alloc: Global,
-        known: Known<'_, 't>,
+        known: &Known<'_, 't>,
         index: usize,
         depth: usize,
     ) -> Result<(), Refusal> {
@@ -40,7 +40,7 @@ impl<'t> Writer<'t> {
     fn write_leaf(
         &mut self,
         alloc: Global,
-        known: Known<'_, 't>,
+        known: &Known<'_, 't>,
         index: usize,
         node: &Node<'t>,
     ) -> Result<(), Refusal> {
@@ -75,7 +75,7 @@ impl<'t> Writer<'t> {
     fn write_plain(
         &mut self,
         alloc: Global,
-        known: Known<'_, 't>,
+        known: &Known<'_, 't>,
         index: usize,
         node: &Node<'t>,
         name: &str,
@@ -94,7 +94,7 @@ impl<'t> Writer<'t> {
     fn write_octets(
         &mut self,
         alloc: Global,
-        known: Known<'_, 't>,
+        known: &Known<'_, 't>,
         index: usize,
         remark: Remark,
     ) -> Result<(), Refusal> {
@@ -108,7 +108,7 @@ impl<'t> Writer<'t> {
     fn write_content(
         &mut self,
         alloc: Global,
-        known: Known<'_, 't>,
+        known: &Known<'_, 't>,
         index: usize,
         node: &Node<'t>,
         what: &'static str,
@@ -129,7 +129,7 @@ impl<'t> Writer<'t> {
     fn write_items(
         &mut self,
         alloc: Global,
-        known: Known<'_, 't>,
+        known: &Known<'_, 't>,
         index: usize,
         node: &Node<'t>,
         braces: usize,
@@ -190,7 +190,7 @@ impl<'t> Writer<'t> {
 }
 
 /// Whether types without an extension mark have one at their end.
-pub(crate) fn is_extensible(known: Known<'_, '_>, node: &Node<'_>) -> bool {
+pub(crate) fn is_extensible(known: &Known<'_, '_>, node: &Node<'_>) -> bool {
     match known.values.world.modules.get(node.module) {
         Some(module) => module.extensible,
         None => false,

@@ -108,7 +108,7 @@ impl Writing {
         };
         let known = known_of(&*sources, options, &*self, entry, level);
         let (file, own_line) = (known.file, known.own_line);
-        let outcome = outcome_of(alloc, known, *first, is_refused, self.nodes)?;
+        let outcome = outcome_of(alloc, &known, *first, is_refused, self.nodes)?;
         let settled = settle_type(alloc, sources, file, own_line, outcome)?;
         self.nodes = settled.written;
         Ok(Some(settled))

@@ -106,25 +106,44 @@ fn values_of_sequence(tokens: &Tokens<'_>, second: usize) -> Values {
     }
 }
 
-/// The values of the type that begins with a word at `at`, after its tags.
+/// The values of types by the word with which a type begins.
+const VALUES_OF_WORDS: [(&str, Values); 22] = [
+    ("BOOLEAN", Values::Boolean),
+    ("INTEGER", Values::Integer),
+    ("ENUMERATED", Values::Enumerated),
+    ("NULL", Values::Null),
+    ("REAL", Values::Real),
+    ("BIT", Values::Bits),
+    ("OCTET", Values::Octets),
+    ("OBJECT", Values::Identifier),
+    ("RELATIVE-OID", Values::Identifier),
+    ("CHOICE", Values::Choice),
+    ("EXTERNAL", Values::Sequence),
+    ("EMBEDDED", Values::Sequence),
+    ("CHARACTER", Values::Sequence),
+    ("INSTANCE", Values::Sequence),
+    ("ANY", Values::Any),
+    ("DATE", Values::Text),
+    ("TIME", Values::Text),
+    ("TIME-OF-DAY", Values::Text),
+    ("DATE-TIME", Values::Text),
+    ("DURATION", Values::Text),
+    ("OID-IRI", Values::Text),
+    ("RELATIVE-OID-IRI", Values::Text),
+];
+
+/// The values of the type that begins with a word at `at`, after its tags: of any other word than those above, letters.
 fn values_of(tokens: &Tokens<'_>, at: usize) -> Values {
-    match tokens.text(at) {
-        "BOOLEAN" => Values::Boolean,
-        "INTEGER" => Values::Integer,
-        "ENUMERATED" => Values::Enumerated,
-        "NULL" => Values::Null,
-        "REAL" => Values::Real,
-        "BIT" => Values::Bits,
-        "OCTET" => Values::Octets,
-        "OBJECT" | "RELATIVE-OID" => Values::Identifier,
-        "CHOICE" => Values::Choice,
-        "SEQUENCE" | "SET" => values_of_sequence(tokens, next(at)),
-        "EXTERNAL" | "EMBEDDED" | "CHARACTER" | "INSTANCE" => Values::Sequence,
-        "ANY" => Values::Any,
-        "DATE" | "TIME" | "TIME-OF-DAY" | "DATE-TIME" | "DURATION" => Values::Text,
-        "OID-IRI" | "RELATIVE-OID-IRI" => Values::Text,
-        _ => Values::Letters,
+    let begins = tokens.text(at);
+    if matches!(begins, "SEQUENCE" | "SET") {
+        return values_of_sequence(tokens, next(at));
     }
+    for (word, values) in &VALUES_OF_WORDS {
+        if *word == begins {
+            return *values;
+        }
+    }
+    Values::Letters
 }
 
 impl<'t> World<'t> {

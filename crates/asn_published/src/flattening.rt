@@ -289,7 +289,7 @@ pub fn flatten(alloc: Global, texts: &[&str], options: Options) -> Result<Flatte
     // The text is one that `asn_module` accepts, as the module that is beside it.
     ensures { IfOk result (λ f. Accepted (string_bytes f.text) (types_view f.module)) }
 {
-    flattened(alloc, texts, options, None)
+    flatten_at_most(alloc, texts, options, None)
 }
 
 /// What `flatten` answers, of a module that is no larger than `most`, as `asn_module::read_within` counts it.
@@ -305,11 +305,11 @@ pub fn flatten_within(
     ensures accepted { IfOk result (λ f. Accepted (string_bytes f.text) (types_view f.module)) }
     ensures within { IfOk result (λ f. types_size (types_view f.module).types ≤ most) }
 {
-    flattened(alloc, texts, options, Some(most))
+    flatten_at_most(alloc, texts, options, Some(most))
 }
 
 /// The module, which is no larger where there is a bound.
-fn flattened(
+fn flatten_at_most(
     alloc: Global,
     texts: &[&str],
     options: Options,

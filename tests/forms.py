@@ -218,10 +218,13 @@ def counts(count, program, room):
     count.add({key: int(number) for key, number in told.items()} == wanted, f"check --stats: {told}, {wanted}")
     ran = run([*words, "--in", "base64"], b"x\n" + base64.b64encode(bytes.fromhex(octets[1].decode())) + b"\n")
     count.add(b"refused base64: 1\n" in ran[2] and b"messages: 1\n" in ran[2], f"check --stats --in base64: {ran}")
+    ran = run([*words, "--budget", "1"], octets[0])
+    count.add(ran[0] == 1 and ran[1].startswith(b"! over budget: ") and b"\nrefused over budget: 1\n" in ran[2], f"check --stats --budget: {ran}")
     ran = run(words)
     count.add(ran == (0, b"", b"messages: 0\noctets: 0\nleast: 0\ngreatest: 0\nrefused: 0\n"), f"check --stats of nothing: {ran}")
     for order, way, told in (
         ("show", ["--stats"], b"--stats is for check\n"),
+        ("show", ["--split", "--budget", "9"], b"--budget is for texts of one message each: --split decodes to find where one ends\n"),
         ("check", ["--pretty"], b"--pretty and --order are for show and newer, which write JSON\n"),
         ("encode", ["--order", "declared"], b"--pretty and --order are for show and newer, which write JSON\n"),
     ):

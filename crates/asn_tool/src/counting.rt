@@ -110,11 +110,12 @@ fn reason_of(refusal: &str) -> &str {
         Some(words) => words,
         None => refusal,
     };
-    if let Some((_, reason)) = words.split_once(": ") {
-        return reason;
-    }
-    match words.split_once(" after ") {
+    match words.split_once(": ") {
+        Some((place, reason)) if place.starts_with("refused") => reason,
         Some((reason, _)) => reason,
-        None => words,
+        None => match words.split_once(" after ") {
+            Some((reason, _)) => reason,
+            None => words,
+        },
     }
 }

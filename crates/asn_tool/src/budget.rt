@@ -1,6 +1,7 @@
 //! Lines whose values may take no more than a budget.
-ghost use Rattle.std.specs.Prelude.{◌≡◌, IfOk, string_bytes};
+ghost use Rattle.std.specs.Prelude.{◌≡◌, ◌≢◌, IfOk, OnOk, string_bytes};
 ghost use Rattle.asn_values.specs.View.{shape_of};
+ghost use Rattle.asn_rules.specs.declared.fault.DecodeFault.{DecodeFault};
 ghost use Rattle.asn_convert.specs.Parts.{Wrote, Broke};
 ghost use Rattle.asn_convert.specs.Text.{IsFront, ended};
 ghost use Rattle.asn_tool.specs.Budget.{BegunWithin, Counts, CountsLine, ToldWithin, over_text, ruling_of};
@@ -137,10 +138,12 @@ fn over_in<R: PlanRules>(
     planned.get().get();
     are_octets(octets);
     let Some(taken) = planned.taken::<R>(alloc, octets) else {
-        // no encoding, or memory is wanting
         return match planned.check::<R>(alloc, octets) {
-            Ok(()) | Err(DecodeFault::Memory) => Err(AllocError),
-            Err(_) => Ok(None),
+            Ok(()) => Err(AllocError),
+            Err(fault) => {
+                unless_memory(fault)?;
+                Ok(None)
+            }
         };
     };
     let most = u64::from(most);
@@ -152,4 +155,14 @@ fn over_in<R: PlanRules>(
         return Ok(None);
     }
     Ok(Some(taken))
+}
+
+/// Nothing, where a fault is another than want of memory.
+fn unless_memory(fault: DecodeFault) -> Result<(), AllocError>
+    ensures { OnOk result (fault ≢ DecodeFault.Memory) }
+{
+    if let DecodeFault::Memory = fault {
+        return Err(AllocError);
+    }
+    Ok(())
 }

@@ -1,7 +1,8 @@
 //! The texts of messages, cut one after the other from an input.
 use asn_convert::RunFault;
 use asn_octet_forms::OctetForm;
-use std::io::BufRead;
+use std::io;
+use std::io::{BufRead, ErrorKind};
 
 /// Puts the next text of the input in place of the one before, and tells the number of the line, counted from 1, at which
 /// it begins; `None` where there is none. `lines` is how many lines were read: 0 at first.
@@ -48,7 +49,16 @@ fn add_line<R: BufRead>(
             *lines = lines.saturating_add(1);
             Ok(true)
         }
-        Err(_) => Err(RunFault::Read),
+        Err(fault) => Err(fault_of(&fault)),
+    }
+}
+
+/// The fault of a reader: an allocation that failed, or another.
+fn fault_of(fault: &io::Error) -> RunFault {
+    if fault.kind() == ErrorKind::OutOfMemory {
+        RunFault::Memory
+    } else {
+        RunFault::Read
     }
 }
 
@@ -77,7 +87,7 @@ fn whole<R: BufRead>(
     *lines = 1;
     match input.read_to_end(text) {
         Ok(_) => Ok(Some(1)),
-        Err(_) => Err(RunFault::Read),
+        Err(fault) => Err(fault_of(&fault)),
     }
 }
 

@@ -15,7 +15,7 @@ use asn_plan::Planned;
 use asn_published::{Options, PublishedFault};
 use asn_rules::Counted;
 use asn_values::Checked;
-use std::io::{BufRead, BufReader, IsTerminal, Write};
+use std::io::{BufRead, BufReader, ErrorKind, IsTerminal, Write};
 use std::{fs, io};
 
 /// Does the job on standard input and output, its module being that of the files, or of standard input where there are
@@ -184,8 +184,10 @@ fn answer_file<'a, W: Write>(
     file: &'a str,
     asked: Asked<'_>,
 ) -> Result<Result<bool, RunFault>, Stop<'a>> {
-    let Ok(opened) = fs::open(rt, file) else {
-        return Err(Stop::Unread(file));
+    let opened = match fs::open(rt, file) {
+        Ok(opened) => opened,
+        Err(fault) if fault.kind() == ErrorKind::OutOfMemory => return Err(Stop::Memory),
+        Err(_) => return Err(Stop::Unread(file)),
     };
     let Ok(mut input) = BufReader::new(rt.alloc(), opened) else {
         return Err(Stop::Memory);

@@ -36,7 +36,6 @@ from concurrent.futures import ThreadPoolExecutor
 sys.dont_write_bytecode = True
 TOP = os.path.dirname(os.path.dirname(os.path.abspath(__file__)))
 sys.path.insert(0, f"{TOP}/tests")
-from kit import rt
 from room import files_of
 
 # the test programs that are parts of one (tests/programs/checks)
@@ -70,11 +69,9 @@ def say(text):
         print(text, flush=True)
 
 
-def begin(words, given=subprocess.DEVNULL, more={}):
-    """Begins a command, with these variables in its environment too."""
-    say(f"== {' '.join([*(f'{name}={it}' for name, it in more.items()), *words])}")
-    env = {**os.environ, **more}
-    return subprocess.Popen(words, stdin=given, stdout=subprocess.PIPE, stderr=subprocess.STDOUT, text=True, errors="replace", env=env)
+def begin(words, given=subprocess.DEVNULL):
+    say(f"== {' '.join(words)}")
+    return subprocess.Popen(words, stdin=given, stdout=subprocess.PIPE, stderr=subprocess.STDOUT, text=True, errors="replace")
 
 
 def ended(ran):
@@ -111,17 +108,6 @@ def step(part, words):
     follow(part, begin(words))
 
 
-# the most memory that a check of a crate is given
-MEMORY = 6_000_000_000
-
-
-def begin_proofs(left):
-    """Begins `rt ci`: one job a crate, since each job more reads all libraries below once more, and as many crates side by
-    side as there are processors but those that are left to others, and as memory holds."""
-    lanes = max(1, min(rt.processors() - left, int(rt.free() // MEMORY)))
-    return begin(["rt", "ci"], more={"RT_JOBS": str(lanes)})
-
-
 PROVED = re.compile(r"rt: (\w+) (?:proved$|is kept: )")
 
 
@@ -147,7 +133,7 @@ def proofs_and_edits(parts, once_proved):
                 # (it has ended, and its status counts)
                 pass
 
-    follow(parts["proofs"], begin_proofs(1), name_to_edits)
+    follow(parts["proofs"], begin(["rt", "ci"]), name_to_edits)
     try:
         tried.stdin.close()
     except BrokenPipeError:
@@ -157,7 +143,7 @@ def proofs_and_edits(parts, once_proved):
 
 
 def proofs(part):
-    follow(part, begin_proofs(0))
+    step(part, ["rt", "ci"])
 
 
 def edits(part):

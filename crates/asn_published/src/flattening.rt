@@ -238,6 +238,17 @@ fn text_written(
     Ok(text)
 }
 
+/// The module that a text is. Where there is a bound, the module is no larger.
+fn read_at_most(alloc: Global, text: &str, most: Option<u32>) -> Result<Module, PublishedFault>
+    ensures accepted { IfOk result (λ m. Accepted text.now (types_view m)) }
+    ensures within { IfOk result (λ m. IsAtMost most (types_size (types_view m).types)) }
+{
+    match most {
+        Some(most) => Ok(read_within(alloc, text, most)?),
+        None => Ok(read(alloc, text)?),
+    }
+}
+
 /// The module that a text is, and its text as it is printed. Where there is a bound, the module is no larger.
 fn read_back(
     alloc: Global,
@@ -247,10 +258,7 @@ fn read_back(
     ensures accepted { IfOk result (λ r. Accepted (string_bytes r.0) (types_view r.1)) }
     ensures within { IfOk result (λ r. IsAtMost most (types_size (types_view r.1).types)) }
 {
-    let module = match most {
-        Some(most) => read_within(alloc, text, most)?,
-        None => read(alloc, text)?,
-    };
+    let module = read_at_most(alloc, text, most)?;
     let printed = module.print(alloc)?;
     Ok((printed, module))
 }

@@ -116,6 +116,29 @@ IsFlatten s = (p : Option ValueParser) × TakesNames report_names p × (s ≡ (f
 abbrev pub module_shape : Shape
 module_shape = (with_rules (new_app (codes "module")) (source_rules ++ leave_rules)).top
 
+-- those of a subcommand that shows types, messages or values: its own, and those for the module
+abbrev pub looking_rules : List Rule
+looking_rules = files_rule (codes "module") ∷ leave_rules
+
+-- the subcommand that shows messages field by field
+abbrev pub fields_app : Option ValueParser → App
+fields_app p = with_rules (new_app (codes "fields")) (type_rule ∷ rules_rule p ∷ flag_rule (codes "html") ∷ looking_rules)
+
+abbrev pub IsFields : Shape → Type 0
+IsFields s = (p : Option ValueParser) × TakesNames rule_names p × (s ≡ (fields_app p).top)
+
+-- the name of a type, which may be left out
+abbrev pub name_rule : Rule
+name_rule = record (new_rule (codes "name")) { action = Some Set; value_names = 1 }
+
+-- the subcommand that shows types
+abbrev pub types_shape : Shape
+types_shape = (with_rules (new_app (codes "types")) (name_rule ∷ looking_rules)).top
+
+-- the subcommand that gives a value of a type
+abbrev pub example_shape : Shape
+example_shape = (with_rules (new_app (codes "example")) (type_rule ∷ number_rule (codes "seed") ∷ looking_rules)).top
+
 -- the parsers of those options of an order whose values are names
 pub record Parsers : Type 0 where
   pub rules : Option ValueParser
@@ -157,21 +180,21 @@ AreOrders [] (s ∷ shapes) = ⊥
 AreOrders (o ∷ os) [] = ⊥
 
 -- the command, with its subcommands
-abbrev pub tool : Option ValueParser → List Shape → App
-tool report shapes = record {
+abbrev pub tool : Option ValueParser → Option ValueParser → List Shape → App
+tool report rules shapes = record {
   top = record (new_app (codes "asn_tool")).top {
     has_version = true;
     no_binary_name = true;
     subcommand_required = true;
     is_leaf = false;
   };
-  subs = (flatten_app report).top ∷ module_shape ∷ shapes;
+  subs = (flatten_app report).top ∷ module_shape ∷ (fields_app rules).top ∷ types_shape ∷ example_shape ∷ shapes;
 }
 
 -- the command is that of the program
 abbrev pub IsTool : App → Type 0
-IsTool a = (report : Option ValueParser) × (shapes : List Shape) × TakesNames report_names report × AreOrders orders shapes
-    × (a ≡ tool report shapes)
+IsTool a = (report rules : Option ValueParser) × (shapes : List Shape) × TakesNames report_names report
+    × TakesNames rule_names rules × AreOrders orders shapes × (a ≡ tool report rules shapes)
 
 -- ---- what it takes
 
@@ -184,7 +207,12 @@ abbrev pub HasOptions : Text × List Row → Type 0
 HasOptions found = IsOneOf found.0 order_names × ((t : Text) × (first_of (codes "type") found.1 ≡ Some t))
     × ((r : Text) × (first_of (codes "rules") found.1 ≡ Some r) × IsOneOf r rule_names)
 
+-- the names of the subcommands that show types, messages or values
+abbrev pub look_names : List Text
+look_names = codes "fields" ∷ codes "types" ∷ codes "example" ∷ []
+
 -- the subcommand, with its options, is one of the command's
 abbrev pub IsTaken : Option (Text × List Row) → Type 0
 IsTaken None = ⊥
-IsTaken (Some found) = (found.0 ≡ codes "flatten") ⊎ ((found.0 ≡ codes "module") ⊎ HasOptions found)
+IsTaken (Some found) =
+    (found.0 ≡ codes "flatten") ⊎ ((found.0 ≡ codes "module") ⊎ (IsOneOf found.0 look_names ⊎ HasOptions found))

@@ -57,24 +57,33 @@ pub fn answer_within<W: Write>(
     }
 }
 
-/// Writes the refusal of a line whose value is over the budget.
+/// Writes the refusal of a line whose value is over the budget, with its LF.
 fn put_over<W: Write>(alloc: Global, output: &mut Counted<W>, taken: &Taken) -> Result<(), RunFault>
     ensures told { Wrote result W.contents output.old output.new (λ _ out. out ≡ ended (over_text taken.now)) }
     ensures begun { Broke result W.contents output.old output.new (λ out. IsFront out (ended (over_text taken.now))) }
 {
-    let text = over_text(alloc, taken)?;
+    let mut text = over_text(alloc, taken)?;
+    text.push_str("\n")?;
+    put(output, text.as_str())
+}
+
+/// Writes the text.
+fn put<W: Write>(output: &mut Counted<W>, text: &str) -> Result<(), RunFault>
+    ensures ok { Wrote result W.contents output.old output.new (λ _ out. out ≡ text.now) }
+    ensures err { Broke result W.contents output.old output.new (λ out. IsFront out text.now) }
+{
     match output.write_all(text.as_bytes()) {
         Ok(()) => Ok(()),
         Err(_) => Err(RunFault::Write),
     }
 }
 
-/// The refusal of a line whose value is over the budget, with its LF.
+/// The refusal of a line whose value is over the budget.
 fn over_text(alloc: Global, taken: &Taken) -> Result<String, AllocError>
-    ensures { IfOk result (λ text. string_bytes text ≡ ended (over_text taken.now)) }
+    ensures { IfOk result (λ text. string_bytes text ≡ over_text taken.now) }
 {
     let Taken { entries, octets } = *taken;
-    format!(in alloc; "! over budget: {entries} entries, {octets} octets\n")
+    format!(in alloc; "! over budget: {entries} entries, {octets} octets")
 }
 
 /// What the value takes whose encoding a line is in hexadecimal, where that is over the budget.

@@ -2,7 +2,7 @@
 
 /// Of the program.
 pub static PROGRAM: &str = "\
-In: on standard input the text of a module; for all but `module` then a line that is ====, and a line for each message.
+In: on standard input the text of a module; for all but `module`, `types` and `example` then a line that is ====, and a line for each message.
 With --module the texts of the module are those of files, and standard input has the messages alone, which are answered
 as they come. The text may be one of the profile, or a module as a standards body publishes it, of which
 `flatten --help` tells.
@@ -195,3 +195,50 @@ Example:
   printf '%s\\n' 'M DEFINITIONS AUTOMATIC TAGS ::= BEGIN' 'T ::= SEQUENCE { a BOOLEAN, ... }' END ==== c04041c0 |
     asn_tool newer --type T --rules per
 writes {\"a\":true} +0:07. With --pretty each member stands on a line of its own.";
+
+/// Of `fields`.
+pub static FIELDS: &str = "\
+In: the text of a module, a line that is ====, and messages in hexadecimal, one a line.
+Out: for each message a line for each field: its first and last bit (OER: octet), counted from 1; the octets in which it
+lies, and in PER its bits; the path of the part of the value; the type; and the value, or what else the field is, as a
+presence bitmap or a length determinant. A component that is absent has a hyphen for its bits. Octets that are no message
+are shown up to where they are refused, and a last line tells why. An empty line stands between messages. With --html a
+page for each message in their place: its bits in colours, and a table of the fields.
+
+Exit status: 0 if each line is a message; 1 if at least one is not; 2 if the module was refused or has no type of the
+name; 3 if reading, writing or memory failed.
+
+Example:
+  printf '%s\\n' 'M DEFINITIONS AUTOMATIC TAGS ::= BEGIN' 'T ::= SEQUENCE { id INTEGER (0..7) }' END ==== a0 |
+    asn_tool fields --type T --rules per
+writes
+  1-3          A0 101.....               $.id                          INTEGER (0..7)                5
+  4-8          A0 ...00000               $                                                           padding";
+
+/// Of `types`.
+pub static TYPES: &str = "\
+In: the text of a module. Lines after one that is ==== are ignored. With --module nothing is read of standard input.
+Out: the names of its types, one a line, in order. With NAME that type: a line for each part, with the type of the part
+and the least and the greatest size of its values, in PER in bits and in OER in octets; a size without a greatest number
+has none. The last line has the least and the greatest size of a message in PER, in octets.
+
+Exit status: 0; 2 if the module was refused or has no type of the name; 3 if reading, writing or memory failed.
+
+Example:
+  echo 'M DEFINITIONS AUTOMATIC TAGS ::= BEGIN T ::= SEQUENCE OF U U ::= BOOLEAN END' | asn_tool types
+writes
+  T
+  U";
+
+/// Of `example`.
+pub static EXAMPLE: &str = "\
+In: the text of a module. Lines after one that is ==== are ignored. With --module nothing is read of standard input.
+Out: a value of the type as JSON, a line that `encode` reads: of each part the least, without the components that are
+OPTIONAL. With --seed N another, always the same of the same N: of 0 the greatest of each part, with all components; of
+other numbers the least, the greatest and anything between.
+
+Exit status: 0; 2 if the module was refused or has no type of the name; 3 if reading, writing or memory failed.
+
+Example:
+  echo 'M DEFINITIONS AUTOMATIC TAGS ::= BEGIN T ::= SEQUENCE { id INTEGER (3..7) } END' | asn_tool example --type T
+writes {\"id\":3}.";

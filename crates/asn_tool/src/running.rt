@@ -278,7 +278,7 @@ fn run_coming<'a>(
 }
 
 /// The exit status of the job on these octets, after the line on standard error, if there is one.
-fn run_on(rt: &HostRuntime, job: &Job, octets: &[u8]) -> u8 {
+pub fn run_on(rt: &HostRuntime, job: &Job, octets: &[u8]) -> u8 {
     let mut input = Counted::new(octets);
     let mut output = Counted::new(Piped::new(io::writer(rt)));
     let answer = run(rt.alloc(), &mut input, &mut output, job);

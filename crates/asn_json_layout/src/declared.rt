@@ -11,8 +11,8 @@ struct Page {
     depth: u32,
 }
 
-/// The text of the JSON, with the members of objects in the order of the type's components. What is none of the type
-/// stands as it is, and members that the type does not have are left out.
+/// The text of the JSON, with the members of objects in the order of the type's components. JSON that shows no value of the
+/// type is left as it is, and members that the type does not have are left out.
 pub(crate) fn declared_text(
     alloc: Global,
     ty: &AsnType,

@@ -54,7 +54,7 @@ impl Sizes {
     }
 }
 
-/// The lesser of the two, or the second, where so many lengths before it are none.
+/// The least length so far: the lesser of the two, or `length` where `count`, how many came before, is 0.
 fn least_of(count: u64, least: u64, length: u64) -> u64
     ensures low { result ≤ length }
     ensures below { 0 < count → result ≤ least }

@@ -37,7 +37,7 @@ pub fn next_text<R: BufRead>(
     }
 }
 
-/// Puts the next line, with its LF, behind the text. False where there is none.
+/// Appends the next line, with its LF, to the text. False where there is none.
 fn add_line<R: BufRead>(
     input: &mut R,
     text: &mut Vec<u8>,

@@ -15,7 +15,7 @@ use asn_values::{Checked, Value};
 use hex::FromHexError;
 use std::alloc::{AllocError, Global};
 
-/// The JSON of the message that a line of hexadecimal is, in this layout; for `newer` what is skipped in it stands behind.
+/// The JSON of the message that a line of hexadecimal is, in this layout; for `newer`, followed by what is skipped in it.
 /// `None` where the line is no message.
 ///
 /// # Errors
@@ -49,7 +49,8 @@ fn shown_text<R: Rules>(
     octets: &[u8],
     layout: Layout,
 ) -> Result<Option<String>, AllocError>
-    ensures { IfOk result (λ o. IfSome o (λ text. ShowsSame R.ruling (shape_of ty.now) octets.now (string_bytes text))) }
+    ensures { IfOk result (λ o. IfSome o
+        (λ text. ShowsSame R.ruling (shape_of ty.now) octets.now (string_bytes text))) }
 {
     are_octets(octets);
     match decode::<R>(alloc, ty, octets) {

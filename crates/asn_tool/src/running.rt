@@ -37,7 +37,7 @@ pub fn run_job<'a>(
     }
 }
 
-/// Whether it is told of a module where it is refused: where that is asked for, or standard error is a terminal.
+/// Whether standard error tells why a module is refused: where that is asked for, or standard error is a terminal.
 fn tells_of_module(rt: &HostRuntime, asking: &Asking<'_>) -> bool {
     asking.is_explained || rt.stderr().is_terminal()
 }

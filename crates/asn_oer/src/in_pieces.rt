@@ -15,6 +15,7 @@ use asn_rules::{FeedFault, Step};
 use asn_values::{AsnType, Checked, Size, Value};
 use asn_walk::{Index, Preamble, ReadLeaves};
 use asn_walk_feed::{Begun, FeedLeaves, ItemsStart};
+use asn_walk_read::read;
 use std::alloc::{AllocError, Global};
 
 /// Canonical OER (X.696), as the walk that reads in pieces asks for a set of encoding rules: its units are octets. Its
@@ -161,6 +162,10 @@ impl FeedLeaves for OerInPieces {
         }
     }
 
+    fn try_whole(alloc: Global, ty: &AsnType, units: &mut BitCursor<'_>) -> Option<Value> {
+        read::<Oer>(alloc, ty, units).ok()
+    }
+
     fn read_filling(_value_units: u128, _units: &mut BitCursor<'_>) -> Result<(), Stop> {
         Ok(())
     }
@@ -170,6 +175,8 @@ impl FeedLeaves for OerInPieces {
     fn keep_field_laws() {}
 
     fn keep_string_laws() {}
+
+    fn keep_kept_laws() {}
 }
 
 #[tactic(auto, unfolding(crate::specs::Walk::oer_coding))]

@@ -28,7 +28,14 @@ use Rattle.asn_resuming.specs.Reached.{Reached, GoesOn}
 use Rattle.asn_resuming.specs.Resumed.{Resumes}
 use Rattle.asn_resuming.specs.declared.session.Resuming.{Resuming}
 use Rattle.asn_resuming.specs.declared.session.State.TheVariants as state
+use Rattle.asn_rules.specs.Kept.{KeptOf, Kept}
 use Rattle.asn_rules.specs.Ticks.{Counted}
+use Rattle.asn_walk_feed.specs.declared.frame.Frame.{Frame}
+use Rattle.asn_walk_feed.specs.Feeding.{FeedLaws}
+use Rattle.asn_walk_feed.specs.Keeping.{kept_in, KeepLaws}
+use Rattle.asn_walk_feed.specs.OpenFields.{FieldLaws}
+use Rattle.asn_walk_feed.specs.Strings.{StringLaws}
+use Rattle.asn_walk_feed.proofs.KeptRead.{kept_of}
 use Rattle.asn_resuming.proofs.Counts.{count_of_seen}
 use Rattle.asn_resuming.proofs.NextOctets.{reached_none}
 
@@ -139,10 +146,9 @@ module _ {F : Type 0} (c : Coding) (laws : Laws c) (fc : FieldCoding) (ahead : F
           taken = subst (λ (l : List ℕ). R new t (waiting l)) e here;
         }
 
-    pub too_long_feeds : (cut : Truncated) → new.state ≡ state.Stopped feed.TooLong → new.end ≡ Err cut → cut.taken ≡ length (c.ruling.units (s ++ m)) → length (s ++ m) ≡ max_octets
-        → GoesOn c fc ahead between (nodes new.frames) t (s ++ m)
-        → Going c fc ahead between (nodes new.frames) t (length (c.ruling.units (s ++ m))) new.ticks → Goes (Err feed.TooLong)
-    too_long_feeds cut state_is end_is count all h going =
+    pub too_long_feeds : (fs : List (Frame F)) (cut : Truncated) → new.state ≡ state.Stopped feed.TooLong → new.end ≡ Err cut → cut.taken ≡ length (c.ruling.units (s ++ m)) → length (s ++ m) ≡ max_octets
+        → GoesOn c fc ahead between fs t (s ++ m) → Going c fc ahead between fs t (length (c.ruling.units (s ++ m))) new.ticks → Goes (Err feed.TooLong)
+    too_long_feeds fs cut state_is end_is count all h going =
         let told : Answer c.ruling t (s ++ m) too_long = long_read c laws t k.of_profile (s ++ m) all h.short in
         let here : R new t (stopped (s ++ m) feed.TooLong) = record {
           of_type = same ∙ k.of_type;
@@ -199,3 +205,13 @@ counted_of c fc ahead between t q (stopped s feed.TooLong) n k l m = count_of_se
 counted_of c fc ahead between t q (stopped s feed.Memory) n k l m = tt
 counted_of c fc ahead between t q (stopped s feed.Spent) n k l m = tt
 counted_of c fc ahead between t q (over s) n k l m = tt
+
+-- it keeps the content so far of the sealed field that is open
+module _ {F : Type 0} (c : Coding) (laws : Laws c) (feeds : FeedLaws c) (fc : FieldCoding) (fields : FieldLaws c fc) (strings : StringLaws c fc) (keep : KeepLaws c fc) (ahead : F → Ahead) (between : F → Type 0) (t : Shape) (q : Resuming F) (os : List ℕ) where
+  pub waiting_keeps : q.state ≡ state.Waiting → os ≡ kept_in (nodes q.frames) (shape_of q.ty) → (past : Past) → Resumes c fc ahead between q t past → Kept c.ruling t past os
+  waiting_keeps e is (waiting s) k =
+      let here : KeptOf c.ruling t (c.ruling.units s) (kept_in (nodes q.frames) t) = kept_of c laws feeds fc fields strings keep ahead between (nodes q.frames) t (c.ruling.units s) k.of_profile k.goes_on.2.took in
+      let same : kept_in (nodes q.frames) t ≡ os = ap (λ (u : Shape). kept_in (nodes q.frames) u) (sym k.of_type) ∙ sym is in
+      subst (λ (l : List ℕ). KeptOf c.ruling t (c.ruling.units s) l) same here
+  waiting_keeps e is (stopped s fault) k = absurd (let clash : state.Waiting ≡ state.Stopped fault = sym e ∙ k.goes_on in cc)
+  waiting_keeps e is (over s) k = absurd (let clash : state.Waiting ≡ state.Over = sym e ∙ k.goes_on in cc)

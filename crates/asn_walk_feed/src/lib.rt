@@ -10,6 +10,7 @@ mod begun;
 mod choices;
 mod complete;
 mod frame;
+mod kept;
 mod leaf;
 mod lists;
 mod octets;
@@ -19,6 +20,7 @@ mod sequences;
 mod strings;
 mod units;
 mod values;
+mod whole;
 
 pub use begun::Begun;
 pub use complete::feed_complete;

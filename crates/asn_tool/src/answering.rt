@@ -1,9 +1,11 @@
 //! The answer to one message, in the form and the layout that is asked for, while standard error tells why it is refused.
-use crate::asking::{Asking, Forms};
+use crate::asking::{Asking, Forms, Versions};
 use crate::budget::{Answered, answer_within};
 use crate::counting::Counts;
 use crate::explaining::{over_words, why_refused};
 use crate::laying::laid_text;
+use crate::newer_json::{TakenBack, newer_line, taken_back};
+use crate::progress::Progress;
 use asn_convert::{Job, Order, RuleName, RunFault, answer_line};
 use asn_json_layout::Layout;
 use asn_octet_forms::{OctetForm, octets_in, text_of};
@@ -11,6 +13,7 @@ use asn_plan::Planned;
 use asn_rules::Counted;
 use asn_stats::CountFault;
 use asn_values::Checked;
+use std::alloc::{AllocError, Global};
 use std::io::Write;
 
 /// What is made of messages.
@@ -22,6 +25,7 @@ pub struct Asked<'t> {
     pub rules: RuleName,
     pub forms: Forms,
     pub layout: Layout,
+    pub versions: Versions,
     /// Whether standard error tells why a message is refused.
     pub is_explained: bool,
     /// Whether messages are counted.
@@ -42,6 +46,7 @@ impl<'t> Asked<'t> {
             rules: *rules,
             forms: asking.forms,
             layout: asking.layout,
+            versions: asking.versions,
             is_explained: asking.is_explained,
             is_counted: asking.is_counted,
             budget: asking.budget,
@@ -55,7 +60,7 @@ impl<'t> Asked<'t> {
 
     /// Whether JSON is laid out.
     fn is_laid(&self) -> bool {
-        self.layout.is_declared || self.layout.is_pretty
+        self.layout.is_declared || self.layout.is_pretty || self.versions.is_json
     }
 
     /// Whether an answer is written as it is.
@@ -73,6 +78,7 @@ impl<'t> Asked<'t> {
 pub struct Answers<W> {
     pub output: Counted<W>,
     pub counts: Counts,
+    pub progress: Progress,
 }
 
 /// Where a message stands.
@@ -91,6 +97,29 @@ pub struct Place<'a> {
 /// # Errors
 /// `Write` where the writer answered a fault, `Memory` where an allocation failed.
 pub fn answer_one<W: Write>(
+    rt: &HostRuntime,
+    answers: &mut Answers<W>,
+    place: Place<'_>,
+    line: &[u8],
+    asked: Asked<'_>,
+) -> Result<bool, RunFault> {
+    if !asked.versions.is_taken_back {
+        return answer_line_of(rt, answers, place, line, asked);
+    }
+    match taken_back(rt.alloc(), line)? {
+        TakenBack::Value(value) => answer_line_of(rt, answers, place, value.as_bytes(), asked),
+        TakenBack::Refused(refusal, reason) => {
+            put_refusal(rt, answers, place, refusal.as_bytes(), asked)?;
+            if asked.is_explained {
+                tell(rt, place, reason)?;
+            }
+            Ok(false)
+        }
+    }
+}
+
+/// The same of a line that is hexadecimal or the JSON of a value itself.
+fn answer_line_of<W: Write>(
     rt: &HostRuntime,
     answers: &mut Answers<W>,
     place: Place<'_>,
@@ -175,7 +204,12 @@ fn put_laid<W: Write>(
         layout,
         ..
     } = asked;
-    match laid_text(rt.alloc(), asked.ty(), order, rules, line, layout)? {
+    let text = if asked.versions.is_json {
+        newer_line(rt.alloc(), asked.ty(), rules, line, layout.is_declared)?
+    } else {
+        laid_text(rt.alloc(), asked.ty(), order, rules, line, layout)?
+    };
+    match text {
         Some(mut text) => {
             text.push('\n')?;
             put(output, text.as_bytes())
@@ -294,20 +328,26 @@ fn put<W: Write>(output: &mut Counted<W>, octets: &[u8]) -> Result<(), RunFault>
 
 /// Tells on standard error of the message that stands there.
 fn tell(rt: &HostRuntime, place: Place<'_>, words: &str) -> Result<(), RunFault> {
+    let told = place_text(rt.alloc(), place)?;
+    let _ = eprintln!(rt; "{told}: {words}");
+    Ok(())
+}
+
+/// Where a message stands, in words.
+pub fn place_text(alloc: Global, place: Place<'_>) -> Result<String, AllocError> {
     let Place {
         file,
         line,
         message,
     } = place;
     let mut told = if file.is_empty() {
-        format!(in rt.alloc(); "line {line}")?
+        format!(in alloc; "line {line}")?
     } else {
-        format!(in rt.alloc(); "{file}:{line}")?
+        format!(in alloc; "{file}:{line}")?
     };
     if message > 0 {
-        let which = format!(in rt.alloc(); ", message {message}")?;
+        let which = format!(in alloc; ", message {message}")?;
         told.push_str(which.as_str())?;
     }
-    let _ = eprintln!(rt; "{told}: {words}");
-    Ok(())
+    Ok(told)
 }

@@ -15,6 +15,7 @@ use asn_rules::{FeedFault, Step};
 use asn_values::{AsnType, Checked, Size, Value};
 use asn_walk::{Index, Preamble, ReadLeaves};
 use asn_walk_feed::{Begun, FeedLeaves, ItemsStart};
+use asn_walk_read::read;
 use std::alloc::{AllocError, Global};
 
 /// Canonical OER (X.696), as the walk that reads in pieces asks for a set of encoding rules: its units are octets. Its
@@ -159,6 +160,10 @@ impl FeedLeaves for OerInPieces {
             AsnType::Utf8 => Ok(Value::Utf8(text_of(items, left)?)),
             _ => unreachable!(),
         }
+    }
+
+    fn try_whole(alloc: Global, ty: &AsnType, units: &mut BitCursor<'_>) -> Option<Value> {
+        read::<Oer>(alloc, ty, units).ok()
     }
 
     fn read_filling(_value_units: u128, _units: &mut BitCursor<'_>) -> Result<(), Stop> {

@@ -12,12 +12,14 @@ ghost use Rattle.asn_per.specs.SingleItems.{per_field_coding};
 
 use crate::fragments::Fragments;
 use crate::in_pieces::PerInPieces;
+use crate::rules::Per;
 use crate::single_items::{read_bit, read_character, read_octet, truths};
 use asn_bits::BitCursor;
 use asn_rules::Why;
 use asn_rules::internal::{Stop, read_padding};
 use asn_values::{AsnType, Size, Value};
 use asn_walk_feed::{Begun, FeedLeaves, ItemsStart};
+use asn_walk_read::read;
 use std::alloc::Global;
 
 #[tactic(auto, unfolding(crate::specs::Walk::per_coding, crate::specs::Rules::per_ruling, crate::specs::SingleItems::per_field_coding))]
@@ -88,6 +90,10 @@ impl FeedLeaves for PerInPieces {
                 unreachable!(),
             AsnType::Seq { .. } | AsnType::SeqOf(..) | AsnType::Choice { .. } => unreachable!(),
         }
+    }
+
+    fn try_whole(alloc: Global, ty: &AsnType, units: &mut BitCursor<'_>) -> Option<Value> {
+        read::<Per>(alloc, ty, units).ok()
     }
 
     fn read_filling(value_units: u128, units: &mut BitCursor<'_>) -> Result<(), Stop> {

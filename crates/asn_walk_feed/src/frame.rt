@@ -1,5 +1,5 @@
 //! How far a message is read where its pieces end: a stack of the nodes of its value that have begun.
-ghost use Rattle.std.specs.Prelude.{◌≡◌, ◌∷◌, List, [], OnOk, IfSome, IsNone};
+ghost use Rattle.std.specs.Prelude.{◌≡◌, ◌∷◌, ◌↔◌, List, [], OnOk, IfSome, IsNone, IsTrue};
 ghost use Rattle.asn_walk_feed.specs.Nodes.{nodes};
 
 use crate::begun::Begun;
@@ -85,6 +85,13 @@ impl<F: Drop> Frames<F> {
         Frames {
             stack: Vec::new(alloc),
         }
+    }
+
+    /// Whether no node has begun.
+    pub fn is_none(&self) -> bool
+        ensures { IsTrue result ↔ (nodes self.now ≡ []) }
+    {
+        self.stack.is_empty()
     }
 
     /// Takes the outermost node.

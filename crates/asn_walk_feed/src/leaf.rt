@@ -1,6 +1,6 @@
 //! Parts of few units that a piece may cut: read at once where all their units have come, else once a piece of
 //! those that have come.
-ghost use Rattle.std.specs.Prelude.{◌≡◌, ◌≤◌, ◌<◌, ◌+◌, ◌^◌, ◌++◌, ℕ, List, length, [], IfOk, IfErr, OnOk, IfSome, IsNone};
+ghost use Rattle.std.specs.Prelude.{◌≡◌, ◌≤◌, ◌<◌, ◌+◌, ◌^◌, ◌++◌, ℕ, List, length, [], IfOk, IfErr, OnOk, IfSome, IsSome, IsNone};
 ghost use Rattle.asn_values.specs.Profile.{InProfile};
 ghost use Rattle.asn_values.specs.View.{shape_of, datum_of};
 ghost use Rattle.asn_rules.specs.Chunks.{Chunk};
@@ -8,7 +8,7 @@ ghost use Rattle.asn_rules.specs.Languages.{Spells, Short};
 ghost use Rattle.asn_rules.specs.Padding.{Fixed};
 ghost use Rattle.asn_rules.specs.Stops.{Stops};
 ghost use Rattle.asn_rules.specs.declared.stop.Stop.TheVariants.{Memory};
-ghost use Rattle.asn_walk.specs.Reading.{Reads, StopsAt};
+ghost use Rattle.asn_walk.specs.Reading.{Reads, ReadsValue, StopsAt};
 ghost use Rattle.asn_walk_feed.specs.Octets.{OctetsOf, start_seen};
 ghost use Rattle.asn_walk_feed.specs.OpenFields.{FieldCoding, FieldLaws, StopsAfter};
 ghost use Rattle.asn_walk_feed.specs.Strings.{IsString, StringLaws, IsStringOf, IsNoString};
@@ -103,6 +103,14 @@ pub trait FeedLeaves: ReadLeaves {
         ensures done { IfOk result (λ v. IsStringOf Self.rules fields (shape_of ty.now) items.items (datum_of v)) }
         ensures stop { IfErr result (λ why. IsNoString Self.rules fields (shape_of ty.now) items.items left why) }
         ensures after { IfErr result (λ why. StopsAfter left why) };
+
+    /// Reads a value of the type that the units have whole. Of `None` nothing is said, neither why nor where the units
+    /// stand.
+    fn try_whole(alloc: Global, ty: &AsnType, units: &mut BitCursor<'_>) -> Option<Value>
+        requires of_profile { InProfile (shape_of ty.now) }
+        requires at_unit { Self.rules.at_unit units.old }
+        ensures at_unit { IsSome result → Self.rules.at_unit units.new }
+        ensures done { IfSome result (λ v. ReadsValue Self.rules ty.now v units.old units.new) };
 
     /// Reads what fills up a complete encoding whose value has this many units.
     fn read_filling(value_units: u128, units: &mut BitCursor<'_>) -> Result<(), Stop>

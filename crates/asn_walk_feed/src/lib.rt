@@ -19,6 +19,7 @@ mod sequences;
 mod strings;
 mod units;
 mod values;
+mod whole;
 
 pub use begun::Begun;
 pub use complete::feed_complete;

@@ -22,6 +22,7 @@ use crate::leaf::{FeedLeaves, feed_leaf};
 use crate::parts::{ListStart, NextLength};
 use crate::units::{Ticks, Units};
 use crate::values::feed;
+use crate::whole::whole_value;
 use asn_rules::internal::Stop;
 use asn_values::{AsnType, Size, Value};
 use std::alloc::Global;
@@ -267,11 +268,48 @@ fn feed_fragment<R: FeedLeaves>(
     R::keep_laws();
     R::keep_feed_laws();
     while list.left > 0 {
-        let value = feed::<R>(alloc, element, frames, units, ticks)?;
+        let value = feed_element::<R>(alloc, element, frames, units, ticks)?;
         list.elements.push(value)?;
         list.left -= 1;
     }
     Ok(())
+}
+
+/// Reads what is left of an element: at once, where none of it has come and the piece has it whole.
+#[cycle(feeder)]
+fn feed_element<R: FeedLeaves>(
+    alloc: Global,
+    ty: &AsnType,
+    frames: &mut Frames<R::Fragments>,
+    units: &mut Units<'_>,
+    ticks: &mut Ticks,
+) -> Result<Value, Stop>
+    requires at_unit { R.rules.at_unit units.old }
+    requires of_profile { InProfile (shape_of ty.now) }
+    requires reached { (us : List ℕ)
+        × Took R.rules R.fields R.ahead R.is_between (nodes frames.old) (shape_of ty.now) us }
+    requires few { ticks.old.taken + length (R.rules.to_units units.old) < 2 ^ 64 }
+    ensures at_unit { R.rules.at_unit units.new }
+    ensures done { IfOk result (λ v. ReadsOn R.rules R.fields R.ahead R.is_between (nodes frames.old) (shape_of ty.now)
+        (datum_of v) units.old units.new) }
+    ensures emptied { OnOk result (nodes frames.new ≡ []) }
+    ensures stop { IfErr result (λ why.
+        StopsOn R.rules R.fields R.ahead R.is_between (nodes frames.old) (shape_of ty.now) units.old why) }
+    ensures kept { IfErr result (λ why. KeepsOn R.rules R.fields R.ahead R.is_between (nodes frames.old) (nodes
+        frames.new)
+        (shape_of ty.now) units.old why) }
+    ensures after { IfErr result (λ why. StandsAfter R.rules units.new why) }
+    ensures ticked { Ticked R.rules units.old ticks.old.taken units.new ticks.new.taken }
+    ensures rising { ticks.old.taken ≤ ticks.new.taken }
+    ensures inside { Costs R.rules (λ n. OpenUnits R.rules R.fields R.ahead R.is_between (nodes frames.old) n)
+        (λ n. result ≡ Err Short → OpenUnits R.rules R.fields R.ahead R.is_between (nodes frames.new) n)
+        (sealed_depth (shape_of ty.now)) ticks.old.inside units.old ticks.new.inside
+        units.new }
+{
+    match whole_value::<R>(alloc, ty, frames, units, ticks) {
+        Some(value) => Ok(value),
+        None => feed::<R>(alloc, ty, frames, units, ticks),
+    }
 }
 
 /// Reads what is left of the next length of a list, where one stands there. Whether a fragment follows it.

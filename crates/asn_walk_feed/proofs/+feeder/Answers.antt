@@ -131,8 +131,8 @@ lists::feed_elements-loop-alloc-smaller g t c =
 
 -- ---- the elements of a fragment
 
-pub lists::feed_fragment-feed-requires : goal.lists::feed_fragment-feed-requires
-lists::feed_fragment-feed-requires g t c κs within =
+pub lists::feed_fragment-feed_element-requires : goal.lists::feed_fragment-feed_element-requires
+lists::feed_fragment-feed_element-requires g t c κs within =
     let inv = c.loop-list.invariant in
     let s = c.requires.reached.0 in
     let good = c.requires.reached.1 in
@@ -154,7 +154,7 @@ lists::feed_fragment-returns-in_err-value-clause-kept g t c = λ e s good all h.
     let p = err_from_is_err_and c.from_residual.result c.from_residual.ensures.1 in
     let w : c.in_err-value.field-0.0 ≡ stop.Short = cc (p.1, p.2, e) in
     let x = element_ahead g.R.ReadLeaves.rules c.keep_laws.ensures c.keep_feed_laws.ensures g.R.FeedLeaves.fields g.R.ReadLeaves.ahead g.R.ReadLeaves.is_between (shape_of c.args.element.now) s good c.loop-list.list (nodes c.loop-list.frames) all (g.R.ReadLeaves.rules.to_units c.loop-list.units) c.loop-list-test.true (inv.0 s good all h) in
-    x.kept (nodes c.feed.new.frames) (g.R.ReadLeaves.rules.to_units c.feed.new.units) (rw w at c.in_err-value.ensures.after) (rw w at (c.in_err-value.ensures.kept x.come x.took))
+    x.kept (nodes c.feed_element.new.frames) (g.R.ReadLeaves.rules.to_units c.feed_element.new.units) (rw w at c.in_err-value.ensures.after) (rw w at (c.in_err-value.ensures.kept x.come x.took))
 
 pub lists::feed_fragment-loop-list-preserved : goal.lists::feed_fragment-loop-list-preserved
 lists::feed_fragment-loop-list-preserved g t c =
@@ -167,7 +167,7 @@ lists::feed_fragment-loop-list-preserved g t c =
       inv.3,
       omega (arith, inv.4, c.in_ok-value.ensures.ticked, c.in_ok-value.ensures.rising),
       omega (arith, inv.5, c.in_ok-value.ensures.rising),
-      costs_last {d1 = sealed_depth (shape_of c.args.element.now)} (costs_then c.loop-list.invariant.6 c.feed.ensures.inside (omega arith) (omega arith) (λ n o. o)) (omega arith) (none_open g.R.ReadLeaves.rules g.R.FeedLeaves.fields g.R.ReadLeaves.ahead g.R.ReadLeaves.is_between (nodes c.feed.new.frames) c.in_ok-value.ensures.emptied) refl (omega arith),
+      costs_last {d1 = sealed_depth (shape_of c.args.element.now)} (costs_then c.loop-list.invariant.6 c.feed_element.ensures.inside (omega arith) (omega arith) (λ n o. o)) (omega arith) (none_open g.R.ReadLeaves.rules g.R.FeedLeaves.fields g.R.ReadLeaves.ahead g.R.ReadLeaves.is_between (nodes c.feed_element.new.frames) c.in_ok-value.ensures.emptied) refl (omega arith),
     )
 
 pub values::feed-feed_scalar-requires-clause-start : goal.values::feed-feed_scalar-requires-clause-start
@@ -1337,7 +1337,7 @@ lists::feed_fragment-returns-in_err-value-clause-inside g t c =
 pub lists::feed_fragment-returns-in_err-push-clause-inside : goal.lists::feed_fragment-returns-in_err-push-clause-inside
 lists::feed_fragment-returns-in_err-push-clause-inside g t c =
     let p = err_from_is_err_and c.from_residual-in_err-push.result c.from_residual-in_err-push.ensures.1 in
-    costs_like {d' = sealed_depth (shape_of c.args.element.now)} (costs_then c.loop-list.invariant.6 c.feed.ensures.inside (omega arith) (omega arith) (λ n o. o)) (omega arith) (λ n o. o) (λ n o e. absurd (let z : stop.Memory ≡ stop.Short = cc (p.1, p.2, e) in cc))
+    costs_like {d' = sealed_depth (shape_of c.args.element.now)} (costs_then c.loop-list.invariant.6 c.feed_element.ensures.inside (omega arith) (omega arith) (λ n o. o)) (omega arith) (λ n o. o) (λ n o e. absurd (let z : stop.Memory ≡ stop.Short = cc (p.1, p.2, e) in cc))
 
 pub lists::feed_fragment-returns-clause-inside : goal.lists::feed_fragment-returns-clause-inside
 lists::feed_fragment-returns-clause-inside g t c =
@@ -1724,3 +1724,7 @@ sequences::feed_components-loop-alloc-init g t c = (λ more p all h. h, refl, c.
 
 pub additions::feed_open_fields-loop-read-init : goal.additions::feed_open_fields-loop-read-init
 additions::feed_open_fields-loop-read-init g t c = (λ all h. h, refl, c.requires.at_unit, omega arith, costs_none)
+
+pub lists::feed_element-returns-in-None-clause-inside : goal.lists::feed_element-returns-in-None-clause-inside
+lists::feed_element-returns-in-None-clause-inside g t c =
+    rw (sym (c.in-None.ensures.still cc).0, sym c.whole_value.ensures.inside) c.feed.ensures.inside

@@ -2,32 +2,27 @@
 
 use crate::field::{FieldKind, MessageField};
 use crate::message::MessageFields;
+use crate::table::Table;
 use crate::units_text::marked_octets;
-use crate::widths::push_column;
 use asn_rules::{DecodeFault, Unit};
 use std::alloc::{AllocError, Global};
 
-/// How wide the columns are, in characters, where what stands in them is no wider.
-const UNITS_WIDTH: usize = 11;
-
-const OCTETS_WIDTH: usize = 24;
-
-const PATH_WIDTH: usize = 28;
-
-const TYPE_WIDTH: usize = 28;
+/// How wide the columns are at least, in characters: the units, the octets, the path and the type.
+const WIDTHS: [usize; 4] = [11, 24, 28, 28];
 
 impl MessageFields {
     /// The fields as text, a line each: the first and the last unit, or a hyphen where the field has none; the octets in
     /// which it lies, in hexadecimal, and, where these are one or two in PER, its bits; the path; the type; and what it is,
-    /// with what it says. Where the octets are no message, a last line says why. The octets are those of the fields.
+    /// with what it says; in columns. Where the octets are no message, a last line says why. The octets are those of the fields.
     ///
     /// # Errors
     /// `AllocError` where an allocation failed.
     pub fn lines(&self, alloc: Global, octets: &[u8]) -> Result<String, AllocError> {
-        let mut text = String::new(alloc);
+        let mut table = Table::new(alloc, WIDTHS.as_slice())?;
         for field in &self.fields {
-            push_line(alloc, &mut text, self.unit, field, octets)?;
+            push_line(alloc, &mut table, self.unit, field, octets)?;
         }
+        let mut text = table.text()?;
         if let Err(fault) = &self.answer {
             push_fault(alloc, &mut text, self.unit, fault)?;
         }
@@ -38,19 +33,23 @@ impl MessageFields {
 /// Adds the line of a field.
 fn push_line(
     alloc: Global,
-    text: &mut String,
+    table: &mut Table,
     unit: Unit,
     field: &MessageField,
     octets: &[u8],
 ) -> Result<(), AllocError> {
     let units = units_text(alloc, field)?;
     let marked = marked_octets(alloc, unit, field, octets)?;
-    push_column(text, units.as_str(), UNITS_WIDTH)?;
-    push_column(text, marked.as_str(), OCTETS_WIDTH)?;
-    push_column(text, field.path.as_str(), PATH_WIDTH)?;
-    push_column(text, field.ty.as_str(), TYPE_WIDTH)?;
-    push_said(text, field)?;
-    text.push_str("\n")
+    let mut said = String::new(alloc);
+    push_said(&mut said, field)?;
+    let cells = [
+        units.as_str(),
+        marked.as_str(),
+        field.path.as_str(),
+        field.ty.as_str(),
+        said.as_str(),
+    ];
+    table.push_cells(cells.as_slice())
 }
 
 /// The first and the last unit of a field: one number where it has one unit, a hyphen where it has none.

@@ -3,7 +3,8 @@
 
 usage: examples/picture.py FIELDS <PAGE >PICTURE      so many of its fields
 
-It is what a browser shows of the page: the rows of units up to the last of these fields, and their lines.
+It is what a browser shows of the page: the rows of units up to the last of these fields, and their lines, of whose paths
+two dots stand for the front of a long one.
 """
 import html
 import re
@@ -11,14 +12,15 @@ import sys
 
 COLOURS = {"c0": "#cfe8ff", "c1": "#ffe3c2", "c2": "#d9f2d0", "c3": "#f6d3e4", "c4": "#e4dcfa", "c5": "#fdf3b5"}
 WIDE, HIGH, EDGE = 7.22, 19, 18
+LONGEST = 48
 ROW = re.compile(r'<tr class="(\w+)">(.*)</tr>')
 CELL = re.compile(r"<td>(.*?)</td>")
 PIECE = re.compile(r"<(i|span)(?: class=\"(\w+)\")?>([^<]*)</(?:i|span)>")
 
 
 def text_at(x, y, text, colour="#111"):
-    spaces = html.escape(text)
-    return f'<text x="{x:.1f}" y="{y:.1f}" fill="{colour}" xml:space="preserve">{spaces}</text>'
+    wide = len(text) * WIDE
+    return f'<text x="{x:.1f}" y="{y:.1f}" textLength="{wide:.1f}" fill="{colour}" xml:space="preserve">{html.escape(text)}</text>'
 
 
 def box(x, y, wide, colour):
@@ -53,11 +55,21 @@ def table(rows, drawn, y):
         if shade in COLOURS:
             drawn.append(box(x - 4, y, sum(widths) * WIDE, COLOURS[shade]))
         for text, wide in zip(row, widths):
+            if not text:
+                x += wide * WIDE
+                continue
             colour = "#111" if shade in COLOURS or shade == "head" else "#767676"
             drawn.append(text_at(x, y, text, colour))
             x += wide * WIDE
         y += HIGH
     return y, EDGE * 2 + sum(widths) * WIDE
+
+
+def shortened(path):
+    """The path without its first steps, where it is long."""
+    while len(path) > LONGEST and "." in path[2:]:
+        path = ".." + path[2:].partition(".")[2]
+    return path
 
 
 def main(words):
@@ -66,6 +78,7 @@ def main(words):
         return 2
     page = sys.stdin.read()
     rows = [(shade, [html.unescape(it) for it in CELL.findall(cells)]) for shade, cells in ROW.findall(page)][: int(words[0])]
+    rows = [(shade, [*cells[:2], shortened(cells[2]), *cells[3:]]) for shade, cells in rows]
     last = max(int(row[0].split("-")[-1]) for _, row in rows if row[0] != "-")
     drawn = []
     y = units(page, last, drawn, EDGE + HIGH)

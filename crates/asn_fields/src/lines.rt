@@ -3,7 +3,7 @@
 use crate::field::{FieldKind, MessageField};
 use crate::message::MessageFields;
 use crate::table::Table;
-use crate::units_text::marked_octets;
+use crate::units_text::{marked_octets, push_hex};
 use asn_rules::{DecodeFault, Unit};
 use std::alloc::{AllocError, Global};
 
@@ -68,12 +68,26 @@ pub(crate) fn units_text(alloc: Global, field: &MessageField) -> Result<String, 
 /// Adds what a field is, and what it says: of contents the value alone.
 pub(crate) fn push_said(text: &mut String, field: &MessageField) -> Result<(), AllocError> {
     if field.kind == FieldKind::Contents {
-        return text.push_str(field.text.as_str());
+        return push_visible(text, field.text.as_str());
     }
     text.push_str(field.kind.name())?;
     if !field.text.is_empty() {
         text.push_str(" ")?;
-        text.push_str(field.text.as_str())?;
+        push_visible(text, field.text.as_str())?;
+    }
+    Ok(())
+}
+
+/// Adds a text, its control characters as a backslash, an x and their numbers in hexadecimal, so that it stays on its line.
+fn push_visible(text: &mut String, said: &str) -> Result<(), AllocError> {
+    for character in said.chars() {
+        match character {
+            '\0'..='\x1F' | '\x7F'..='\u{9F}' => {
+                text.push_str("\\x")?;
+                push_hex(text, u8::try_from(u32::from(character)).unwrap_or(0))?;
+            }
+            other => text.push(other)?,
+        }
     }
     Ok(())
 }

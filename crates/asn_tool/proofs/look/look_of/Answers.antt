@@ -11,4 +11,5 @@ returns-clause-look c =
       c.rules_in.ensures,
       flag f (codes "html") c.get_flag.result c.get_flag.ensures.none c.get_flag.ensures.value c.get_flag.ensures.other,
       number_of (λ bs r. ParsesUnsigned 32 10 bs r × ExplainsUnsignedError 10 bs r × HasUnsignedDigitsIfOk bs r) (λ bs r g. g.0) f (codes "seed") c.get_one.result c.get_one.ensures.none c.get_one.ensures.value,
+      number_of (λ bs r. ParsesUnsigned 32 10 bs r × ExplainsUnsignedError 10 bs r × HasUnsignedDigitsIfOk bs r) (λ bs r g. g.0) f (codes "count") c.get_one-2.result c.get_one-2.ensures.none c.get_one-2.ensures.value,
     )

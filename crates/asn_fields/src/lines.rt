@@ -2,7 +2,7 @@
 
 use crate::field::{FieldKind, MessageField};
 use crate::message::MessageFields;
-use crate::table::Table;
+use crate::table::Columns;
 use crate::units_text::{marked_octets, push_hex};
 use asn_rules::{DecodeFault, Unit};
 use std::alloc::{AllocError, Global};
@@ -18,11 +18,17 @@ impl MessageFields {
     /// # Errors
     /// `AllocError` where an allocation failed.
     pub fn lines(&self, alloc: Global, octets: &[u8]) -> Result<String, AllocError> {
-        let mut table = Table::new(alloc, WIDTHS.as_slice())?;
+        let mut columns = Columns::new(alloc, WIDTHS.as_slice())?;
         for field in &self.fields {
-            push_line(alloc, &mut table, self.unit, field, octets)?;
+            let row = row_of_field(alloc, self.unit, field, octets)?;
+            columns.fit(row.as_slice());
         }
-        let mut text = table.text()?;
+        // (a line is made twice, since the fields may be many)
+        let mut text = String::new(alloc);
+        for field in &self.fields {
+            let row = row_of_field(alloc, self.unit, field, octets)?;
+            columns.push(&mut text, row.as_slice())?;
+        }
         if let Err(fault) = &self.answer {
             push_fault(alloc, &mut text, self.unit, fault)?;
         }
@@ -30,26 +36,22 @@ impl MessageFields {
     }
 }
 
-/// Adds the line of a field.
-fn push_line(
+/// The cells of the line of a field.
+fn row_of_field(
     alloc: Global,
-    table: &mut Table,
     unit: Unit,
     field: &MessageField,
     octets: &[u8],
-) -> Result<(), AllocError> {
-    let units = units_text(alloc, field)?;
-    let marked = marked_octets(alloc, unit, field, octets)?;
+) -> Result<Vec<String>, AllocError> {
     let mut said = String::new(alloc);
     push_said(&mut said, field)?;
-    let cells = [
-        units.as_str(),
-        marked.as_str(),
-        field.path.as_str(),
-        field.ty.as_str(),
-        said.as_str(),
-    ];
-    table.push_cells(cells.as_slice())
+    let mut row = Vec::new(alloc);
+    row.push(units_text(alloc, field)?)?;
+    row.push(marked_octets(alloc, unit, field, octets)?)?;
+    row.push(String::from_str(alloc, field.path.as_str())?)?;
+    row.push(String::from_str(alloc, field.ty.as_str())?)?;
+    row.push(said)?;
+    Ok(row)
 }
 
 /// The first and the last unit of a field: one number where it has one unit, a hyphen where it has none.

@@ -2,32 +2,26 @@
 
 use std::alloc::{AllocError, Global};
 
-/// Lines of cells. A column but the last of a line is as wide as its widest cell, and two spaces.
+/// How wide the columns of lines are. A column but the last of a line is as wide as its widest cell, and two spaces.
 #[derive(Drop)]
-pub(crate) struct Table {
-    alloc: Global,
-    /// How wide the columns are, in characters.
+pub(crate) struct Columns {
+    /// In characters.
     widths: Vec<usize>,
-    rows: Vec<Vec<String>>,
 }
 
-impl Table {
-    /// A table without lines, whose columns are at least as wide as these numbers.
+impl Columns {
+    /// Columns that are as wide as these numbers, in characters.
     ///
     /// # Errors
     /// `AllocError` where an allocation failed; and so in each of the following.
-    pub(crate) fn new(alloc: Global, least: &[usize]) -> Result<Table, AllocError> {
+    pub(crate) fn new(alloc: Global, least: &[usize]) -> Result<Columns, AllocError> {
         let mut widths = Vec::new(alloc);
         widths.extend_from_slice(least)?;
-        Ok(Table {
-            alloc,
-            widths,
-            rows: Vec::new(alloc),
-        })
+        Ok(Columns { widths })
     }
 
-    /// Adds a line.
-    pub(crate) fn push(&mut self, row: Vec<String>) -> Result<(), AllocError> {
+    /// Makes the columns wide enough for a line.
+    pub(crate) fn fit(&mut self, row: &[String]) {
         let before = row.len().saturating_sub(1);
         for (index, cell) in row.iter().enumerate() {
             if index < before {
@@ -36,36 +30,30 @@ impl Table {
                 }
             }
         }
-        self.rows.push(row)?;
-        Ok(())
     }
 
-    /// Adds a line of these cells.
-    pub(crate) fn push_cells(&mut self, cells: &[&str]) -> Result<(), AllocError> {
-        let mut row = Vec::new(self.alloc);
-        for cell in cells {
-            row.push(String::from_str(self.alloc, *cell)?)?;
-        }
-        self.push(row)
-    }
-
-    /// The lines as text.
-    pub(crate) fn text(&self) -> Result<String, AllocError> {
-        let mut text = String::new(self.alloc);
-        for row in &self.rows {
-            let before = row.len().saturating_sub(1);
-            for (index, cell) in row.iter().enumerate() {
-                text.push_str(cell.as_str())?;
-                if index < before {
-                    let width = self.widths.get(index).copied().unwrap_or(0);
-                    push_spaces(&mut text, width.saturating_sub(cell.len()))?;
-                    text.push_str("  ")?;
-                }
+    /// Adds a line to a text.
+    pub(crate) fn push(&self, text: &mut String, row: &[String]) -> Result<(), AllocError> {
+        let before = row.len().saturating_sub(1);
+        for (index, cell) in row.iter().enumerate() {
+            text.push_str(cell.as_str())?;
+            if index < before {
+                let width = self.widths.get(index).copied().unwrap_or(0);
+                push_spaces(text, width.saturating_sub(cell.len()))?;
+                text.push_str("  ")?;
             }
-            text.push_str("\n")?;
         }
-        Ok(text)
+        text.push_str("\n")
     }
+}
+
+/// A line of these cells.
+pub(crate) fn row_of(alloc: Global, cells: &[&str]) -> Result<Vec<String>, AllocError> {
+    let mut row = Vec::new(alloc);
+    for cell in cells {
+        row.push(String::from_str(alloc, *cell)?)?;
+    }
+    Ok(row)
 }
 
 /// Adds this many spaces.

@@ -3,7 +3,7 @@
 use crate::extent::Extent;
 use crate::oer_widths::octets_of;
 use crate::per_widths::bits_of;
-use crate::table::{Table, push_spaces};
+use crate::table::{Columns, push_spaces, row_of};
 use crate::type_text::type_text;
 use asn_values::{Alt, AsnType, Checked, Field, Need};
 use std::alloc::{AllocError, Global};
@@ -35,15 +35,28 @@ pub fn sizes(ty: &Checked) -> TypeSizes {
 /// # Errors
 /// `AllocError` where an allocation failed.
 pub fn outline(alloc: Global, name: &str, ty: &Checked) -> Result<String, AllocError> {
-    let mut table = Table::new(alloc, WIDTHS.as_slice())?;
-    table.push_cells(["", "", "PER bits", "OER octets"].as_slice())?;
-    push_type(alloc, &mut table, 0, name, "", ty.get())?;
-    let mut text = table.text()?;
+    let mut rows = Vec::new(alloc);
+    rows.push(row_of(alloc, ["", "", "PER bits", "OER octets"].as_slice())?)?;
+    push_type(alloc, &mut rows, 0, name, "", ty.get())?;
+    let mut text = lines_of(alloc, rows.as_slice())?;
     let octets = sizes(ty).per_bits.in_octets();
     let message = extent_text(alloc, octets)?;
     text.push_str("a message in PER has ")?;
     text.push_str(message.as_str())?;
     text.push_str(" octets\n")?;
+    Ok(text)
+}
+
+/// Lines of these cells, in columns.
+fn lines_of(alloc: Global, rows: &[Vec<String>]) -> Result<String, AllocError> {
+    let mut columns = Columns::new(alloc, WIDTHS.as_slice())?;
+    for row in rows {
+        columns.fit(row.as_slice());
+    }
+    let mut text = String::new(alloc);
+    for row in rows {
+        columns.push(&mut text, row.as_slice())?;
+    }
     Ok(text)
 }
 
@@ -58,29 +71,29 @@ fn sizes_of(ty: &AsnType) -> TypeSizes {
 #[cycle(outline)]
 fn push_type(
     alloc: Global,
-    table: &mut Table,
+    rows: &mut Vec<Vec<String>>,
     level: usize,
     name: &str,
     need: &str,
     ty: &AsnType,
 ) -> Result<(), AllocError> {
-    push_part(alloc, table, level, name, need, ty)?;
+    push_part(alloc, rows, level, name, need, ty)?;
     let inner = level.saturating_add(1);
     match ty {
         AsnType::Seq { root, ext } => {
-            push_fields(alloc, table, inner, root)?;
+            push_fields(alloc, rows, inner, root)?;
             if let Some(additions) = ext {
-                push_mark(alloc, table, inner)?;
-                push_fields(alloc, table, inner, additions)?;
+                push_mark(alloc, rows, inner)?;
+                push_fields(alloc, rows, inner, additions)?;
             }
             Ok(())
         }
-        AsnType::SeqOf(element, _) => push_type(alloc, table, inner, "[]", "", element),
+        AsnType::SeqOf(element, _) => push_type(alloc, rows, inner, "[]", "", element),
         AsnType::Choice { root, ext } => {
-            push_alternatives(alloc, table, inner, root)?;
+            push_alternatives(alloc, rows, inner, root)?;
             if let Some(additions) = ext {
-                push_mark(alloc, table, inner)?;
-                push_alternatives(alloc, table, inner, additions)?;
+                push_mark(alloc, rows, inner)?;
+                push_alternatives(alloc, rows, inner, additions)?;
             }
             Ok(())
         }
@@ -99,7 +112,7 @@ fn push_type(
 #[cycle(outline)]
 fn push_fields(
     alloc: Global,
-    table: &mut Table,
+    rows: &mut Vec<Vec<String>>,
     level: usize,
     fields: &[Field],
 ) -> Result<(), AllocError> {
@@ -107,7 +120,7 @@ fn push_fields(
         let need = need_text(alloc, field)?;
         push_type(
             alloc,
-            table,
+            rows,
             level,
             field.name.as_str(),
             need.as_str(),
@@ -130,14 +143,14 @@ fn need_text(alloc: Global, field: &Field) -> Result<String, AllocError> {
 #[cycle(outline)]
 fn push_alternatives(
     alloc: Global,
-    table: &mut Table,
+    rows: &mut Vec<Vec<String>>,
     level: usize,
     alternatives: &[Alt],
 ) -> Result<(), AllocError> {
     for alternative in alternatives {
         push_type(
             alloc,
-            table,
+            rows,
             level,
             alternative.name.as_str(),
             "",
@@ -148,9 +161,10 @@ fn push_alternatives(
 }
 
 /// Adds the line of an extension marker.
-fn push_mark(alloc: Global, table: &mut Table, level: usize) -> Result<(), AllocError> {
+fn push_mark(alloc: Global, rows: &mut Vec<Vec<String>>, level: usize) -> Result<(), AllocError> {
     let mark = indented(alloc, level, "...")?;
-    table.push_cells([mark.as_str()].as_slice())
+    rows.push(row_of(alloc, [mark.as_str()].as_slice())?)?;
+    Ok(())
 }
 
 /// A name, as far in as its level stands.
@@ -164,7 +178,7 @@ fn indented(alloc: Global, level: usize, name: &str) -> Result<String, AllocErro
 /// Adds the line of a part.
 fn push_part(
     alloc: Global,
-    table: &mut Table,
+    rows: &mut Vec<Vec<String>>,
     level: usize,
     name: &str,
     need: &str,
@@ -174,15 +188,13 @@ fn push_part(
     let name = indented(alloc, level, name)?;
     let mut notation = type_text(alloc, ty)?;
     notation.push_str(need)?;
-    let bits = extent_text(alloc, sizes.per_bits)?;
-    let octets = extent_text(alloc, sizes.oer_octets)?;
-    let cells = [
-        name.as_str(),
-        notation.as_str(),
-        bits.as_str(),
-        octets.as_str(),
-    ];
-    table.push_cells(cells.as_slice())
+    let mut row = Vec::new(alloc);
+    row.push(name)?;
+    row.push(notation)?;
+    row.push(extent_text(alloc, sizes.per_bits)?)?;
+    row.push(extent_text(alloc, sizes.oer_octets)?)?;
+    rows.push(row)?;
+    Ok(())
 }
 
 /// From the least to the greatest number; one number where they are the same.

@@ -9,6 +9,7 @@
 # in PER and OER (NAME.per, NAME.oer), a line a message. The octets were worked out by reference.py. Of the two versions of
 # a module, meter-1.asn and meter-2.asn, there is what each reads of the messages of the other (meter-1.reads-per and so on).
 # cam.pretty is what `show --pretty --order declared` writes of cam.per, and signalling.counts what `check --stats` tells of signalling.per.
+# rows.fields is what `fields` shows of rows.per, cam.html the page of cam.per, and cam.types the type of its messages.
 set -euo pipefail
 program=${1:+$(realpath "$1")}
 cd "$(dirname "$0")"
@@ -66,7 +67,18 @@ if [ -n "$program" ]; then
   # the layouts of JSON, and what is counted
   "$program" show --type Message --rules per --module cam.asn --pretty --order declared <cam.per | cmp - cam.pretty || fail "show --pretty"
   "$program" check --type Message --rules per --module signalling.asn --stats <signalling.per 2>&1 >"$work/counts" | cmp - signalling.counts || fail "check --stats"
-  echo "examples: each order on four modules, newer on two versions of one, in both encoding rules; the forms of octets, layouts and counts"
+  # messages field by field, a type with its widths, and values that are encoded and shown again
+  "$program" fields --type Msg --rules per --module rows.asn <rows.per | cmp - rows.fields || fail "fields"
+  "$program" fields --type Message --rules per --module cam.asn --html <cam.per | cmp - cam.html || fail "fields --html"
+  "$program" types Message --module cam.asn | cmp - cam.types || fail "types"
+  for name in cam bsm signalling; do
+    "$program" example --type Message --module "$name.asn" --count 50 >"$work/values" || fail "example $name: status $?"
+    for rules in per oer; do
+      "$program" encode --type Message --rules "$rules" --module "$name.asn" <"$work/values" >"$work/octets" || fail "encode of example $name $rules"
+      "$program" show --type Message --rules "$rules" --module "$name.asn" <"$work/octets" | cmp - "$work/values" || fail "show of example $name $rules"
+    done
+  done
+  echo "examples: each order on four modules, newer on two versions of one, in both encoding rules; the forms of octets, layouts and counts; fields, types and examples"
   ./faults.sh "$program"
   exit
 fi

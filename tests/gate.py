@@ -12,7 +12,8 @@ usage: tests/gate.py [PART..]      the parts are proofs, edits and tests; all th
 3. tests: the programs of tests/programs are built without a proof of their own (tests/room.py), and what they write is
    compared; tests/refused_allocations.sh refuses in turn each allocation of programs; tests/first.py runs `asn_first`,
    and examples/run.sh, tests/versions.py, tests/published.py, published_commands.py, published_sets.py,
-   published_tags.py, published_sequences.py, streaming.py, forms.py and tests/installed.sh `asn_tool`, as the gate has built them;
+   published_tags.py, published_sequences.py, streaming.py, forms.py, shown.py and tests/installed.sh `asn_tool`, as the gate
+   has built them;
    tests/octet_counts.py and tests/published_rows.py look at rows without a program;
    bindings/tests.sh calls the library for C from four languages, as each of two compilers makes it of what is proved,
    and skips a language whose compiler is not there. Beside the proofs, those that want none of what is proved begin at
@@ -210,6 +211,7 @@ def tests_of_programs(part, room):
     step(part, ["tests/first.py", FIRST])
     step(part, ["tests/streaming.py", TOOL])
     step(part, ["tests/forms.py", TOOL])
+    step(part, ["tests/shown.py", TOOL])
     step(part, ["examples/run.sh", TOOL])
     step(part, ["tests/versions.py", TOOL])
     step(part, ["tests/published.py", TOOL])

@@ -90,7 +90,7 @@ pub struct MessageField {
     /// `$`, and then `.name` for each component or alternative and `[i]`, counted from 0, for each element on the way to
     /// the part of the value that it is of.
     pub path: String,
-    /// The type of that part, without those inside it.
+    /// The type of that part, without those inside it; of the length determinant of an open type field these words.
     pub ty: String,
     /// What it says: for `Contents` and `Default` the value in the notation of X.680.
     pub text: String,

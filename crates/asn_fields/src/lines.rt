@@ -2,31 +2,32 @@
 
 use crate::field::{FieldKind, MessageField};
 use crate::message::MessageFields;
-use crate::units_text::marked_octets;
-use crate::widths::push_column;
+use crate::table::Columns;
+use crate::units_text::{marked_octets, push_hex};
 use asn_rules::{DecodeFault, Unit};
 use std::alloc::{AllocError, Global};
 
-/// How wide the columns are, in characters, where what stands in them is no wider.
-const UNITS_WIDTH: usize = 11;
-
-const OCTETS_WIDTH: usize = 24;
-
-const PATH_WIDTH: usize = 28;
-
-const TYPE_WIDTH: usize = 28;
+/// How wide the columns are at least, in characters: the units, the octets, the path and the type.
+const WIDTHS: [usize; 4] = [11, 24, 28, 28];
 
 impl MessageFields {
     /// The fields as text, a line each: the first and the last unit, or a hyphen where the field has none; the octets in
     /// which it lies, in hexadecimal, and, where these are one or two in PER, its bits; the path; the type; and what it is,
-    /// with what it says. Where the octets are no message, a last line says why. The octets are those of the fields.
+    /// with what it says; in columns. Where the octets are no message, a last line says why. The octets are those of the fields.
     ///
     /// # Errors
     /// `AllocError` where an allocation failed.
     pub fn lines(&self, alloc: Global, octets: &[u8]) -> Result<String, AllocError> {
+        let mut columns = Columns::new(alloc, WIDTHS.as_slice())?;
+        for field in &self.fields {
+            let row = row_of_field(alloc, self.unit, field, octets)?;
+            columns.fit(row.as_slice());
+        }
+        // (a line is made twice, since the fields may be many)
         let mut text = String::new(alloc);
         for field in &self.fields {
-            push_line(alloc, &mut text, self.unit, field, octets)?;
+            let row = row_of_field(alloc, self.unit, field, octets)?;
+            columns.push(&mut text, row.as_slice())?;
         }
         if let Err(fault) = &self.answer {
             push_fault(alloc, &mut text, self.unit, fault)?;
@@ -35,22 +36,22 @@ impl MessageFields {
     }
 }
 
-/// Adds the line of a field.
-fn push_line(
+/// The cells of the line of a field.
+fn row_of_field(
     alloc: Global,
-    text: &mut String,
     unit: Unit,
     field: &MessageField,
     octets: &[u8],
-) -> Result<(), AllocError> {
-    let units = units_text(alloc, field)?;
-    let marked = marked_octets(alloc, unit, field, octets)?;
-    push_column(text, units.as_str(), UNITS_WIDTH)?;
-    push_column(text, marked.as_str(), OCTETS_WIDTH)?;
-    push_column(text, field.path.as_str(), PATH_WIDTH)?;
-    push_column(text, field.ty.as_str(), TYPE_WIDTH)?;
-    push_said(text, field)?;
-    text.push_str("\n")
+) -> Result<Vec<String>, AllocError> {
+    let mut said = String::new(alloc);
+    push_said(&mut said, field)?;
+    let mut row = Vec::new(alloc);
+    row.push(units_text(alloc, field)?)?;
+    row.push(marked_octets(alloc, unit, field, octets)?)?;
+    row.push(String::from_str(alloc, field.path.as_str())?)?;
+    row.push(String::from_str(alloc, field.ty.as_str())?)?;
+    row.push(said)?;
+    Ok(row)
 }
 
 /// The first and the last unit of a field: one number where it has one unit, a hyphen where it has none.
@@ -69,12 +70,26 @@ pub(crate) fn units_text(alloc: Global, field: &MessageField) -> Result<String, 
 /// Adds what a field is, and what it says: of contents the value alone.
 pub(crate) fn push_said(text: &mut String, field: &MessageField) -> Result<(), AllocError> {
     if field.kind == FieldKind::Contents {
-        return text.push_str(field.text.as_str());
+        return push_visible(text, field.text.as_str());
     }
     text.push_str(field.kind.name())?;
     if !field.text.is_empty() {
         text.push_str(" ")?;
-        text.push_str(field.text.as_str())?;
+        push_visible(text, field.text.as_str())?;
+    }
+    Ok(())
+}
+
+/// Adds a text, its control characters as a backslash, an x and their numbers in hexadecimal, so that it stays on its line.
+fn push_visible(text: &mut String, said: &str) -> Result<(), AllocError> {
+    for character in said.chars() {
+        match character {
+            '\0'..='\x1F' | '\x7F'..='\u{9F}' => {
+                text.push_str("\\x")?;
+                push_hex(text, u8::try_from(u32::from(character)).unwrap_or(0))?;
+            }
+            other => text.push(other)?,
+        }
     }
     Ok(())
 }

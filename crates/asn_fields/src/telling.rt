@@ -2,13 +2,16 @@
 
 use crate::field::{FieldKind, MessageField};
 use crate::splitting::{Split, split_of};
-use crate::type_text::type_text;
+use crate::type_text::{list_text, type_text};
 use asn_bits::BitCursor;
 use asn_rules::Unit;
 use asn_values::internal::is_in_size;
 use asn_values::{AsnType, Field, Need, Size, Value};
 use asn_walk::{PresenceBits, ReadLeaves};
 use std::alloc::{AllocError, Global};
+
+/// What stands for the type of the length determinant of an open type field.
+const OPEN_TYPE: &str = "open type field";
 
 /// The least number of items that PER encodes in fragments.
 const FRAGMENTED: usize = 16_384;
@@ -269,12 +272,13 @@ impl<'t> Walk<'t> {
             Unit::Bit => FieldKind::LengthDeterminant,
             Unit::Octet => FieldKind::Quantity,
         };
+        let ty = list_text(self.alloc, size)?;
         if matches!(self.unit, Unit::Bit) && size.ext && before == 0 {
             let is_extended = !is_in_size(size, count);
-            self.tell_extension("SEQUENCE OF", is_extended)?;
+            self.tell_extension(ty.as_str(), is_extended)?;
         }
         if self.told_to < to {
-            self.tell_number(kind, to, "SEQUENCE OF", count as u64)?;
+            self.tell_number(kind, to, ty.as_str(), count as u64)?;
         }
         Ok(())
     }
@@ -287,18 +291,14 @@ impl<'t> Walk<'t> {
         octets: usize,
         to: u64,
     ) -> Result<bool, AllocError> {
-        let name = type_text(self.alloc, ty)?;
         if matches!(self.unit, Unit::Bit) && octets >= FRAGMENTED {
+            let name = type_text(self.alloc, ty)?;
             self.tell(FieldKind::OpenType, to, name.as_str(), "")?;
             return Ok(false);
         }
         let start = to.saturating_sub(self.units_in(octets));
-        self.tell_number(
-            FieldKind::LengthDeterminant,
-            start,
-            name.as_str(),
-            octets as u64,
-        )?;
+        let kind = FieldKind::LengthDeterminant;
+        self.tell_number(kind, start, OPEN_TYPE, octets as u64)?;
         Ok(true)
     }
 

@@ -3,7 +3,8 @@
 use asn_values::{AsnType, Bounds, Size, TextKind};
 use std::alloc::{AllocError, Global};
 
-/// The notation of the type (X.680); of a SEQUENCE, a SEQUENCE OF, a CHOICE and an ENUMERATED the words alone.
+/// The notation of the type (X.680); of a SEQUENCE, a CHOICE and an ENUMERATED the word alone, of a SEQUENCE OF without
+/// the type of its elements.
 ///
 /// # Errors
 /// `AllocError` where an allocation failed.
@@ -20,9 +21,16 @@ pub(crate) fn type_text(alloc: Global, ty: &AsnType) -> Result<String, AllocErro
         AsnType::Text(TextKind::Visible, size) => with_size(alloc, "VisibleString", size),
         AsnType::Utf8 => String::from_str(alloc, "UTF8String"),
         AsnType::Seq { .. } => String::from_str(alloc, "SEQUENCE"),
-        AsnType::SeqOf(..) => String::from_str(alloc, "SEQUENCE OF"),
+        AsnType::SeqOf(_, size) => list_text(alloc, size),
         AsnType::Choice { .. } => String::from_str(alloc, "CHOICE"),
     }
+}
+
+/// The notation of a SEQUENCE OF of this size, without the type of its elements.
+pub(crate) fn list_text(alloc: Global, size: &Size) -> Result<String, AllocError> {
+    let mut text = with_size(alloc, "SEQUENCE", size)?;
+    text.push_str(" OF")?;
+    Ok(text)
 }
 
 /// INTEGER, and its value range.

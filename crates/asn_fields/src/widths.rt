@@ -3,6 +3,7 @@
 use crate::extent::Extent;
 use crate::oer_widths::octets_of;
 use crate::per_widths::bits_of;
+use crate::table::{Columns, push_spaces, row_of};
 use crate::type_text::type_text;
 use asn_values::{Alt, AsnType, Checked, Field, Need};
 use std::alloc::{AllocError, Global};
@@ -10,12 +11,8 @@ use std::alloc::{AllocError, Global};
 /// How many spaces a line stands further in for each level.
 const INDENT: usize = 2;
 
-/// How wide the columns are, in characters, where what stands in them is no wider.
-const NAME_WIDTH: usize = 30;
-
-const TYPE_WIDTH: usize = 32;
-
-const BITS_WIDTH: usize = 14;
+/// How wide the columns are at least, in characters: the name, the type and the bits.
+const WIDTHS: [usize; 3] = [30, 32, 14];
 
 /// The least and the greatest size of encodings.
 #[derive(Clone, Copy, Debug, PartialEq, Eq)]
@@ -38,9 +35,10 @@ pub fn sizes(ty: &Checked) -> TypeSizes {
 /// # Errors
 /// `AllocError` where an allocation failed.
 pub fn outline(alloc: Global, name: &str, ty: &Checked) -> Result<String, AllocError> {
-    let mut text = String::new(alloc);
-    push_head(&mut text)?;
-    push_type(alloc, &mut text, 0, name, "", ty.get())?;
+    let mut rows = Vec::new(alloc);
+    rows.push(row_of(alloc, ["", "", "PER bits", "OER octets"].as_slice())?)?;
+    push_type(alloc, &mut rows, 0, name, "", ty.get())?;
+    let mut text = lines_of(alloc, rows.as_slice())?;
     let octets = sizes(ty).per_bits.in_octets();
     let message = extent_text(alloc, octets)?;
     text.push_str("a message in PER has ")?;
@@ -49,12 +47,17 @@ pub fn outline(alloc: Global, name: &str, ty: &Checked) -> Result<String, AllocE
     Ok(text)
 }
 
-/// Adds what the columns are.
-fn push_head(text: &mut String) -> Result<(), AllocError> {
-    push_column(text, "", NAME_WIDTH)?;
-    push_column(text, "", TYPE_WIDTH)?;
-    push_column(text, "PER bits", BITS_WIDTH)?;
-    text.push_str("OER octets\n")
+/// Lines of these cells, in columns.
+fn lines_of(alloc: Global, rows: &[Vec<String>]) -> Result<String, AllocError> {
+    let mut columns = Columns::new(alloc, WIDTHS.as_slice())?;
+    for row in rows {
+        columns.fit(row.as_slice());
+    }
+    let mut text = String::new(alloc);
+    for row in rows {
+        columns.push(&mut text, row.as_slice())?;
+    }
+    Ok(text)
 }
 
 fn sizes_of(ty: &AsnType) -> TypeSizes {
@@ -68,29 +71,29 @@ fn sizes_of(ty: &AsnType) -> TypeSizes {
 #[cycle(outline)]
 fn push_type(
     alloc: Global,
-    text: &mut String,
+    rows: &mut Vec<Vec<String>>,
     level: usize,
     name: &str,
     need: &str,
     ty: &AsnType,
 ) -> Result<(), AllocError> {
-    push_part(alloc, text, level, name, need, ty)?;
+    push_part(alloc, rows, level, name, need, ty)?;
     let inner = level.saturating_add(1);
     match ty {
         AsnType::Seq { root, ext } => {
-            push_fields(alloc, text, inner, root)?;
+            push_fields(alloc, rows, inner, root)?;
             if let Some(additions) = ext {
-                push_mark(text, inner)?;
-                push_fields(alloc, text, inner, additions)?;
+                push_mark(alloc, rows, inner)?;
+                push_fields(alloc, rows, inner, additions)?;
             }
             Ok(())
         }
-        AsnType::SeqOf(element, _) => push_type(alloc, text, inner, "[]", "", element),
+        AsnType::SeqOf(element, _) => push_type(alloc, rows, inner, "[]", "", element),
         AsnType::Choice { root, ext } => {
-            push_alternatives(alloc, text, inner, root)?;
+            push_alternatives(alloc, rows, inner, root)?;
             if let Some(additions) = ext {
-                push_mark(text, inner)?;
-                push_alternatives(alloc, text, inner, additions)?;
+                push_mark(alloc, rows, inner)?;
+                push_alternatives(alloc, rows, inner, additions)?;
             }
             Ok(())
         }
@@ -109,33 +112,45 @@ fn push_type(
 #[cycle(outline)]
 fn push_fields(
     alloc: Global,
-    text: &mut String,
+    rows: &mut Vec<Vec<String>>,
     level: usize,
     fields: &[Field],
 ) -> Result<(), AllocError> {
     for field in fields {
-        let need = match field.need {
-            Need::Must => "",
-            Need::Optional => " OPTIONAL",
-            Need::Default(_) => " DEFAULT",
-        };
-        push_type(alloc, text, level, field.name.as_str(), need, &field.ty)?;
+        let need = need_text(alloc, field)?;
+        push_type(
+            alloc,
+            rows,
+            level,
+            field.name.as_str(),
+            need.as_str(),
+            &field.ty,
+        )?;
     }
     Ok(())
+}
+
+/// What stands behind the type of a component: whether it may be absent, and its DEFAULT.
+fn need_text(alloc: Global, field: &Field) -> Result<String, AllocError> {
+    match &field.need {
+        Need::Must => Ok(String::new(alloc)),
+        Need::Optional => String::from_str(alloc, " OPTIONAL"),
+        Need::Default(value) => format!(in alloc; " DEFAULT {}", value.notation(&field.ty)),
+    }
 }
 
 /// Adds the lines of alternatives.
 #[cycle(outline)]
 fn push_alternatives(
     alloc: Global,
-    text: &mut String,
+    rows: &mut Vec<Vec<String>>,
     level: usize,
     alternatives: &[Alt],
 ) -> Result<(), AllocError> {
     for alternative in alternatives {
         push_type(
             alloc,
-            text,
+            rows,
             level,
             alternative.name.as_str(),
             "",
@@ -146,32 +161,40 @@ fn push_alternatives(
 }
 
 /// Adds the line of an extension marker.
-fn push_mark(text: &mut String, level: usize) -> Result<(), AllocError> {
-    push_spaces(text, level.saturating_mul(INDENT))?;
-    text.push_str("...\n")
+fn push_mark(alloc: Global, rows: &mut Vec<Vec<String>>, level: usize) -> Result<(), AllocError> {
+    let mark = indented(alloc, level, "...")?;
+    rows.push(row_of(alloc, [mark.as_str()].as_slice())?)?;
+    Ok(())
+}
+
+/// A name, as far in as its level stands.
+fn indented(alloc: Global, level: usize, name: &str) -> Result<String, AllocError> {
+    let mut text = String::new(alloc);
+    push_spaces(&mut text, level.saturating_mul(INDENT))?;
+    text.push_str(name)?;
+    Ok(text)
 }
 
 /// Adds the line of a part.
 fn push_part(
     alloc: Global,
-    text: &mut String,
+    rows: &mut Vec<Vec<String>>,
     level: usize,
     name: &str,
     need: &str,
     ty: &AsnType,
 ) -> Result<(), AllocError> {
     let sizes = sizes_of(ty);
-    let indent = level.saturating_mul(INDENT);
-    push_spaces(text, indent)?;
-    push_column(text, name, NAME_WIDTH.saturating_sub(indent))?;
+    let name = indented(alloc, level, name)?;
     let mut notation = type_text(alloc, ty)?;
     notation.push_str(need)?;
-    push_column(text, notation.as_str(), TYPE_WIDTH)?;
-    let bits = extent_text(alloc, sizes.per_bits)?;
-    push_column(text, bits.as_str(), BITS_WIDTH)?;
-    let octets = extent_text(alloc, sizes.oer_octets)?;
-    text.push_str(octets.as_str())?;
-    text.push_str("\n")
+    let mut row = Vec::new(alloc);
+    row.push(name)?;
+    row.push(notation)?;
+    row.push(extent_text(alloc, sizes.per_bits)?)?;
+    row.push(extent_text(alloc, sizes.oer_octets)?)?;
+    rows.push(row)?;
+    Ok(())
 }
 
 /// From the least to the greatest number; one number where they are the same.
@@ -182,19 +205,4 @@ fn extent_text(alloc: Global, extent: Extent) -> Result<String, AllocError> {
         Some(greatest) => format!(in alloc; "{least}..{greatest}"),
         None => format!(in alloc; "{least}.."),
     }
-}
-
-/// Adds a column, filled up to its width, and two spaces.
-pub(crate) fn push_column(text: &mut String, column: &str, width: usize) -> Result<(), AllocError> {
-    text.push_str(column)?;
-    push_spaces(text, width.saturating_sub(column.len()))?;
-    text.push_str("  ")
-}
-
-/// Adds this many spaces.
-fn push_spaces(text: &mut String, count: usize) -> Result<(), AllocError> {
-    for _ in 0..count {
-        text.push_str(" ")?;
-    }
-    Ok(())
 }

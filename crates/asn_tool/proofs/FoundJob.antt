@@ -13,8 +13,10 @@ use Rattle.asn_convert.specs.declared.job.Order.{Order}
 use Rattle.asn_convert.specs.declared.job.Order.TheVariants as order
 use Rattle.asn_convert.specs.declared.job.RuleName.{RuleName}
 use Rattle.asn_convert.specs.declared.job.RuleName.TheVariants as rules
-use Rattle.asn_tool.specs.Command.{HasOptions, IsOneOf, IsTaken, order_names, rule_names}
-use Rattle.asn_tool.specs.Request.{HasRequest, IsJobOf, IsRequestOf, order_name, rule_name}
+use Rattle.asn_tool.specs.declared.look.Looking.{Looking}
+use Rattle.asn_tool.specs.declared.look.Looking.TheVariants as looking
+use Rattle.asn_tool.specs.Command.{HasOptions, IsOneOf, IsTaken, look_names, order_names, rule_names}
+use Rattle.asn_tool.specs.Request.{HasRequest, IsJobOf, IsRequestOf, look_name, order_name, rule_name}
 
 some≢none : {X : Type 0} (x : X) → Some x ≡ None → ⊥
 some≢none x e = true≢false (ap (λ o. is_some o) e)
@@ -39,11 +41,20 @@ met m name rows n r = go (subcommand_rows_of m) (n ∙ names (out-ArgMatches m).
 pub other_name : (name text : Text) → false ≡ bytes_eq name text → true ≡ bytes_eq text text → name ≢ text
 other_name name text differs self is = true≢false (self ∙ (ap (λ n. bytes_eq n text) (sym is) ∙ sym differs))
 
--- a subcommand other than `flatten` and `module` has its options
-pub options : (found : Text × List Row) → IsTaken (Some found) → (found.0 ≢ codes "flatten") → (found.0 ≢ codes "module") → HasOptions found
-options found (inl named) flat other = absurd (flat named)
-options found (inr (inl named)) flat other = absurd (other named)
-options found (inr (inr has)) flat other = has
+-- each name of a subcommand that shows something is found
+look_known : (name : Text) → IsOneOf name look_names → ((l : Looking) → look_name l ≢ name) → ⊥
+look_known name (inl e) none = none looking.Fields (sym e)
+look_known name (inr (inl e)) none = none looking.Types (sym e)
+look_known name (inr (inr (inl e))) none = none looking.Example (sym e)
+look_known name (inr (inr (inr e))) none = e
+
+-- a subcommand other than `flatten`, `module` and these has its options
+pub options : (found : Text × List Row) → IsTaken (Some found) → (found.0 ≢ codes "flatten") → (found.0 ≢ codes "module")
+    → ((l : Looking) → look_name l ≢ found.0) → HasOptions found
+options found (inl named) flat other none = absurd (flat named)
+options found (inr (inl named)) flat other none = absurd (other named)
+options found (inr (inr (inl look))) flat other none = absurd (look_known found.0 look none)
+options found (inr (inr (inr has))) flat other none = has
 
 -- each name of an order is found
 pub order_known : (name : Text) → IsOneOf name order_names → ((o : Order) → order_name o ≢ name) → ⊥

@@ -18,13 +18,13 @@ use Rattle.clap.specs.declared.builder.value_parser.ValueParser.TheVariants.{Nam
 use Rattle.clap.specs.declared.builder.value_parser.Reading.{Reading}
 use Rattle.clap.specs.declared.error.kind.ErrorKind.TheVariants as kind
 use Rattle.clap.proofs.WalkLemmas.{list_any-map}
-use Rattle.asn_tool.specs.Command.{AreOrders, HasOptions, IsOneOf, IsTaken, IsTool, Parsers, TakeNames, TakesNames, flatten_app, module_shape, order_names, order_shape, orders, rule_names, tool}
+use Rattle.asn_tool.specs.Command.{AreOrders, HasOptions, IsOneOf, IsTaken, IsTool, Parsers, TakeNames, TakesNames, flatten_app, look_names, module_shape, order_names, order_shape, orders, rule_names, tool}
 use Rattle.asn_tool.proofs.SetOptions.{Each, IsDefaulted, IsOption, check_passes, default_row, found, given_row, level_good, no_kind, none_first, none_next, set_row}
 use Rattle.asn_tool.proofs.NotHelp.{StopsElsewhere, walk_stops}
 
 -- what a subcommand takes from the command above it, once that is built
 abbrev above : Shape
-above = record (tool None []).top { is_built = true }
+above = record (tool None None None []).top { is_built = true }
 
 abbrev built_order : Text × Bool → Parsers → Shape
 built_order o p = built_leaf (inherited above (order_shape o p))
@@ -62,13 +62,13 @@ each_given (o ∷ os) (s ∷ shapes) are =
     rw here (each_given os shapes are.1)
 
 pub tool_simple : (a : App) → IsTool a → is_simple a ≡ true
-tool_simple a t = subst (λ x. is_simple x ≡ true) (sym t.4)
-    (rw (each_given orders t.1 t.3, each_leaf is_ready_leaf refl (each_order is_ready_leaf (λ name p. refl) (λ name p. refl)) orders t.1 t.3) refl)
+tool_simple a t = subst (λ x. is_simple x ≡ true) (sym t.8)
+    (rw (each_given orders t.3 t.7, each_leaf is_ready_leaf refl (each_order is_ready_leaf (λ name p. refl) (λ name p. refl)) orders t.3 t.7) refl)
 
 pub tool_free : (a : App) → IsTool a → is_simple_and_free a ≡ true
 tool_free a t =
-    let free : is_free_app (built a) ≡ true = subst (λ x. is_free_app (built x) ≡ true) (sym t.4)
-    (rw (each_leaf has_free_rules refl (each_order has_free_rules (λ name p. refl) (λ name p. refl)) orders t.1 t.3) refl) in
+    let free : is_free_app (built a) ≡ true = subst (λ x. is_free_app (built x) ≡ true) (sym t.8)
+    (rw (each_leaf has_free_rules refl (each_order has_free_rules (λ name p. refl) (λ name p. refl)) orders t.3 t.7) refl) in
     rw (tool_simple a t, free) refl
 
 -- ---- the options of an order
@@ -234,22 +234,22 @@ module _ (p : Parsers) (names : Bor (List (Bor (List ℕ)))) (are : map (λ name
 -- ---- the subcommands
 
 abbrev IsBuilt : Shape → Type 0
-IsBuilt s = (s.name ≡ codes "flatten") ⊎ ((s.name ≡ codes "module") ⊎ ((label_of s ≡ (codes "help", []))
-    ⊎ ((o : Text × Bool) × IsOneOf o.0 order_names × ((p : Parsers) × TakeNames p × (s ≡ built_order o p)))))
+IsBuilt s = (s.name ≡ codes "flatten") ⊎ ((s.name ≡ codes "module") ⊎ (IsOneOf s.name look_names ⊎ ((label_of s ≡ (codes "help", []))
+    ⊎ ((o : Text × Bool) × IsOneOf o.0 order_names × ((p : Parsers) × TakeNames p × (s ≡ built_order o p))))))
 
 each_sub : (os : List (Text × Bool)) (shapes : List Shape) → ((name : Text) → IsOneOf name (map (λ o. o.0) os) → IsOneOf name order_names) → AreOrders os shapes
     → Each IsBuilt (built_subs shapes)
-each_sub [] [] known are = (inr (inr (inl refl)), tt)
+each_sub [] [] known are = (inr (inr (inr (inl refl))), tt)
 each_sub [] (s ∷ shapes) known are = absurd are
 each_sub (o ∷ os) [] known are = absurd are
 each_sub (o ∷ os) (s ∷ shapes) known are = (
-  inr (inr (inr (o, known o.0 (inl refl), (are.0.0, are.0.1, ap (λ x. built_leaf (inherited above x)) are.0.2)))),
+  inr (inr (inr (inr (o, known o.0 (inl refl), (are.0.0, are.0.1, ap (λ x. built_leaf (inherited above x)) are.0.2))))),
   each_sub os shapes (λ n i. known n (inr i)) are.1,
 )
 
-module _ (report : Option ValueParser) (shapes : List Shape) (are : AreOrders orders shapes) (words : List Text) (e : fault_of (tool report shapes) words ≡ []) where
+module _ (report looks given : Option ValueParser) (shapes : List Shape) (are : AreOrders orders shapes) (words : List Text) (e : fault_of (tool report looks given shapes) words ≡ []) where
   abbrev whole : App
-  whole = built (tool report shapes)
+  whole = built (tool report looks given shapes)
 
   stops : StopsElsewhere (walk whole.top.rules (names_of whole) nothing_held words).stopped
   stops = walk_stops whole.top (names_of whole) refl (walk_from nothing_held) words (none_first _ _ e) tt
@@ -261,7 +261,8 @@ module _ (report : Option ValueParser) (shapes : List Shape) (are : AreOrders or
       → IsTaken (Some (rows_at s p.1))
   taken_sub s p elsewhere (inl named) answers passed = inl named
   taken_sub s p elsewhere (inr (inl named)) answers passed = inr (inl named)
-  taken_sub s p elsewhere (inr (inr (inl help))) answers passed = absurd (true≢false (sym same ∙ elsewhere))
+  taken_sub s p elsewhere (inr (inr (inl look))) answers passed = inr (inr (inl look))
+  taken_sub s p elsewhere (inr (inr (inr (inl help)))) answers passed = absurd (true≢false (sym same ∙ elsewhere))
     where
       or_nothing : (b : Bool) → (b || false) ≡ true → b ≡ true
       or_nothing true e = refl
@@ -270,14 +271,14 @@ module _ (report : Option ValueParser) (shapes : List Shape) (are : AreOrders or
       same : bytes_eq p.0 (codes "help") ≡ true
       same = let is : codes "help" ≡ p.0 = (bytes_eq-Decides (codes "help") p.0).0 (or_nothing _ (subst (λ l. answers_to p.0 l ≡ true) help answers)) in
           subst (λ t. bytes_eq t (codes "help") ≡ true) is refl
-  taken_sub s p elsewhere (inr (inr (inr order))) answers passed =
+  taken_sub s p elsewhere (inr (inr (inr (inr order)))) answers passed =
       let parsers = order.2.0 in
       let names = order.2.1.0.0 in
       let is : s ≡ built_order order.0 (with_names parsers names) = order.2.2 ∙ ap (λ r. built_order order.0 (record parsers { rules = r })) order.2.1.0.1 in
-      inr (inr (subst (λ x. HasOptions (rows_at x p.1)) (sym is)
-      (has_options parsers names order.2.1.0.2 order.0 order.1 p.1 (subst (λ x. level_fault x [] nothing_held p.1 false [] ≡ []) is passed))))
+      inr (inr (inr (subst (λ x. HasOptions (rows_at x p.1)) (sym is)
+      (has_options parsers names order.2.1.0.2 order.0 order.1 p.1 (subst (λ x. level_fault x [] nothing_held p.1 false [] ≡ []) is passed)))))
 
-  taken_tool : IsTaken (subcommand_of (tool report shapes) words)
+  taken_tool : IsTaken (subcommand_of (tool report looks given shapes) words)
   taken_tool = go (walk whole.top.rules (names_of whole) nothing_held words).stopped stops e
     where
       met : (p : Text × List Text) → StopsElsewhere (Some p) → (o : Option Shape) → find (λ s. answers_to p.0 (label_of s)) whole.subs ≡ o
@@ -286,7 +287,7 @@ module _ (report : Option ValueParser) (shapes : List Shape) (are : AreOrders or
           → IsTaken (option_map (λ s. rows_at s p.1) o)
       met p elsewhere None is e = absurd (no_subcommand (check_passes whole.top (names_of whole) words false [] e))
       met p elsewhere (Some s) is e =
-          let got = found IsBuilt (λ s. answers_to p.0 (label_of s)) whole.subs s (inl refl, (inr (inl refl), each_sub orders shapes (λ n i. i) are)) is in
+          let got = found IsBuilt (λ s. answers_to p.0 (label_of s)) whole.subs s (inl refl, (inr (inl refl), (inr (inr (inl (inl refl))), (inr (inr (inl (inr (inl refl)))), (inr (inr (inl (inr (inr (inl refl))))), each_sub orders shapes (λ n i. i) are))))) is in
           taken_sub s p elsewhere got.0 got.1 (none_first _ _ (none_next _ _ e))
 
       go : (stop : Option (Text × List Text)) → StopsElsewhere stop
@@ -297,4 +298,4 @@ module _ (report : Option ValueParser) (shapes : List Shape) (are : AreOrders or
 
 -- words of which clap tells no fault are a subcommand with its options
 pub taken : (a : App) (words : List Text) → IsTool a → fault_of a words ≡ [] → IsTaken (subcommand_of a words)
-taken a words t e = subst (λ x. IsTaken (subcommand_of x words)) (sym t.4) (taken_tool t.0 t.1 t.3 words (subst (λ x. fault_of x words ≡ []) t.4 e))
+taken a words t e = subst (λ x. IsTaken (subcommand_of x words)) (sym t.8) (taken_tool t.0 t.1 t.2 t.3 t.7 words (subst (λ x. fault_of x words ≡ []) t.8 e))

@@ -91,10 +91,13 @@ with_rules a rules = fold with_rule a rules
 abbrev pub source_rules : List Rule
 source_rules = files_rule (codes "module") ∷ flag_rule (codes "explain") ∷ []
 
+-- those for the messages, and the form in which their octets are given
+abbrev pub message_rules : Option ValueParser → List Rule
+message_rules given = files_rule (codes "messages") ∷ names_rule (codes "in") given ∷ flag_rule (codes "split") ∷ []
+
 -- those for the messages and the forms of their octets
 abbrev pub form_rules : Option ValueParser → Option ValueParser → List Rule
-form_rules given written = files_rule (codes "messages") ∷ names_rule (codes "in") given ∷ flag_rule (codes "split")
-    ∷ names_rule (codes "out") written ∷ []
+form_rules given written = message_rules given ++ names_rule (codes "out") written ∷ []
 
 -- those for the layout of JSON, and for what is counted
 abbrev pub answer_rules : Option ValueParser → List Rule
@@ -115,6 +118,28 @@ IsFlatten s = (p : Option ValueParser) × TakesNames report_names p × (s ≡ (f
 -- the subcommand of the module
 abbrev pub module_shape : Shape
 module_shape = (with_rules (new_app (codes "module")) (source_rules ++ leave_rules)).top
+
+-- the subcommand that shows messages field by field, with the parsers of its options whose values are names
+abbrev pub fields_app : Option ValueParser → Option ValueParser → App
+fields_app p given = with_rules (new_app (codes "fields"))
+    (type_rule ∷ rules_rule p ∷ source_rules ++ message_rules given ++ flag_rule (codes "html") ∷ leave_rules)
+
+abbrev pub IsFields : Shape → Type 0
+IsFields s = (p given : Option ValueParser) × TakesNames rule_names p × TakesNames given_names given
+    × (s ≡ (fields_app p given).top)
+
+-- the name of a type, which may be left out
+abbrev pub name_rule : Rule
+name_rule = record (new_rule (codes "name")) { action = Some Set; value_names = 1 }
+
+-- the subcommand that shows types
+abbrev pub types_shape : Shape
+types_shape = (with_rules (new_app (codes "types")) (name_rule ∷ source_rules ++ leave_rules)).top
+
+-- the subcommand that gives values of a type
+abbrev pub example_shape : Shape
+example_shape = (with_rules (new_app (codes "example"))
+    (type_rule ∷ number_rule (codes "seed") ∷ number_rule (codes "count") ∷ source_rules ++ leave_rules)).top
 
 -- the parsers of those options of an order whose values are names
 pub record Parsers : Type 0 where
@@ -157,21 +182,22 @@ AreOrders [] (s ∷ shapes) = ⊥
 AreOrders (o ∷ os) [] = ⊥
 
 -- the command, with its subcommands
-abbrev pub tool : Option ValueParser → List Shape → App
-tool report shapes = record {
+abbrev pub tool : Option ValueParser → Option ValueParser → Option ValueParser → List Shape → App
+tool report rules given shapes = record {
   top = record (new_app (codes "asn_tool")).top {
     has_version = true;
     no_binary_name = true;
     subcommand_required = true;
     is_leaf = false;
   };
-  subs = (flatten_app report).top ∷ module_shape ∷ shapes;
+  subs = (flatten_app report).top ∷ module_shape ∷ (fields_app rules given).top ∷ types_shape ∷ example_shape ∷ shapes;
 }
 
 -- the command is that of the program
 abbrev pub IsTool : App → Type 0
-IsTool a = (report : Option ValueParser) × (shapes : List Shape) × TakesNames report_names report × AreOrders orders shapes
-    × (a ≡ tool report shapes)
+IsTool a = (report rules given : Option ValueParser) × (shapes : List Shape) × TakesNames report_names report
+    × TakesNames rule_names rules × TakesNames given_names given × AreOrders orders shapes
+    × (a ≡ tool report rules given shapes)
 
 -- ---- what it takes
 
@@ -184,7 +210,12 @@ abbrev pub HasOptions : Text × List Row → Type 0
 HasOptions found = IsOneOf found.0 order_names × ((t : Text) × (first_of (codes "type") found.1 ≡ Some t))
     × ((r : Text) × (first_of (codes "rules") found.1 ≡ Some r) × IsOneOf r rule_names)
 
+-- the names of the subcommands that show types, messages or values
+abbrev pub look_names : List Text
+look_names = codes "fields" ∷ codes "types" ∷ codes "example" ∷ []
+
 -- the subcommand, with its options, is one of the command's
 abbrev pub IsTaken : Option (Text × List Row) → Type 0
 IsTaken None = ⊥
-IsTaken (Some found) = (found.0 ≡ codes "flatten") ⊎ ((found.0 ≡ codes "module") ⊎ HasOptions found)
+IsTaken (Some found) =
+    (found.0 ≡ codes "flatten") ⊎ ((found.0 ≡ codes "module") ⊎ (IsOneOf found.0 look_names ⊎ HasOptions found))

@@ -23,6 +23,9 @@ use Rattle.asn_tool.specs.declared.asking.Forms.{Forms}
 use Rattle.asn_tool.specs.declared.request.Form.{Form}
 use Rattle.asn_tool.specs.declared.request.Form.TheVariants as form
 use Rattle.asn_tool.specs.declared.request.LineFault.{LineFault}
+use Rattle.asn_tool.specs.declared.look.Look.{Look}
+use Rattle.asn_tool.specs.declared.look.Looking.{Looking}
+use Rattle.asn_tool.specs.declared.look.Looking.TheVariants as looking
 use Rattle.asn_tool.specs.declared.request.LineFault.TheVariants as line
 use Rattle.asn_tool.specs.declared.request.Request.{Request}
 use Rattle.asn_tool.specs.declared.request.Request.TheVariants as request
@@ -122,6 +125,31 @@ IsAsking rows a = IsFlag (codes "explain") rows a.is_explained
     × (texts_of a.messages.items ≡ files_of (codes "messages") rows) × AreForms rows a.forms × IsLayout rows a.layout
     × IsFlag (codes "stats") rows a.is_counted × IsNumberOf (codes "budget") rows a.budget
 
+-- ---- what is looked at
+
+-- the subcommand, and the id of the name of the type
+abbrev pub look_name : Looking → Text
+look_name looking.Fields = codes "fields"
+look_name looking.Types = codes "types"
+look_name looking.Example = codes "example"
+
+abbrev pub name_id : Looking → Text
+name_id looking.Types = codes "name"
+name_id _ = codes "type"
+
+-- the encoding rules of a name, and those that are given: PER where others are named, or none
+abbrev pub rules_of : Text → RuleName
+rules_of name = if bytes_eq name (codes "oer") then rules.Oer else rules.Per
+
+abbrev pub rules_in : List Row → RuleName
+rules_in rows = option_map_or rules_of (first_of (codes "rules") rows) rules.Per
+
+-- what the options ask for of it
+abbrev pub IsLook : List Row → Look → Type 0
+IsLook rows l = (option_map string_bytes l.type_name ≡ first_of (name_id l.what) rows) × (l.rules ≡ rules_in rows)
+    × IsFlag (codes "html") rows l.is_page × IsNumberOf (codes "seed") rows l.seed
+    × IsNumberOf (codes "count") rows l.count
+
 -- ---- the request
 
 -- what a subcommand asks for, by its name, and the values of its arguments
@@ -129,6 +157,8 @@ abbrev pub IsRequestOf : Text × List Row → Request → Type 0
 IsRequestOf found (request.Flatten files options f) = (found.0 ≡ codes "flatten")
     × (texts_of files.items ≡ files_of (codes "file") found.1) × AreOptions found.1 options × (f ≡ form_in found.1)
 IsRequestOf found (request.Run j files options asking) = IsJobOf found j
+    × (texts_of files.items ≡ files_of (codes "module") found.1) × AreOptions found.1 options × IsAsking found.1 asking
+IsRequestOf found (request.Look l files options asking) = (found.0 ≡ look_name l.what) × IsLook found.1 l
     × (texts_of files.items ≡ files_of (codes "module") found.1) × AreOptions found.1 options × IsAsking found.1 asking
 
 abbrev pub HasRequest : Option (Text × List Row) → Request → Type 0

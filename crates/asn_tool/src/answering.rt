@@ -11,6 +11,7 @@ use asn_plan::Planned;
 use asn_rules::Counted;
 use asn_stats::CountFault;
 use asn_values::Checked;
+use std::alloc::{AllocError, Global};
 use std::io::Write;
 
 /// What is made of messages.
@@ -294,20 +295,26 @@ fn put<W: Write>(output: &mut Counted<W>, octets: &[u8]) -> Result<(), RunFault>
 
 /// Tells on standard error of the message that stands there.
 fn tell(rt: &HostRuntime, place: Place<'_>, words: &str) -> Result<(), RunFault> {
+    let told = place_text(rt.alloc(), place)?;
+    let _ = eprintln!(rt; "{told}: {words}");
+    Ok(())
+}
+
+/// Where a message stands, in words.
+pub fn place_text(alloc: Global, place: Place<'_>) -> Result<String, AllocError> {
     let Place {
         file,
         line,
         message,
     } = place;
     let mut told = if file.is_empty() {
-        format!(in rt.alloc(); "line {line}")?
+        format!(in alloc; "line {line}")?
     } else {
-        format!(in rt.alloc(); "{file}:{line}")?
+        format!(in alloc; "{file}:{line}")?
     };
     if message > 0 {
-        let which = format!(in rt.alloc(); ", message {message}")?;
+        let which = format!(in alloc; ", message {message}")?;
         told.push_str(which.as_str())?;
     }
-    let _ = eprintln!(rt; "{told}: {words}");
-    Ok(())
+    Ok(told)
 }

@@ -2,9 +2,9 @@
 
 /// Of the program.
 pub static PROGRAM: &str = "\
-In: on standard input the text of a module; for all but `module` then a line that is ====, and a line for each message.
-With --module the texts of the module are those of files, and standard input has the messages alone, which are answered
-as they come. The text may be one of the profile, or a module as a standards body publishes it, of which
+In: on standard input the text of a module; for all but `module`, `types` and `example` then a line that is ====, and a
+line for each message. With --module the texts of the module are those of files, and standard input has the messages
+alone, which are answered as they come. The text may be one of the profile, or a module as a standards body publishes it, of which
 `flatten --help` tells.
 Out: on standard output a line for each message, which begins with ! where it is refused. On standard error what is not
 the same of the published types that --type leads to, with file and line.
@@ -195,3 +195,66 @@ Example:
   printf '%s\\n' 'M DEFINITIONS AUTOMATIC TAGS ::= BEGIN' 'T ::= SEQUENCE { a BOOLEAN, ... }' END ==== c04041c0 |
     asn_tool newer --type T --rules per
 writes {\"a\":true} +0:07. With --pretty each member stands on a line of its own.";
+
+/// Of `fields`.
+pub static FIELDS: &str = "\
+In: the text of a module, a line that is ====, and messages in hexadecimal, one a line; or as --module, --messages, --in
+and --split say, of which `asn_tool --help` tells.
+Out: for each message a line for each field: its first and last bit (OER: octet), counted from 1; the octets in which it
+lies, and in PER the bits of the field, where these are in one or two octets; the path of the part of the value; the type;
+and the value, or what else the field is, as X.691 and X.696 call it: a presence bitmap, a length determinant, padding. A
+component that is absent has a hyphen for its bits, and its DEFAULT. Octets that are no message are shown up to where they
+are refused, and a last line tells why. An empty line stands between messages.
+With --html one page in their place, which needs no script: the bits of all messages in colours, and the lines of their
+fields in the same colours.
+
+Exit status: 0 if each line is a message; 1 if at least one is not; 2 if the module was refused or has no type of the
+name; 3 if reading, writing or memory failed.
+
+Example:
+  printf '%s\\n' 'M DEFINITIONS AUTOMATIC TAGS ::= BEGIN' 'T ::= SEQUENCE { id INTEGER (0..7) }' END ==== a0 |
+    asn_tool fields --type T --rules per
+writes
+  1-3          A0 101.....               $.id                          INTEGER (0..7)                5
+  4-8          A0 ...00000               $                                                           padding
+
+A page of the messages of a file, where m.asn has that module:
+  asn_tool fields --type T --rules per --module m.asn --messages m.bin --in binary --html >m.html";
+
+/// Of `types`.
+pub static TYPES: &str = "\
+In: the text of a module. Lines after one that is ==== are ignored. With --module nothing is read of standard input.
+Out: the names of its types, one a line, in order. With NAME that type: a line for each part, with the type of the part
+and the least and the greatest size of its values, in PER in bits and in OER in octets; a size without a greatest number
+has none. The last line has the least and the greatest size of a message in PER, in octets. Of published modules the types
+that are refused are left out, of which `flatten` tells.
+
+Exit status: 0; 2 if the module was refused or has no type of the name; 3 if reading, writing or memory failed.
+
+Example:
+  echo 'M DEFINITIONS AUTOMATIC TAGS ::= BEGIN T ::= SEQUENCE OF U U ::= BOOLEAN END' | asn_tool types
+writes
+  T
+  U
+and, where m.asn has that module, `asn_tool types T --module m.asn` writes
+                                                                  PER bits        OER octets
+  T                               SEQUENCE OF                     8..             2..
+    []                            BOOLEAN                         1               1
+  a message in PER has 1.. octets";
+
+/// Of `example`.
+pub static EXAMPLE: &str = "\
+In: the text of a module. Lines after one that is ==== are ignored. With --module nothing is read of standard input.
+Out: a value of the type as JSON, a line that `encode` reads: of each part the least, without the components that are
+OPTIONAL. With --seed N another, always the same of the same N: of 0 the greatest of each part, with all components; of
+other numbers the least, the greatest and anything between. With --count N so many values, a line each, of the seed and
+the numbers after it, from 0 where none is given.
+
+Exit status: 0; 2 if the module was refused or has no type of the name; 3 if reading, writing or memory failed.
+
+Example:
+  echo 'M DEFINITIONS AUTOMATIC TAGS ::= BEGIN T ::= SEQUENCE { id INTEGER (3..7) } END' | asn_tool example --type T
+writes {\"id\":3}.
+
+Messages for a test, where m.asn has that module:
+  asn_tool example --type T --module m.asn --count 1000 | asn_tool encode --type T --rules per --module m.asn";

@@ -8,13 +8,18 @@ mod budget;
 mod counting;
 mod cutting;
 mod ending;
+mod examples;
 mod explaining;
+mod field_lines;
 mod flattening;
 mod fronts;
 mod help;
 mod laying;
+mod look;
+mod looking;
 mod messages;
 mod piped;
+mod program;
 mod refused;
 mod request;
 mod running;
@@ -26,6 +31,7 @@ mod words;
 
 use ending::refusal_ending;
 use flattening::flatten_files;
+use looking::show;
 use request::{LineFault, Request, request_of};
 use running::run_job;
 use std::io::ErrorKind;
@@ -77,6 +83,12 @@ fn do_request<'a>(rt: &HostRuntime, request: &Request<'a>) -> Result<u8, Stop<'a
             options,
             asking,
         } => run_job(rt, job, files.as_slice(), *options, asking),
+        Request::Look {
+            look,
+            files,
+            options,
+            asking,
+        } => show(rt, look, files.as_slice(), *options, asking),
     }
 }
 

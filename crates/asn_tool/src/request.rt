@@ -5,10 +5,11 @@ ghost use Rattle.asn_convert.specs.declared.job.Order.{Order};
 ghost use Rattle.asn_convert.specs.declared.job.RuleName.{RuleName};
 ghost use Rattle.asn_tool.specs.declared.request.LineFault.{LineFault};
 ghost use Rattle.asn_tool.specs.Command.{HasOptions, IsTaken};
-ghost use Rattle.asn_tool.specs.Request.{AreForms, AreOptions, Asks, HasRequest, IsAsking, IsJobOf, IsLayout, IsNumberOf, IsRequestOf, Told, fault_by, files_of, form_in, form_of, is_declared_in, octet_form_in, octet_form_of, order_name, rule_name, texts_of};
+ghost use Rattle.asn_tool.specs.Request.{AreForms, AreOptions, Asks, HasRequest, IsAsking, IsJobOf, IsLayout, IsNumberOf, IsRequestOf, Told, fault_by, files_of, form_in, form_of, is_declared_in, octet_form_in, octet_form_of, look_name, order_name, rule_name, texts_of};
 
 use crate::asking::{Asking, Forms};
-use crate::words::command;
+use crate::look::{Look, Looking, look_of, looking_named};
+use crate::program::command;
 use asn_convert::{Job, Order, RuleName};
 use asn_json_layout::Layout;
 use asn_octet_forms::OctetForm;
@@ -33,6 +34,16 @@ pub enum Request<'a> {
     /// A job is done.
     Run {
         job: Job,
+        /// Where the texts of the module are; none where it stands on standard input.
+        files: Vec<&'a str>,
+        /// What becomes of published types that the profile does not have as they are.
+        options: Options,
+        /// What is asked for of the messages.
+        asking: Asking<'a>,
+    },
+    /// Something is shown.
+    Look {
+        look: Look,
         /// Where the texts of the module are; none where it stands on standard input.
         files: Vec<&'a str>,
         /// What becomes of published types that the profile does not have as they are.
@@ -94,6 +105,9 @@ fn request_in<'a>(alloc: Global, matches: &ArgMatches<'a>) -> Result<Request<'a>
     if name == "module" {
         return run_in(alloc, options, Job::Module);
     }
+    if let Some(what) = looking_named(name) {
+        return look_in(alloc, options, what);
+    }
     let job = lines_in(alloc, name, options)?;
     run_in(alloc, options, job)
 }
@@ -116,6 +130,22 @@ fn run_in<'a>(alloc: Global, options: &ArgMatches<'a>, job: Job) -> Result<Reque
 {
     Ok(Request::Run {
         job,
+        files: files_in(alloc, options, "module")?,
+        options: options_in(options),
+        asking: asking_in(alloc, options)?,
+    })
+}
+
+/// Something is shown, by these options of the subcommand.
+fn look_in<'a>(
+    alloc: Global,
+    options: &ArgMatches<'a>,
+    what: Looking,
+) -> Result<Request<'a>, AllocError>
+    ensures { IfOk result (λ asked. IsRequestOf (look_name what, rows_of (found_of options.now)) asked) }
+{
+    Ok(Request::Look {
+        look: look_of(alloc, options, what)?,
         files: files_in(alloc, options, "module")?,
         options: options_in(options),
         asking: asking_in(alloc, options)?,

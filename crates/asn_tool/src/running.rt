@@ -38,7 +38,7 @@ pub fn run_job<'a>(
 }
 
 /// Whether standard error tells why a module is refused: where that is asked for, or standard error is a terminal.
-fn tells_of_module(rt: &HostRuntime, asking: &Asking<'_>) -> bool {
+pub fn tells_of_module(rt: &HostRuntime, asking: &Asking<'_>) -> bool {
     asking.is_explained || rt.stderr().is_terminal()
 }
 
@@ -59,7 +59,7 @@ fn run_given<'a>(
 }
 
 /// Writes the remarks on published modules to standard error, and where that is told of a module, that it is one of several.
-fn tell_remarks(rt: &HostRuntime, remarks: &str, is_told: bool) {
+pub fn tell_remarks(rt: &HostRuntime, remarks: &str, is_told: bool) {
     let _ = rt.eprint(remarks);
     if is_told {
         let _ = rt.eprint(imports_told(remarks));
@@ -233,7 +233,7 @@ fn run_with_files<'a>(
 }
 
 /// What stops the program where the texts of the files become no module, after the line of the fault, where that is told.
-fn stopped<'a>(
+pub fn stopped<'a>(
     rt: &HostRuntime,
     files: &[&'a str],
     texts: &[&str],
@@ -280,7 +280,7 @@ fn run_coming<'a>(
 }
 
 /// The exit status of the job on these octets, after the line on standard error, if there is one.
-fn run_on(rt: &HostRuntime, job: &Job, octets: &[u8]) -> u8 {
+pub fn run_on(rt: &HostRuntime, job: &Job, octets: &[u8]) -> u8 {
     let mut input = Counted::new(octets);
     let mut output = Counted::new(Piped::new(io::writer(rt)));
     let answer = run(rt.alloc(), &mut input, &mut output, job);

@@ -1,8 +1,8 @@
-//! The command line as `clap` knows it.
+//! The subcommands and their options, as `clap` knows them.
 ghost use Rattle.std.specs.Prelude.{◌≡◌, IfOk, codes, false, true};
 ghost use Rattle.clap.specs.Words.{app_of, rule_of, shape_of};
 ghost use Rattle.clap.specs.declared.builder.Command.TheViews.{out-Command};
-ghost use Rattle.asn_tool.specs.Command.{IsFlatten, IsOrder, IsOrderApp, IsTool, TakesNames, answer_rules, file_rule, files_rule, flag_rule, form_rules, given_names, leave_rules, member_names, module_shape, names_rule, number_rule, report_names, rule_names, rules_rule, source_rules, type_rule, with_rules, written_names};
+ghost use Rattle.asn_tool.specs.Command.{IsFields, IsFlatten, IsOrder, IsOrderApp, TakesNames, answer_rules, example_shape, file_rule, files_rule, flag_rule, form_rules, given_names, leave_rules, member_names, message_rules, module_shape, name_rule, names_rule, number_rule, report_names, rule_names, rules_rule, source_rules, type_rule, types_shape, with_rules, written_names};
 
 use crate::help;
 use clap::{Arg, ArgAction, Command, value_parser};
@@ -23,38 +23,8 @@ static MEMBERS: [&str; 2] = ["name", "declared"];
 /// The ways to tell what became of the types.
 static REPORTS: [&str; 3] = ["summary", "text", "json"];
 
-/// The program's command, with a subcommand for published modules, for the module and for each order.
-pub fn command<'a>(alloc: Global) -> Result<Command<'a>, AllocError>
-    ensures { IfOk result (λ c. IsTool (app_of c)) }
-{
-    Command::new(alloc, "asn_tool")
-        .version("0.1.0")
-        .about("Shows, checks, encodes and converts messages of the types of ASN.1 modules")
-        .after_help(help::PROGRAM)
-        .no_binary_name(true)
-        .subcommand_required(true)
-        .bin_name("asn_tool")?
-        .subcommand(flatten(alloc)?)?
-        .subcommand(module(alloc)?)?
-        .subcommand(reading(alloc, "show", "Shows messages as JSON", help::SHOW)?)?
-        .subcommand(reading(alloc, "check", "Checks messages", help::CHECK)?)?
-        .subcommand(order(alloc, "encode", "Encodes JSON", help::ENCODE)?)?
-        .subcommand(reading(
-            alloc,
-            "convert",
-            "Converts messages to the other rules",
-            help::CONVERT,
-        )?)?
-        .subcommand(order(
-            alloc,
-            "newer",
-            "Shows messages of other versions of a type",
-            help::NEWER,
-        )?)
-}
-
 /// The subcommand that flattens published modules.
-fn flatten<'a>(alloc: Global) -> Result<Command<'a>, AllocError>
+pub fn flatten<'a>(alloc: Global) -> Result<Command<'a>, AllocError>
     ensures shape { IfOk result (λ c. IsFlatten (shape_of c)) }
     ensures local { IfOk result (λ c. (out-Command c).has_globals ≡ false) }
 {
@@ -99,7 +69,7 @@ fn report_option<'a>(alloc: Global) -> Arg<'a>
 }
 
 /// The subcommand of the module.
-fn module<'a>(alloc: Global) -> Result<Command<'a>, AllocError>
+pub fn module<'a>(alloc: Global) -> Result<Command<'a>, AllocError>
     ensures shape { IfOk result (λ c. shape_of c ≡ module_shape) }
     ensures local { IfOk result (λ c. (out-Command c).has_globals ≡ false) }
 {
@@ -110,8 +80,77 @@ fn module<'a>(alloc: Global) -> Result<Command<'a>, AllocError>
     with_leave(alloc, command)
 }
 
+/// The subcommand that shows messages field by field.
+pub fn fields<'a>(alloc: Global) -> Result<Command<'a>, AllocError>
+    ensures shape { IfOk result (λ c. IsFields (shape_of c)) }
+    ensures local { IfOk result (λ c. (out-Command c).has_globals ≡ false) }
+{
+    let html = flag(
+        alloc,
+        "html",
+        "Writes one page of HTML, without a script, with the bits in colours",
+    );
+    let command = Command::new(alloc, "fields")
+        .about("Shows messages field by field")
+        .after_help(help::FIELDS)
+        .arg(type_option(alloc))?
+        .arg(rules_option(alloc))?;
+    let command = with_source(alloc, command)?;
+    let command = with_messages(alloc, command)?.arg(html)?;
+    with_leave(alloc, command)
+}
+
+/// The subcommand that shows types.
+pub fn types<'a>(alloc: Global) -> Result<Command<'a>, AllocError>
+    ensures shape { IfOk result (λ c. shape_of c ≡ types_shape) }
+    ensures local { IfOk result (λ c. (out-Command c).has_globals ≡ false) }
+{
+    let command = Command::new(alloc, "types")
+        .about("Shows the names of the types, or one type with the sizes of its parts")
+        .after_help(help::TYPES)
+        .arg(name_argument(alloc))?;
+    let command = with_source(alloc, command)?;
+    with_leave(alloc, command)
+}
+
+/// The name of a type, which may be left out.
+fn name_argument<'a>(alloc: Global) -> Arg<'a>
+    ensures rule { rule_of result ≡ name_rule }
+    ensures local { result.global ≡ false }
+{
+    Arg::new(alloc, "name")
+        .value_name("NAME")
+        .action(ArgAction::Set)
+        .help("The type, by its name in the module")
+}
+
+/// The subcommand that gives values of a type.
+pub fn example<'a>(alloc: Global) -> Result<Command<'a>, AllocError>
+    ensures shape { IfOk result (λ c. shape_of c ≡ example_shape) }
+    ensures local { IfOk result (λ c. (out-Command c).has_globals ≡ false) }
+{
+    let seed = number_option(
+        alloc,
+        "seed",
+        "Gives the value that N determines, of 0 the greatest [default: the least value]",
+    );
+    let count = number_option(
+        alloc,
+        "count",
+        "Gives N values, a line each, of one seed after the other [default: 1]",
+    );
+    let command = Command::new(alloc, "example")
+        .about("Writes values of a type as JSON")
+        .after_help(help::EXAMPLE)
+        .arg(type_option(alloc))?
+        .arg(seed)?
+        .arg(count)?;
+    let command = with_source(alloc, command)?;
+    with_leave(alloc, command)
+}
+
 /// The subcommand of an order whose lines are encodings of the type, with the option for what their values may take.
-fn reading<'a>(
+pub fn reading<'a>(
     alloc: Global,
     name: &'a str,
     about: &'a str,
@@ -129,7 +168,7 @@ fn reading<'a>(
 }
 
 /// The subcommand of an order. The type and the encoding rules are required.
-fn order<'a>(
+pub fn order<'a>(
     alloc: Global,
     name: &'a str,
     about: &'a str,
@@ -202,6 +241,16 @@ fn with_forms<'a>(alloc: Global, command: Command<'a>) -> Result<Command<'a>, Al
     ensures local { (out-Command command.entry).has_globals ≡ false
         → IfOk result (λ c. (out-Command c).has_globals ≡ false) }
 {
+    with_messages(alloc, command)?.arg(written_option(alloc))
+}
+
+/// The command with the options for the messages and the form in which their octets are given.
+fn with_messages<'a>(alloc: Global, command: Command<'a>) -> Result<Command<'a>, AllocError>
+    ensures shape { IfOk result (λ c. (p : _) × TakesNames given_names p
+        × (app_of c ≡ with_rules (app_of command.entry) (message_rules p))) }
+    ensures local { (out-Command command.entry).has_globals ≡ false
+        → IfOk result (λ c. (out-Command c).has_globals ≡ false) }
+{
     let files = files_option(
         alloc,
         "messages",
@@ -212,11 +261,7 @@ fn with_forms<'a>(alloc: Global, command: Command<'a>) -> Result<Command<'a>, Al
         "split",
         "Each text has messages one after the other: each begins where the last ended",
     );
-    command
-        .arg(files)?
-        .arg(given_option(alloc))?
-        .arg(split)?
-        .arg(written_option(alloc))
+    command.arg(files)?.arg(given_option(alloc))?.arg(split)
 }
 
 /// The option for the form of the octets that are given.

@@ -10,3 +10,4 @@ lines_in-requires c =
     let is = met c.args.matches.now c.in-Some.name.now (rows_of (found_of c.in-Some.options.now)) c.in-Some.ensures.name c.in-Some.ensures.rows in
     options (c.in-Some.name.now, rows_of (found_of c.in-Some.options.now)) (subst IsTaken is c.requires)
     (other_name c.in-Some.name.now (codes "flatten") c.if-eq.ensures refl) (other_name c.in-Some.name.now (codes "module") c.if-eq-2.ensures refl)
+    c.in_default-looking_named.ensures

@@ -1,4 +1,4 @@
-use Rattle.std.proofs.Common.{ap, ap₂, false, ◌≡◌, ◌∙◌, ◌||◌}
+use Rattle.std.proofs.Common.{ap₂, false, ◌≡◌, ◌∙◌, ◌||◌}
 use Rattle.std.proofs.lemmas.Result.{IfOk-weaker}
 use Rattle.clap.specs.Words.{app_of, with_rule}
 use Rattle.clap.specs.declared.builder.Command.TheViews.{out-Command}
@@ -6,16 +6,10 @@ use Rattle.asn_tool.proofs.words.with_forms.Goals as goal
 
 pub returns-clause-shape : goal.returns-clause-shape
 returns-clause-shape c =
-    let given = c.given_option.ensures.rule in
+    let messages = c.in_ok-with_messages.ensures.shape in
     let written = c.written_option.ensures.rule in
-    let one = c.in_ok-arg.ensures.shape c.files_option-files.ensures.local ∙ ap (λ r. with_rule (app_of c.args.command) r) c.files_option-files.ensures.rule in
-    let two = c.in_ok-arg-2.ensures.shape c.given_option.ensures.local ∙ ap₂ with_rule one given.2 in
-    let three = c.in_ok-arg-3.ensures.shape c.flag-split.ensures.local ∙ ap₂ with_rule two c.flag-split.ensures.rule in
-    IfOk-weaker c.arg-4.result _ _ (λ d h. (given.0, written.0, given.1, written.1, h.shape c.written_option.ensures.local ∙ ap₂ with_rule three written.2)) c.arg-4.ensures
+    IfOk-weaker c.arg.result _ _ (λ d h. (messages.0, written.0, messages.1, written.1, h.shape c.written_option.ensures.local ∙ ap₂ with_rule messages.2 written.2)) c.arg.ensures
 
 pub returns-clause-local : goal.returns-clause-local
 returns-clause-local c = λ none.
-    let one : (out-Command c.in_ok-arg.field-0).has_globals ≡ false = c.in_ok-arg.ensures.globals ∙ ap₂ (λ a b. a || b) none c.files_option-files.ensures.local in
-    let two : (out-Command c.in_ok-arg-2.field-0).has_globals ≡ false = c.in_ok-arg-2.ensures.globals ∙ ap₂ (λ a b. a || b) one c.given_option.ensures.local in
-    let three : (out-Command c.in_ok-arg-3.field-0).has_globals ≡ false = c.in_ok-arg-3.ensures.globals ∙ ap₂ (λ a b. a || b) two c.flag-split.ensures.local in
-    IfOk-weaker c.arg-4.result _ _ (λ d h. h.globals ∙ ap₂ (λ a b. a || b) three c.written_option.ensures.local) c.arg-4.ensures
+    IfOk-weaker c.arg.result _ _ (λ d h. h.globals ∙ ap₂ (λ a b. a || b) (c.in_ok-with_messages.ensures.local none) c.written_option.ensures.local) c.arg.ensures

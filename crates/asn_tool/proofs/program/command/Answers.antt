@@ -2,7 +2,7 @@ use Rattle.std.proofs.Common.{ap, ap₂, codes, true, false, ◌≡◌, ◌∙�
 use Rattle.std.proofs.lemmas.Result.{IfOk-weaker}
 use Rattle.clap.specs.Simple.{app_of_fields, on_top}
 use Rattle.clap.specs.Words.{App, app_of, shape_of, new_app, with_subcommand}
-use Rattle.asn_tool.proofs.words.command.Goals as goal
+use Rattle.asn_tool.proofs.program.command.Goals as goal
 
 pub returns : goal.returns
 returns c =
@@ -21,16 +21,24 @@ returns c =
     let top = λ (a : App). a.top in
     let one = c.in_ok-subcommand.ensures.shape c.in_ok-flatten.ensures.local ∙ ap₂ with_subcommand all_is flat.2 in
     let two = c.in_ok-subcommand-2.ensures.shape c.in_ok-module.ensures.local ∙ ap₂ with_subcommand one c.in_ok-module.ensures.shape in
-    let three = c.in_ok-subcommand-3.ensures.shape c.in_ok-reading.ensures.local ∙ ap (λ b. with_subcommand b (shape_of c.in_ok-reading.field-0)) two in
-    let four = c.in_ok-subcommand-4.ensures.shape c.in_ok-reading-2.ensures.local ∙ ap (λ b. with_subcommand b (shape_of c.in_ok-reading-2.field-0)) three in
-    let five = c.in_ok-subcommand-5.ensures.shape c.in_ok-order.ensures.local ∙ ap (λ b. with_subcommand b (shape_of c.in_ok-order.field-0)) four in
-    let six = c.in_ok-subcommand-6.ensures.shape c.in_ok-reading-3.ensures.local ∙ ap (λ b. with_subcommand b (shape_of c.in_ok-reading-3.field-0)) five in
-    IfOk-weaker c.subcommand-7.result _ _
+    let looks = c.in_ok-fields.ensures.shape in
+    let three = c.in_ok-subcommand-3.ensures.shape c.in_ok-fields.ensures.local ∙ ap₂ with_subcommand two looks.4 in
+    let four = c.in_ok-subcommand-4.ensures.shape c.in_ok-types.ensures.local ∙ ap₂ with_subcommand three c.in_ok-types.ensures.shape in
+    let five = c.in_ok-subcommand-5.ensures.shape c.in_ok-example.ensures.local ∙ ap₂ with_subcommand four c.in_ok-example.ensures.shape in
+    let six = c.in_ok-subcommand-6.ensures.shape c.in_ok-reading.ensures.local ∙ ap (λ b. with_subcommand b (shape_of c.in_ok-reading.field-0)) five in
+    let seven = c.in_ok-subcommand-7.ensures.shape c.in_ok-reading-2.ensures.local ∙ ap (λ b. with_subcommand b (shape_of c.in_ok-reading-2.field-0)) six in
+    let eight = c.in_ok-subcommand-8.ensures.shape c.in_ok-order.ensures.local ∙ ap (λ b. with_subcommand b (shape_of c.in_ok-order.field-0)) seven in
+    let nine = c.in_ok-subcommand-9.ensures.shape c.in_ok-reading-3.ensures.local ∙ ap (λ b. with_subcommand b (shape_of c.in_ok-reading-3.field-0)) eight in
+    IfOk-weaker c.subcommand-10.result _ _
     (λ d h. (
       flat.0,
+      looks.0,
+      looks.1,
       shape_of c.in_ok-reading.field-0 ∷ shape_of c.in_ok-reading-2.field-0 ∷ shape_of c.in_ok-order.field-0 ∷ shape_of c.in_ok-reading-3.field-0 ∷ shape_of c.in_ok-order-2.field-0 ∷ [],
       flat.1,
+      looks.2,
+      looks.3,
       (show, (check, ((encode.0, encode.1, ap top encode.2), (convert, ((newer.0, newer.1, ap top newer.2), tt))))),
-      h.shape c.in_ok-order-2.ensures.local ∙ ap (λ b. with_subcommand b (shape_of c.in_ok-order-2.field-0)) six,
+      h.shape c.in_ok-order-2.ensures.local ∙ ap (λ b. with_subcommand b (shape_of c.in_ok-order-2.field-0)) nine,
     ))
-    c.subcommand-7.ensures
+    c.subcommand-10.ensures

@@ -17,6 +17,7 @@ mod per_items;
 mod presence;
 mod reader;
 mod skipping;
+mod texts;
 
 pub use bitmaps::read_any_bitmap;
 pub use fault::NewerFault;
@@ -25,3 +26,4 @@ pub use laws::OtherVersions;
 pub use leaves::ReadVersions;
 pub use message::ReadNewer;
 pub use path::{NewerAt, PathStep, SkippedAt};
+pub use texts::path_text;

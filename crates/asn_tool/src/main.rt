@@ -14,6 +14,7 @@ mod fronts;
 mod help;
 mod laying;
 mod messages;
+mod newer_json;
 mod piped;
 mod refused;
 mod request;

@@ -15,7 +15,7 @@ use crate::halt::Halt;
 use crate::indexes::read_any_index;
 use crate::leaves::ReadVersions;
 use crate::path::{PathStep, SkippedAt};
-use crate::reader::{read, read_known};
+use crate::reader::{read_known, read_part};
 use crate::skipping::skip_field;
 use asn_bits::BitCursor;
 use asn_values::{Alt, AsnType, Value};

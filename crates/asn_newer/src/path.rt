@@ -1,7 +1,7 @@
 //! Fields that were skipped, with the paths to the parts of the value that have them.
 ghost use Rattle.std.specs.Prelude.{◌≡◌, ◌++◌, IfOk, OnOk, map};
 ghost use Rattle.asn_newer.specs.Reading.{skipped_seen, skipped_at_of, skipped_at_seen};
-ghost use Rattle.asn_newer.specs.Skipped.{inside, fields_of_all};
+ghost use Rattle.asn_newer.specs.Skipped.{inside, fields_of_all, skipped_here};
 
 use asn_rules::Skipped;
 use asn_values::Value;
@@ -36,6 +36,16 @@ pub struct NewerAt {
 }
 
 impl SkippedAt {
+    /// A field of the value itself.
+    pub(crate) fn here(alloc: Global, field: Skipped) -> SkippedAt
+        ensures { skipped_at_of result ≡ skipped_here field.place field.octets.items }
+    {
+        SkippedAt {
+            path: Vec::new(alloc),
+            field,
+        }
+    }
+
     /// The same, seen from the value that has it in the part to which the step leads.
     fn inside(self, step: PathStep) -> Result<SkippedAt, AllocError>
         ensures { IfOk result (λ f. skipped_at_of f ≡ inside step (skipped_at_of self)) }

@@ -31,10 +31,7 @@ pub(crate) fn skip_field<R: ReadLeaves>(
 {
     R::keep_laws();
     let octets = R::read_open_octets(alloc, units)?;
-    skipped.push(SkippedAt {
-        path: Vec::new(alloc),
-        field: Skipped { place, octets },
-    })?;
+    skipped.push(SkippedAt::here(alloc, Skipped { place, octets }))?;
     Ok(())
 }
 

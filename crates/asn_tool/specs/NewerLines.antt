@@ -7,4 +7,4 @@ use Rattle.asn_tool.specs.declared.newer_json.TakenBack.TheVariants as taken
 -- the text of its value, where nothing was skipped
 abbrev pub IsGiven : List ℕ → TakenBack → Type 0
 IsGiven line (taken.Value text) = IsTakenBack line (string_bytes text)
-IsGiven line (taken.Refused text) = ⊤
+IsGiven line (taken.Refused text reason) = ⊤

@@ -105,14 +105,10 @@ pub fn answer_one<W: Write>(
     }
     match taken_back(rt.alloc(), line)? {
         TakenBack::Value(value) => answer_line_of(rt, answers, place, value.as_bytes(), asked),
-        TakenBack::Refused(refusal) => {
+        TakenBack::Refused(refusal, reason) => {
             put_refusal(rt, answers, place, refusal.as_bytes(), asked)?;
             if asked.is_explained {
-                tell(
-                    rt,
-                    place,
-                    "it is no object of newer --json of which nothing was skipped",
-                )?;
+                tell(rt, place, reason)?;
             }
             Ok(false)
         }

@@ -16,6 +16,13 @@ use hex::FromHexError;
 use serde_json::Value as Json;
 use std::alloc::{AllocError, Global};
 
+/// Why a line is refused that is no object as it is written here.
+const NO_OBJECT: &str =
+    "an object with the members value and skipped is wanted, as newer --json writes it";
+
+/// Why a line is refused of which something was skipped.
+const WOULD_BE_LOST: &str = "the type does not have what was skipped there, and it would be lost";
+
 /// The JSON of what is read of the message that a line of hexadecimal is: an object with its value, which has the order
 /// of members that is asked for, and with the fields that are skipped. `None` where the line is no such message.
 ///
@@ -99,8 +106,8 @@ fn field_text(alloc: Global, ty: &AsnType, skipped: &SkippedAt) -> Result<String
 pub enum TakenBack {
     /// The JSON of its value, of which nothing was skipped.
     Value(String),
-    /// It is refused by this line.
-    Refused(String),
+    /// It is refused by this line, for this reason.
+    Refused(String, &'static str),
 }
 
 /// What a line of `newer --json` is encoded as: its value, where nothing was skipped.
@@ -113,13 +120,13 @@ pub fn taken_back(alloc: Global, line: &[u8]) -> Result<TakenBack, AllocError>
     let whole = match Json::from_slice(alloc, line) {
         Ok(whole) => whole,
         Err(fault) if fault.is_memory() => return Err(AllocError),
-        Err(_) => return refused(alloc, "! json"),
+        Err(_) => return refused(alloc, "! json", "the line is no JSON"),
     };
     let Some(value) = whole.get("value") else {
-        return refused(alloc, "! shape $.value");
+        return refused(alloc, "! shape $.value", NO_OBJECT);
     };
     let Some(Json::Array(skipped)) = whole.get("skipped") else {
-        return refused(alloc, "! shape $.skipped");
+        return refused(alloc, "! shape $.skipped", NO_OBJECT);
     };
     match skipped.first() {
         None => Ok(TakenBack::Value(value.to_string(alloc)?)),
@@ -132,13 +139,14 @@ fn refused_field(alloc: Global, field: &Json) -> Result<TakenBack, AllocError> {
     match field.get("path") {
         Some(Json::String(path)) => {
             let refusal = format!(in alloc; "! skipped {path}\n")?;
-            Ok(TakenBack::Refused(refusal))
+            Ok(TakenBack::Refused(refusal, WOULD_BE_LOST))
         }
-        _ => refused(alloc, "! shape $.skipped[0].path"),
+        _ => refused(alloc, "! shape $.skipped[0].path", NO_OBJECT),
     }
 }
 
-/// These words refuse a line.
-fn refused(alloc: Global, words: &str) -> Result<TakenBack, AllocError> {
-    Ok(TakenBack::Refused(format!(in alloc; "{words}\n")?))
+/// These words refuse a line, for this reason.
+fn refused(alloc: Global, words: &str, reason: &'static str) -> Result<TakenBack, AllocError> {
+    let refusal = format!(in alloc; "{words}\n")?;
+    Ok(TakenBack::Refused(refusal, reason))
 }

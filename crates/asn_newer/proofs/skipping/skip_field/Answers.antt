@@ -16,5 +16,5 @@ returns-in_err-octets-clause-stop g c =
 pub returns-clause-done : goal.returns-clause-done
 returns-clause-done g c =
     let items : skipped_at_seen c.push.new.self.items ≡ skipped_at_seen c.args.skipped.now.items ++ skipped_here c.args.place c.in_ok-octets.octets.items ∷ [] =
-    ap skipped_at_seen c.in_ok-push.ensures.items ∙ map-append skipped_at_of c.args.skipped.now.items _ in
+    ap skipped_at_seen c.in_ok-push.ensures.items ∙ map-append skipped_at_of c.args.skipped.now.items _ ∙ ap (λ k. skipped_at_seen c.args.skipped.now.items ++ k ∷ []) c.here.ensures in
     rw items (field_skipped g.R.ReadLeaves.rules c.args.place (skipped_at_seen c.args.skipped.now.items) c.in_ok-octets.ensures.done)

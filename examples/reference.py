@@ -7,6 +7,7 @@ program, is short rather than quick, and judges nothing: it encodes values that 
     examples/reference.py --json MODULE TYPE <VALUES     the same value as the program shows it
     examples/reference.py --read OTHER MODULE TYPE per|oer <VALUES    what a receiver that has the module OTHER, an older
                                                          or newer version, reads of the octets of the value
+    examples/reference.py --read-json OTHER MODULE TYPE per|oer <VALUES    the same, as `newer --json` shows it
 """
 import json, re, sys
 
@@ -363,14 +364,17 @@ def shown(types, ty, v):
 
 class Receiver:
     """What a receiver makes of a value of a sender whose module is another version: additions that it has not are told
-    by their place among the additions and their octets, items and alternatives that it has not by a number."""
+    by their place among the additions and their octets, items and alternatives that it has not by a number; `fields` has
+    the additions with the paths to what they are additions of."""
     def __init__(self, types, sender):
-        self.types, self.sender, self.skipped = types, sender, []
+        self.types, self.sender, self.skipped, self.fields = types, sender, [], []
 
-    def skip(self, place, ty, v):
-        self.skipped.append(f' +{place}:{self.sender.whole(ty, v).hex()}')
+    def skip(self, path, place, ty, v):
+        octets = self.sender.whole(ty, v).hex()
+        self.skipped.append(f' +{place}:{octets}')
+        self.fields.append({'path': path, 'addition': place, 'octets': octets})
 
-    def received(self, ours, theirs, v):
+    def received(self, ours, theirs, v, path='$'):
         while ours['kind'] == 'REF':
             ours = self.types[ours['name']]
         while theirs['kind'] == 'REF':
@@ -378,7 +382,7 @@ class Receiver:
         kind = theirs['kind']
         assert ours['kind'] == kind
         if kind == 'LIST':
-            return [self.received(ours['of'], theirs['of'], item) for item in v]
+            return [self.received(ours['of'], theirs['of'], item, f'{path}[{i}]') for i, item in enumerate(v)]
         if kind == 'ENUMERATED':
             if v in [name for name, _ in ours['root'] + (ours['more'] or [])]:
                 return v
@@ -389,40 +393,45 @@ class Receiver:
             (name, inner), = v.items()
             known = dict(ours['root'] + (ours['more'] or []))
             if name in known:
-                return {name: self.received(known[name], dict(theirs['root'] + (theirs['more'] or []))[name], inner)}
+                sent = dict(theirs['root'] + (theirs['more'] or []))[name]
+                return {name: self.received(known[name], sent, inner, f'{path}.{name}')}
             i = [name for name, _ in theirs['more']].index(name)
-            self.skip(i, theirs['more'][i][1], inner)
+            self.skip(path, i, theirs['more'][i][1], inner)
             return {'?' + str(len(theirs['root']) + i): None}
         if kind == 'SEQUENCE':
             out = {}
             for mine, (name, inner, _, default) in zip(ours['root'], theirs['root']):
                 if name in v:
-                    out[name] = self.received(mine[1], inner, v[name])
+                    out[name] = self.received(mine[1], inner, v[name], f'{path}.{name}')
                 elif default is not None:
                     out[name] = default
             known = {name: ty for name, ty, *_ in ours['more'] or []}
             for place, (name, inner, *_) in enumerate(theirs['more'] or []):
                 if name in v and name in known:
-                    out[name] = self.received(known[name], inner, v[name])
+                    out[name] = self.received(known[name], inner, v[name], f'{path}.{name}')
                 elif name in v:
-                    self.skip(place, inner, v[name])
+                    self.skip(path, place, inner, v[name])
             return dict(sorted(out.items()))
         return shown(self.types, ours, v)
 
 
-def read_by(other, words):
-    """For each value of the sender's module, what a receiver that has the other module reads of its octets."""
+def read_by(other, words, as_object):
+    """For each value of the sender's module, what a receiver that has the other module reads of its octets; as an object
+    with the value and what is skipped, or as a line with both."""
     with open(other) as ours, open(words[0]) as theirs:
         types, sender = Parser(ours.read()).module(), {'per': Per, 'oer': Oer}[words[2]](Parser(theirs.read()).module())
     for line in sys.stdin:
         receiver = Receiver(types, sender)
         value = receiver.received(types[words[1]], sender.types[words[1]], json.loads(line))
-        print(json.dumps(value, separators=(',', ':'), ensure_ascii=False) + ''.join(receiver.skipped))
+        if as_object:
+            value = {'value': value, 'skipped': receiver.fields}
+        skipped = '' if as_object else ''.join(receiver.skipped)
+        print(json.dumps(value, separators=(',', ':'), ensure_ascii=False) + skipped)
 
 
 def main(words):
-    if words[0] == '--read':
-        return read_by(words[1], words[2:])
+    if words[0] in ('--read', '--read-json'):
+        return read_by(words[1], words[2:], words[0] == '--read-json')
     as_json = words[0] == '--json'
     words = words[1:] if as_json else words
     with open(words[0]) as file:

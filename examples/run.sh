@@ -8,6 +8,7 @@
 # Of each module NAME.asn there are values as JSON (NAME.values), what `show` makes of them (NAME.json), and their octets
 # in PER and OER (NAME.per, NAME.oer), a line a message. The octets were worked out by reference.py. Of the two versions of
 # a module, meter-1.asn and meter-2.asn, there is what each reads of the messages of the other (meter-1.reads-per and so on).
+# meter-1.reads-json is what `newer --json` writes of those in PER, by version 1.
 # cam.pretty is what `show --pretty --order declared` writes of cam.per, and signalling.counts what `check --stats` tells of signalling.per.
 # rows.fields is what `fields` shows of rows.per, cam.html the page of cam.per, and cam.types the type of its messages.
 set -euo pipefail
@@ -78,6 +79,11 @@ if [ -n "$program" ]; then
       "$program" show --type Message --rules "$rules" --module "$name.asn" <"$work/octets" | cmp - "$work/values" || fail "show of example $name $rules"
     done
   done
+  # what is skipped in a message of the other version, with its path, and what is taken back
+  "$program" newer --type Report --rules per --module meter-1.asn --json <meter-2.per | cmp - meter-1.reads-json || fail "newer --json"
+  "$program" newer --type Report --rules per --module meter-2.asn --json <meter-1.per >"$work/lines" || fail "newer --json: status $?"
+  "$program" encode --type Report --rules per --module meter-2.asn --newer <"$work/lines" >"$work/octets" || fail "encode --newer: status $?"
+  cut -d ' ' -f 1 meter-2.reads-per | "$program" encode --type Report --rules per --module meter-2.asn | cmp - "$work/octets" || fail "encode --newer"
   echo "examples: each order on four modules, newer on two versions of one, in both encoding rules; the forms of octets, layouts and counts; fields, types and examples"
   ./faults.sh "$program"
   exit

@@ -8,7 +8,8 @@ The octets of the messages of `examples` are given as lines of hexadecimal with 
 as Base64, as a file each and one after the other in one text, which are made here; the answers are those to plain lines of
 hexadecimal. What `encode` and `convert` write in a form is what Python's own coders make of the octets. What is shown in a
 layout is, as Python reads it, the JSON that is shown without one, with members in the order of
-the type where that is asked for; what is counted is counted here of the messages.
+the type where that is asked for; what is counted is counted here of the messages. Of messages of another version of a type
+`newer --json` tells what is skipped, and `encode --newer` takes back what it wrote.
 """
 import base64
 import json
@@ -149,6 +150,51 @@ def refusals(count, program, room):
     count.add(newer == (2, b"", b"--split is for show, check and convert: newer reads one message a text\n"), f"newer --split: {newer}")
 
 
+VERSIONED = "M DEFINITIONS AUTOMATIC TAGS ::= BEGIN T ::= SEQUENCE { z INTEGER (0..7), a P, ... } P ::= SEQUENCE { x BOOLEAN, ...%s } END\n"
+
+
+def objects(count, program, room):
+    """What newer --json writes, and what encode --newer makes of it and of lines that are no such objects."""
+    older, newer = f"{room}/older.asn", f"{room}/newer.asn"
+    for file, additions in ((older, ""), (newer, ", y INTEGER (0..255) OPTIONAL")):
+        with open(file, "w") as it:
+            it.write(VERSIONED % additions)
+    words = ["--type", "T", "--rules", "oer", "--module"]
+    octets = run([program, "encode", *words, newer], b'{"z":5,"a":{"x":true,"y":9}}\n{"z":5,"a":{"x":true}}\n')[1]
+    skipped = b'{"path":"$.a","addition":0,"octets":"09"}'
+    for way, value in (["--order", "declared"], b'{"z":5,"a":{"x":true}}'), ([], b'{"a":{"x":true},"z":5}'):
+        wanted = lines(b'{"value":%s,"skipped":[%s]}' % (value, it) for it in (skipped, b""))
+        ran = run([program, "newer", *words, older, "--json", *way], octets)
+        count.add(ran == (0, wanted, b""), f"newer --json {way}: {ran}")
+    no_object = "an object with the members value and skipped is wanted, as newer --json writes it"
+    lost = "the type does not have what was skipped there, and it would be lost"
+    given, answers, told = wanted, [], []
+    for at, (line, answer, words_told) in enumerate((
+        (None, "! skipped $.a", lost),
+        (None, octets.split()[1].decode(), None),
+        ("{}", "! shape $.value", no_object),
+        ("5", "! shape $.value", no_object),
+        ("{", "! json", "the line is no JSON"),
+        ('{"value":{"z":5}}', "! shape $.skipped", no_object),
+        ('{"value":{"z":5},"skipped":[7]}', "! shape $.skipped[0].path", no_object),
+        ('{"value":{"z":9,"a":{"x":true}},"skipped":[]}', "! not of type", "in $.z, INTEGER (0..7): 9 is not in 0..7"),
+    ), 1):
+        given += b"" if line is None else line.encode() + b"\n"
+        answers.append(answer)
+        told += [f"line {at}: {words_told}"] if words_told else []
+    ran = run([program, "encode", *words, older, "--newer", "--explain"], given)
+    count.add(ran == (1, lines(it.encode() for it in answers), lines(it.encode() for it in told)), f"encode --newer: {ran}")
+    for order, way, said in (
+        ("newer", ["--json", "--pretty"], b"--json writes an object a line, and --pretty a line a member\n"),
+        ("show", ["--json"], b"--json is for newer: show writes JSON without it\n"),
+        ("encode", ["--json"], b"--json is for newer: show writes JSON without it\n"),
+        ("newer", ["--newer"], b"--newer is for encode\n"),
+        ("convert", ["--newer"], b"--newer is for encode\n"),
+    ):
+        ran = run([program, order, *words, older, *way])
+        count.add(ran == (2, b"", said), f"{order} {way}: {ran}")
+
+
 LAYOUT = (
     "M DEFINITIONS AUTOMATIC TAGS ::= BEGIN C ::= CHOICE { cam T, denm N } N ::= NULL T ::= SEQUENCE { z INTEGER (0..7), "
     "a BOOLEAN OPTIONAL, m SEQUENCE (SIZE (0..3)) OF BOOLEAN, ..., b BOOLEAN OPTIONAL } END\n"
@@ -240,6 +286,7 @@ def main(words):
     with tempfile.TemporaryDirectory(prefix="tulvorn-forms-") as room:
         forms(count, program, room)
         refusals(count, program, room)
+        objects(count, program, room)
         layouts(count, program, room)
         counts(count, program, room)
     print(f"{count.passed} passed, {count.failed} failed")

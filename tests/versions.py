@@ -6,7 +6,8 @@ extension additions present, and compares what `newer` of the program answers wi
 
 Each type below has extension additions at both levels. Its versions have the first additions of each list and not the
 others, at each place. Of each pair of versions, older and newer, the octets of all values of each are read by the
-other, in both encoding rules.
+other, in both encoding rules; with `--json` too, where each addition that is skipped is told with its path. What that
+writes is given to `encode --newer`, which gives the octets of the value where nothing was skipped, and refuses the others.
 """
 import importlib.util, itertools, json, os, subprocess, sys
 
@@ -88,8 +89,16 @@ def values(ty):
     return [dict(sum(entries, [])) for entries in itertools.product(*each)]
 
 
+def taken_back(coder, ty, shown, fields):
+    """What `encode --newer` makes of the value and what was skipped; of an unknown item only that it is refused."""
+    if fields:
+        return f'! skipped {fields[0]["path"]}'
+    return '! shape ' if '"?' in json.dumps(shown) else coder.whole(ty, shown).hex()
+
+
 class Walk:
-    """The versions, each with a name, and for each receiver and each of the rules, octets and what is wanted."""
+    """The versions, each with a name, and for each receiver and each of the rules, octets and what is wanted: the line,
+    the object, and what that is encoded as."""
     def __init__(self):
         self.names, self.given, self.pairs = {}, {}, 0
 
@@ -102,8 +111,10 @@ class Walk:
             for value in values(theirs):
                 receiver = reference.Receiver({}, coder({}))
                 shown = receiver.received(ours, theirs, value)
-                answer = json.dumps(shown, separators=(',', ':')) + ''.join(receiver.skipped)
+                text = json.dumps({'value': shown, 'skipped': receiver.fields}, separators=(',', ':'))
+                plain = json.dumps(shown, separators=(',', ':')) + ''.join(receiver.skipped)
                 octets = coder({}).whole(theirs, value).hex()
+                answer = plain, text, taken_back(coder({}), ours, shown, receiver.fields)
                 assert lines.setdefault(octets, answer) == answer, (text(ours), octets)
 
     def module(self):
@@ -121,17 +132,23 @@ def main(program):
             walk.add(newer, older)
         pairs_in_all += len(of_type)
         for (name, rules), lines in walk.given.items():
-            job = [program, 'newer', '--type', name, '--rules', rules]
-            told = subprocess.run(job, input=walk.module() + '\n'.join(lines) + '\n', capture_output=True, text=True)
-            answers = told.stdout.split('\n')[:-1]
-            if told.returncode != 0 or len(answers) != len(lines):
-                sys.exit(f'versions: {name} {rules}: status {told.returncode}; {told.stdout[:200]}{told.stderr[:200]}')
-            for (octets, wanted), answer in zip(lines.items(), answers):
-                if answer != wanted:
-                    ty = next(ty for ty, other in walk.names.items() if other == name)
-                    sys.exit(f'versions: {ty} {rules}: {octets} is read as {answer}, and not as {wanted}')
+            wanted = list(lines.values())
+            for order, way, given, at in (
+                ('newer', [], list(lines), 0),
+                ('newer', ['--json'], list(lines), 1),
+                ('encode', ['--newer'], [texts[1] for texts in wanted], 2),
+            ):
+                job = [program, order, '--type', name, '--rules', rules, *way]
+                told = subprocess.run(job, input=walk.module() + '\n'.join(given) + '\n', capture_output=True, text=True)
+                answers = told.stdout.split('\n')[:-1]
+                if told.returncode > (order == 'encode') or len(answers) != len(lines):
+                    sys.exit(f'versions: {job}: status {told.returncode}; {told.stdout[:200]}{told.stderr[:200]}')
+                for line, texts, answer in zip(given, wanted, answers):
+                    if answer != texts[at] and not (texts[at] == '! shape ' and answer.startswith(texts[at])):
+                        ty = next(ty for ty, other in walk.names.items() if other == name)
+                        sys.exit(f'versions: {ty} {job[1:]}: {line} is answered {answer}, and not {texts[at]}')
             messages += len(lines)
-    print(f'versions: {pairs_in_all} pairs of types, {messages} messages in both encoding rules')
+    print(f'versions: {pairs_in_all} pairs of types, {messages} messages in both encoding rules, plain, as objects and taken back')
 
 
 if __name__ == '__main__':

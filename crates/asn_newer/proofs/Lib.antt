@@ -1,3 +1,4 @@
 pub mod Law
 pub mod Parts
 pub mod Walk
+pub mod PathTexts

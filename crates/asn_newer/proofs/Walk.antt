@@ -14,3 +14,4 @@ pub mod ChoicesAndSequences
 pub mod BoundedEntries
 pub mod PastProfile
 pub mod MessagesRead
+pub mod PathsRead

@@ -5,6 +5,7 @@ use Rattle.asn_values.specs.Shape.{Shape, boolean, integer, sequence, no_fields,
 use Rattle.asn_values.specs.ExampleTypes.{hex, between, entries, component, optional_component}
 use Rattle.asn_oer.specs.Walk.{oer_coding}
 use Rattle.asn_per.specs.Walk.{per_coding}
+use Rattle.asn_newer.specs.Skipped.{skipped_here}
 use Rattle.asn_newer.specs.Versions.{Newer, received}
 use Rattle.asn_newer.specs.Rules.{per_loose, oer_loose}
 
@@ -24,7 +25,7 @@ new_is_newer = ((refl, refl, refl, tt), refl)
 -- the addition is skipped, octet for octet
 an_older_one_reads :
     received per_loose new_type old_type (entries (Some (truth true) ∷ Some (number (pos 7)) ∷ []))
-    ≡ (entries (Some (truth true) ∷ []), record { place = 0; octets = hex "07" } ∷ [])
+    ≡ (entries (Some (truth true) ∷ []), skipped_here 0 (hex "07") ∷ [])
 unfolding per_loose per_coding
 an_older_one_reads = refl
 

@@ -1,4 +1,6 @@
 pub mod Skipped
+pub mod Paths
+pub mod PathParts
 pub mod Loose
 pub mod Versions
 pub mod NewerLaws

@@ -14,7 +14,8 @@ use Rattle.asn_rules.specs.Languages.{Then, Map, Nothing, Sealed}
 use Rattle.asn_rules.specs.Listed.{Spelt, bitmap_length}
 use Rattle.asn_rules.specs.Spellings.{SpelledBy}
 use Rattle.asn_walk.specs.Coding.{Coding, PreambleOf, ListingOf, IndexOf, absent_entries}
-use Rattle.asn_newer.specs.Skipped.{Skipped, Reading, Entries, nothing_skipped, entry_read, entry_left, sequence_read, list_read, alternative_read, alternative_skipped, item_skipped}
+use Rattle.asn_newer.specs.declared.path.PathStep.TheVariants as step
+use Rattle.asn_newer.specs.Skipped.{Skipped, SkippedAt, Reading, Entries, Inside, fields_of_all, skipped_here, nothing_skipped, entry_read, entry_left, sequence_read, list_read, alternative_read, alternative_skipped, item_skipped}
 
 -- what a set of encoding rules says of items that a type has not, beside what it says of the parts
 pub record LooseCoding : Type 1 where
@@ -38,8 +39,8 @@ pub record AnyOctets (c : Coding) (os content : List ℕ) : Type 0 where
   pub some : c.ruling.fielding.shortest open_field ≤ length os
 
 -- the open type field of an addition that the type has not
-abbrev pub Unknown : Coding → ℕ → Skipped → List Chunk → Type 0
-Unknown c place = Map (λ os. record { place = place; octets = os }) (Sealed open_field (AnyOctets c))
+abbrev pub Unknown : Coding → ℕ → SkippedAt → List Chunk → Type 0
+Unknown c place = Map (skipped_here place) (Sealed open_field (AnyOctets c))
 
 -- the octets of a complete encoding whose spelling is of the language
 pub record Complete {A : Type 0} (c : Coding) (L : A → List Chunk → Type 0) (a : A) (o : List ℕ) : Type 0 where
@@ -53,7 +54,7 @@ abbrev pub Known : {A : Type 0} → Coding → (A → List Chunk → Type 0) →
 Known c L = Sealed open_field (Complete c L)
 
 -- additions that the type has not, by their presence bits from an index on
-abbrev pub AllUnknown : Coding → ℕ → List ℕ → List Skipped → List Chunk → Type 0
+abbrev pub AllUnknown : Coding → ℕ → List ℕ → List SkippedAt → List Chunk → Type 0
 AllUnknown c place [] = Nothing []
 AllUnknown c place (zero ∷ present) = AllUnknown c (suc place) present
 AllUnknown c place (suc b ∷ present) =
@@ -100,7 +101,7 @@ abbrev mutual
   Loose l (enumerated root (marked_labels additions)) = AnyItem l root additions
   Loose l (sequence root more) =
       Map (λ p. sequence_read p.1) (Then (PreambleOf l.coding (bitmap_length root) (additions_to_come more))
-      (λ p. Then (LooseEach l root (bits (bitmap_length root) p.1)) (λ _. LooseMore l more p.0)))
+      (λ p. Then (LooseEach l 0 root (bits (bitmap_length root) p.1)) (λ _. LooseMore l more p.0)))
   Loose l (sequence_of t s) = Map list_read (ListingOf l.coding s (Loose l t))
   Loose l (choice root more) =
       Map after_first (Then (IndexOf l.coding (count root) (alternatives_to_come root more))
@@ -115,18 +116,20 @@ abbrev mutual
   Loose l (restricted k s) = Map nothing_skipped (Spelt l.coding.code None (restricted k s))
   Loose l utf8_string = Map nothing_skipped (Spelt l.coding.code None utf8_string)
 
-  -- the components of the root under their presence bits
-  pub LooseEach : LooseCoding → Fields → List ℕ → Entries → List Chunk → Type 0
-  LooseEach l no_fields present = Nothing ([], [])
-  LooseEach l (field name must t fs) present = Map entry_read (Then (Loose l t) (λ _. LooseEach l fs present))
-  LooseEach l (field name optional t fs) (suc b ∷ present) =
-      Map entry_read (Then (Loose l t) (λ _. LooseEach l fs present))
-  LooseEach l (field name optional t fs) (zero ∷ present) = Map (entry_left None) (LooseEach l fs present)
-  LooseEach l (field name (default d) t fs) (suc b ∷ present) =
-      Map entry_read (Then (Map nothing_skipped (Spelt l.coding.code (Some d) t)) (λ _. LooseEach l fs present))
-  LooseEach l (field name (default d) t fs) (zero ∷ present) = Map (entry_left (Some d)) (LooseEach l fs present)
-  LooseEach l (field name optional t fs) [] = λ es cs. ⊥
-  LooseEach l (field name (default d) t fs) [] = λ es cs. ⊥
+  -- the components of the root, the first of which has this index, under their presence bits
+  pub LooseEach : LooseCoding → ℕ → Fields → List ℕ → Entries → List Chunk → Type 0
+  LooseEach l i no_fields present = Nothing ([], [])
+  LooseEach l i (field name must t fs) present =
+      Map entry_read (Then (Inside (step.Component i) (Loose l t)) (λ _. LooseEach l (suc i) fs present))
+  LooseEach l i (field name optional t fs) (suc b ∷ present) =
+      Map entry_read (Then (Inside (step.Component i) (Loose l t)) (λ _. LooseEach l (suc i) fs present))
+  LooseEach l i (field name optional t fs) (zero ∷ present) = Map (entry_left None) (LooseEach l (suc i) fs present)
+  LooseEach l i (field name (default d) t fs) (suc b ∷ present) =
+      Map entry_read (Then (Map nothing_skipped (Spelt l.coding.code (Some d) t)) (λ _. LooseEach l (suc i) fs present))
+  LooseEach l i (field name (default d) t fs) (zero ∷ present) =
+      Map (entry_left (Some d)) (LooseEach l (suc i) fs present)
+  LooseEach l i (field name optional t fs) [] = λ es cs. ⊥
+  LooseEach l i (field name (default d) t fs) [] = λ es cs. ⊥
 
   -- the additions by the extension bit
   pub LooseMore : LooseCoding → MoreFields → Bool → Entries → List Chunk → Type 0
@@ -142,12 +145,14 @@ abbrev mutual
   LooseOpen l place (field name demand t fs) (zero ∷ present) =
       Map (entry_left None) (LooseOpen l (suc place) fs present)
   LooseOpen l place (field name demand t fs) (suc b ∷ present) =
-      Map entry_read (Then (Known l.coding (Loose l t)) (λ _. LooseOpen l (suc place) fs present))
+      Map entry_read (Then (Inside (step.Addition place) (Known l.coding (Loose l t)))
+      (λ _. LooseOpen l (suc place) fs present))
 
   -- the alternative at an index of the root, with this tag
   pub LooseRoot : LooseCoding → ℕ → Alternatives → ℕ → Reading → List Chunk → Type 0
   LooseRoot l tag no_alternatives i = λ r cs. ⊥
-  LooseRoot l tag (one_of name t alts) zero = Map (alternative_read tag) (Loose l t)
+  LooseRoot l tag (one_of name t alts) zero =
+      Map (alternative_read tag) (Inside (step.Alternative tag) (Loose l t))
   LooseRoot l tag (one_of name t alts) (suc i) = LooseRoot l tag alts i
 
   pub LooseOther : LooseCoding → ℕ → MoreAlternatives → ℕ → Reading → List Chunk → Type 0
@@ -157,11 +162,18 @@ abbrev mutual
   -- the same of the additions, with this tag and index: one that the type has not is skipped
   pub LooseAdded : LooseCoding → ℕ → ℕ → Alternatives → ℕ → Reading → List Chunk → Type 0
   LooseAdded l tag place no_alternatives i = Map (alternative_skipped tag) (Unknown l.coding place)
-  LooseAdded l tag place (one_of name t alts) zero = Map (alternative_read tag) (Known l.coding (Loose l t))
+  LooseAdded l tag place (one_of name t alts) zero =
+      Map (alternative_read tag) (Inside (step.Alternative tag) (Known l.coding (Loose l t)))
   LooseAdded l tag place (one_of name t alts) (suc i) = LooseAdded l tag place alts i
 
 -- ---- messages
 
--- the octets are read as the value, with these fields skipped
-abbrev pub IsLoose : LooseCoding → Shape → Datum → List Skipped → List ℕ → Type 0
-IsLoose l t w s o = Complete l.coding (Loose l t) (w, s) o
+-- the octets are read as the value, with these fields skipped, each at its path
+abbrev pub IsLooseAt : LooseCoding → Shape → Datum → List SkippedAt → List ℕ → Type 0
+IsLooseAt l t w s o = Complete l.coding (Loose l t) (w, s) o
+
+-- the same, wherever the fields are
+pub record IsLoose (l : LooseCoding) (t : Shape) (w : Datum) (s : List Skipped) (o : List ℕ) : Type 0 where
+  pub skipped : List SkippedAt
+  pub same : s ≡ fields_of_all skipped
+  pub read : IsLooseAt l t w skipped o

@@ -11,7 +11,7 @@ use Rattle.asn_rules.specs.Laws.{AreOctets}
 use Rattle.asn_walk.specs.Laws.{Laws}
 use Rattle.asn_walk.specs.WriteLaws.{WriteLaws}
 use Rattle.asn_newer.specs.Skipped.{Skipped}
-use Rattle.asn_newer.specs.Loose.{LooseCoding, IsLoose, AnyItem}
+use Rattle.asn_newer.specs.Loose.{LooseCoding, IsLoose, IsLooseAt, AnyItem}
 use Rattle.asn_newer.specs.Versions.{LabelVersions, Newer, AreVersions, item_received, received, cut, dropped, wide}
 
 -- the octets are the canonical encoding of the value
@@ -20,25 +20,25 @@ Encodes l t v o = AreOctets o × IsEncoding l.coding.ruling t v o
 
 -- a receiver of the same version reads the value itself, and skips nothing
 abbrev pub ReadsItself : LooseCoding → Type 0
-ReadsItself l = (t : Shape) (v : Datum) (o : List ℕ) → InProfile t → Encodes l t v o → IsLoose l t v [] o
+ReadsItself l = (t : Shape) (v : Datum) (o : List ℕ) → InProfile t → Encodes l t v o → IsLooseAt l t v [] o
 
 -- a receiver of another version reads what `received` says
 abbrev pub ReadsVersions : LooseCoding → Type 0
 ReadsVersions l =
     (t u : Shape) (v : Datum) (o : List ℕ) → InProfile t → InProfile u → AreVersions t u → Encodes l t v o
-    → IsLoose l u (received l t u v).0 (received l t u v).1 o
+    → IsLooseAt l u (received l t u v).0 (received l t u v).1 o
 
 -- an older receiver keeps what it has of the value, and skips the rest
 abbrev pub OlderReads : LooseCoding → Type 0
 OlderReads l =
     (old new : Shape) (v : Datum) (o : List ℕ) → InProfile old → InProfile new → Newer old new → Encodes l new v o
-    → IsLoose l old (cut l old new v) (dropped l old new v) o
+    → IsLooseAt l old (cut l old new v) (dropped l old new v) o
 
 -- a newer receiver has the value with its own additions absent, and skips nothing
 abbrev pub NewerReads : LooseCoding → Type 0
 NewerReads l =
     (old new : Shape) (v : Datum) (o : List ℕ) → InProfile old → InProfile new → Newer old new → Encodes l old v o
-    → IsLoose l new (wide l old new v) [] o
+    → IsLooseAt l new (wide l old new v) [] o
 
 -- what is read is a value of the type, or one in which items and alternatives that the type has not stand as such
 abbrev pub ReadsFit : LooseCoding → Type 0

@@ -6,8 +6,10 @@ use Rattle.asn_values.specs.View.{datum_of}
 use Rattle.asn_rules.specs.Answer.{max_octets}
 use Rattle.asn_rules.specs.declared.newer.Newer.{Newer}
 use Rattle.asn_rules.specs.declared.newer.Skipped.{Skipped}
-use Rattle.asn_newer.specs.Loose.{LooseCoding, IsLoose}
+use Rattle.asn_newer.specs.Loose.{LooseCoding, IsLoose, IsLooseAt}
 use Rattle.asn_newer.specs.Skipped as fields
+use Rattle.asn_newer.specs.declared.path.SkippedAt.{SkippedAt}
+use Rattle.asn_newer.specs.declared.path.NewerAt.{NewerAt}
 use Rattle.asn_newer.specs.declared.halt.Halt.{Halt}
 use Rattle.asn_newer.specs.declared.halt.Halt.TheVariants as halt
 use Rattle.asn_newer.specs.declared.fault.NewerFault.{NewerFault}
@@ -20,7 +22,19 @@ skipped_of s = record { place = s.place; octets = s.octets.items }
 abbrev pub skipped_seen : List Skipped → List fields.Skipped
 skipped_seen ss = map skipped_of ss
 
--- the octets, which are not too many, are read as the value, with these fields skipped
+-- the same with its path
+abbrev pub skipped_at_of : SkippedAt → fields.SkippedAt
+skipped_at_of s = record { path = s.path.items; field = skipped_of s.field }
+
+abbrev pub skipped_at_seen : List SkippedAt → List fields.SkippedAt
+skipped_at_seen ss = map skipped_at_of ss
+
+-- the octets, which are not too many, are read as the value, with these fields skipped, each at its path
+abbrev pub IsNewerAt : LooseCoding → Shape → NewerAt → List ℕ → Type 0
+IsNewerAt l t n o =
+    IsLooseAt l t (datum_of n.value) (skipped_at_seen n.skipped.items) o × (length o ≤ max_octets)
+
+-- the same, wherever the fields are
 abbrev pub IsNewer : LooseCoding → Shape → Newer → List ℕ → Type 0
 IsNewer l t n o = IsLoose l t (datum_of n.value) (skipped_seen n.skipped.items) o × (length o ≤ max_octets)
 

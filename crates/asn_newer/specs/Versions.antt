@@ -3,7 +3,8 @@ use Rattle.std.specs.Prelude.{◌≡◌, ◌-◌, ◌+◌, ℕ, zero, suc, Bool,
 use Rattle.asn_values.specs.Datum.{Datum, item, components, component_list, elements, element_list, alternative}
 use Rattle.asn_values.specs.Shape.{Shape, enumerated, sequence, sequence_of, choice, Label, MoreLabels, closed_labels, marked_labels, Fields, no_fields, field, MoreFields, closed, marked, demands, Alternatives, no_alternatives, one_of, MoreAlternatives, closed_choice, marked_choice, count}
 use Rattle.asn_walk.specs.Coding.{Coding, absent_entries}
-use Rattle.asn_newer.specs.Skipped.{Skipped, Reading, Entries, nothing_skipped, entry_read, entry_left, sequence_read, list_read, alternative_read, alternative_skipped, item_skipped}
+use Rattle.asn_newer.specs.declared.path.PathStep.TheVariants as step
+use Rattle.asn_newer.specs.Skipped.{SkippedAt, Reading, Entries, nothing_skipped, skipped_here, part_read, entry_read, entry_left, sequence_read, list_read, alternative_read, alternative_skipped, item_skipped}
 use Rattle.asn_newer.specs.Loose.{LooseCoding}
 
 -- ---- which types are versions of one another
@@ -90,8 +91,8 @@ item_received l root additions roots more p =
     ]
 
 -- the addition at an index, which the receiver has not: the octets of its complete encoding
-abbrev pub unknown : Coding → ℕ → Shape → Datum → Skipped
-unknown c place t d = record { place = place; octets = c.complete (c.code t d) }
+abbrev pub unknown : Coding → ℕ → Shape → Datum → SkippedAt
+unknown c place t d = skipped_here place (c.complete (c.code t d))
 
 abbrev mutual
   -- of a value of the sender's type, the first: the value with the entries of the receiver's type, the second, and the
@@ -101,7 +102,7 @@ abbrev mutual
       item_received l root ls roots more p
   received l (sequence root more) (sequence roots mores) (components cs) =
       sequence_read (
-        entries_received l root roots (take (length (demands root)) (component_list cs)),
+        entries_received l 0 root roots (take (length (demands root)) (component_list cs)),
         more_received l more mores (drop (length (demands root)) (component_list cs)),
       )
   received l (sequence_of t s) (sequence_of u z) (elements ds) =
@@ -113,12 +114,13 @@ abbrev mutual
       ]
   received l t u d = nothing_skipped d
 
-  pub entries_received : LooseCoding → Fields → Fields → List (Option Datum) → Entries
-  entries_received l (field name demand t fs) (field other need u gs) (Some d ∷ es) =
-      entry_read (received l t u d, entries_received l fs gs es)
-  entries_received l (field name demand t fs) (field other need u gs) (None ∷ es) =
-      entry_left None (entries_received l fs gs es)
-  entries_received l _ _ _ = ([], [])
+  -- the components of the root from an index on
+  pub entries_received : LooseCoding → ℕ → Fields → Fields → List (Option Datum) → Entries
+  entries_received l i (field name demand t fs) (field other need u gs) (Some d ∷ es) =
+      entry_read (part_read (step.Component i) (received l t u d), entries_received l (suc i) fs gs es)
+  entries_received l i (field name demand t fs) (field other need u gs) (None ∷ es) =
+      entry_left None (entries_received l (suc i) fs gs es)
+  entries_received l i _ _ _ = ([], [])
 
   pub more_received : LooseCoding → MoreFields → MoreFields → List (Option Datum) → Entries
   more_received l (marked fs) (marked gs) es = added_received l 0 fs gs es
@@ -128,7 +130,7 @@ abbrev mutual
   -- skipped
   pub added_received : LooseCoding → ℕ → Fields → Fields → List (Option Datum) → Entries
   added_received l place (field name demand t fs) (field other need u gs) (Some d ∷ es) =
-      entry_read (received l t u d, added_received l (suc place) fs gs es)
+      entry_read (part_read (step.Addition place) (received l t u d), added_received l (suc place) fs gs es)
   added_received l place (field name demand t fs) (field other need u gs) (None ∷ es) =
       entry_left None (added_received l (suc place) fs gs es)
   added_received l place (field name demand t fs) no_fields (Some d ∷ es) =
@@ -138,7 +140,8 @@ abbrev mutual
   added_received l place _ gs es = (absent_entries gs, [])
 
   pub root_received : LooseCoding → ℕ → Alternatives → Alternatives → ℕ → Datum → Reading
-  root_received l tag (one_of name t alts) (one_of other u others) zero d = alternative_read tag (received l t u d)
+  root_received l tag (one_of name t alts) (one_of other u others) zero d =
+      alternative_read tag (part_read (step.Alternative tag) (received l t u d))
   root_received l tag (one_of name t alts) (one_of other u others) (suc i) d = root_received l tag alts others i d
   root_received l tag _ _ i d = nothing_skipped d
 
@@ -149,7 +152,7 @@ abbrev mutual
   -- the addition i further on, whose index among the additions is known
   pub addition_received : LooseCoding → ℕ → ℕ → Alternatives → Alternatives → ℕ → Datum → Reading
   addition_received l tag place (one_of name t alts) (one_of other u others) zero d =
-      alternative_read tag (received l t u d)
+      alternative_read tag (part_read (step.Alternative tag) (received l t u d))
   addition_received l tag place (one_of name t alts) (one_of other u others) (suc i) d =
       addition_received l tag place alts others i d
   addition_received l tag place (one_of name t alts) no_alternatives zero d =
@@ -162,7 +165,7 @@ abbrev mutual
 abbrev pub cut : LooseCoding → Shape → Shape → Datum → Datum
 cut l old new v = (received l new old v).0
 
-abbrev pub dropped : LooseCoding → Shape → Shape → Datum → List Skipped
+abbrev pub dropped : LooseCoding → Shape → Shape → Datum → List SkippedAt
 dropped l old new v = (received l new old v).1
 
 -- what a newer receiver has of a value: the additions that the sender has not are absent

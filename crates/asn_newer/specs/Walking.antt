@@ -14,8 +14,9 @@ use Rattle.asn_rules.specs.Languages.{Map, Nothing}
 use Rattle.asn_rules.specs.Listed.{Spelt, default_of}
 use Rattle.asn_rules.specs.Spellings.{SpelledBy}
 use Rattle.asn_walk.specs.Coding.{Coding}
-use Rattle.asn_newer.specs.Skipped.{Skipped, Reading, Entries, nothing_skipped, all_skipped}
-use Rattle.asn_newer.specs.Loose.{LooseCoding, Complete, Loose, LooseMore, IsLoose}
+use Rattle.asn_newer.specs.declared.path.PathStep.TheVariants as step
+use Rattle.asn_newer.specs.Skipped.{SkippedAt, Reading, Entries, Inside, nothing_skipped, all_skipped}
+use Rattle.asn_newer.specs.Loose.{LooseCoding, Complete, Loose, LooseMore, IsLooseAt}
 use Rattle.asn_newer.specs.declared.halt.Halt.{Halt}
 use Rattle.asn_newer.specs.declared.halt.Halt.TheVariants as halt
 
@@ -26,19 +27,19 @@ loose_by c l =
 
 -- octets are read as the same values by both
 pub record SameReadings (l m : LooseCoding) : Type 0 where
-  pub to : (t : Shape) (v : Datum) (s : List Skipped) (o : List ℕ) → IsLoose l t v s o → IsLoose m t v s o
-  pub from : (t : Shape) (v : Datum) (s : List Skipped) (o : List ℕ) → IsLoose m t v s o → IsLoose l t v s o
+  pub to : (t : Shape) (v : Datum) (s : List SkippedAt) (o : List ℕ) → IsLooseAt l t v s o → IsLooseAt m t v s o
+  pub from : (t : Shape) (v : Datum) (s : List SkippedAt) (o : List ℕ) → IsLooseAt m t v s o → IsLooseAt l t v s o
 
 -- items that a type has not
 abbrev pub UnknownItem : LooseCoding → List Label → List Label → ℤ → List Chunk → Type 0
 UnknownItem l root additions = SpelledBy (l.IsUnknown root additions) (λ z. ones (l.unknown_units z))
 
--- the entry of a component of the root, of which it is known whether it is present
-abbrev pub LooseEntry : LooseCoding → Demand → Shape → Bool → Option Datum × List Skipped → List Chunk → Type 0
-LooseEntry l d t false = Nothing (default_of d, [])
-LooseEntry l (default d) t true = Map (λ r. (Some r.0, r.1)) (Map nothing_skipped (Spelt l.coding.code (Some d) t))
-LooseEntry l must t true = Map (λ r. (Some r.0, r.1)) (Loose l t)
-LooseEntry l optional t true = Map (λ r. (Some r.0, r.1)) (Loose l t)
+-- the entry of the component at an index of the root, of which it is known whether it is present
+abbrev pub LooseEntry : LooseCoding → ℕ → Demand → Shape → Bool → Option Datum × List SkippedAt → List Chunk → Type 0
+LooseEntry l i d t false = Nothing (default_of d, [])
+LooseEntry l i (default d) t true = Map (λ r. (Some r.0, r.1)) (Map nothing_skipped (Spelt l.coding.code (Some d) t))
+LooseEntry l i must t true = Map (λ r. (Some r.0, r.1)) (Inside (step.Component i) (Loose l t))
+LooseEntry l i optional t true = Map (λ r. (Some r.0, r.1)) (Inside (step.Component i) (Loose l t))
 
 -- the additions of a SEQUENCE of which one is present
 abbrev pub LooseAdditions : LooseCoding → Fields → Entries → List Chunk → Type 0
@@ -47,21 +48,25 @@ LooseAdditions l fs = LooseMore l (marked fs) true
 -- ---- after what was read before
 
 abbrev pub ReadingAfter :
-    {A : Type 0} → List Skipped → (A × List Skipped → List Chunk → Type 0) → A × List Skipped → List Chunk → Type 0
+    {A : Type 0} → List SkippedAt → (A × List SkippedAt → List Chunk → Type 0) → A × List SkippedAt → List Chunk
+    → Type 0
 ReadingAfter before = Map (λ r. (r.0, before ++ r.1))
 
 abbrev pub EntriesAfter :
-    List (Option Datum) → List Skipped → (Entries → List Chunk → Type 0) → Entries → List Chunk → Type 0
+    List (Option Datum) → List SkippedAt → (Entries → List Chunk → Type 0) → Entries → List Chunk → Type 0
 EntriesAfter es before = Map (λ p. (es ++ p.0, before ++ p.1))
 
 abbrev pub ItemsAfter :
-    List Datum → List Skipped → (List Reading → List Chunk → Type 0) → List Datum × List Skipped → List Chunk → Type 0
-ItemsAfter ds before = Map (λ rs. (ds ++ map (λ r. r.0) rs, before ++ all_skipped rs))
+    List Datum → List SkippedAt → (List Reading → List Chunk → Type 0) → List Datum × List SkippedAt → List Chunk
+    → Type 0
+ItemsAfter ds before = Map (λ rs. (ds ++ map (λ r. r.0) rs, before ++ all_skipped (length ds) rs))
 
-abbrev pub FieldsAfter : List Skipped → (List Skipped → List Chunk → Type 0) → List Skipped → List Chunk → Type 0
+abbrev pub FieldsAfter :
+    List SkippedAt → (List SkippedAt → List Chunk → Type 0) → List SkippedAt → List Chunk → Type 0
 FieldsAfter before = Map (λ s. before ++ s)
 
-abbrev pub FieldAfter : List Skipped → (Skipped → List Chunk → Type 0) → List Skipped → List Chunk → Type 0
+abbrev pub FieldAfter :
+    List SkippedAt → (SkippedAt → List Chunk → Type 0) → List SkippedAt → List Chunk → Type 0
 FieldAfter before = Map (λ s. before ++ s ∷ [])
 
 -- ---- types, as the reader holds them
@@ -85,9 +90,9 @@ pub record IsMarkedChoice (t : AsnType) (root additions : List Alt) : Type 0 whe
 -- ---- octets
 
 -- they are a complete encoding of the value, with these fields skipped after those before
-pub record ReadsContent (l : LooseCoding) (t : Shape) (before : List Skipped) (v : Datum) (after : List Skipped)
+pub record ReadsContent (l : LooseCoding) (t : Shape) (before : List SkippedAt) (v : Datum) (after : List SkippedAt)
     (o : List ℕ) : Type 0 where
-  pub skipped : List Skipped
+  pub skipped : List SkippedAt
   pub same : after ≡ before ++ skipped
   pub complete : Complete l.coding (Loose l t) (v, skipped) o
 

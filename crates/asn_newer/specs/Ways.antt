@@ -10,14 +10,14 @@ use Rattle.asn_rules.specs.Live.{Begins, Fielding}
 use Rattle.asn_rules.specs.Reading.{AllSealed}
 use Rattle.asn_walk.specs.Ahead.{Ahead}
 use Rattle.asn_walk.specs.Laws.{Laws}
-use Rattle.asn_newer.specs.Skipped.{Skipped}
-use Rattle.asn_newer.specs.Loose.{LooseCoding, AnyBitmap, AnyItem, IsLoose}
+use Rattle.asn_newer.specs.Skipped.{SkippedAt}
+use Rattle.asn_newer.specs.Loose.{LooseCoding, AnyBitmap, AnyItem, IsLooseAt}
 
--- octets are read as one value, with one list of skipped fields, and none that are read begin others
+-- octets are read as one value, with one list of skipped fields and their paths, and none that are read begin others
 abbrev pub OneReading : LooseCoding → Type 0
 OneReading l =
-    (t : Shape) (v w : Datum) (s z : List Skipped) (o p : List ℕ) → InProfile t → length p ≤ max_octets
-    → IsLoose l t v s o → IsLoose l t w z p → Begins o p
+    (t : Shape) (v w : Datum) (s z : List SkippedAt) (o p : List ℕ) → InProfile t → length p ≤ max_octets
+    → IsLooseAt l t v s o → IsLooseAt l t w z p → Begins o p
     → (v ≡ w) × (s ≡ z) × (o ≡ p)
 
 -- ---- what this follows from

@@ -8,16 +8,16 @@ ghost use Rattle.asn_values.specs.View.{datum_of, alternatives_seen};
 ghost use Rattle.asn_walk.specs.Reading.{Reads};
 ghost use Rattle.asn_newer.specs.Halting.{HaltsAt};
 ghost use Rattle.asn_newer.specs.Loose.{Loose, LooseRoot, LooseAdded};
-ghost use Rattle.asn_newer.specs.Reading.{skipped_seen};
+ghost use Rattle.asn_newer.specs.Reading.{skipped_at_seen};
 ghost use Rattle.asn_newer.specs.Walking.{loose_by, ReadingAfter, IsMarkedChoice};
 
 use crate::halt::Halt;
 use crate::indexes::read_any_index;
 use crate::leaves::ReadVersions;
-use crate::reader::{read, read_known};
+use crate::path::{PathStep, SkippedAt};
+use crate::reader::{read_known, read_part};
 use crate::skipping::skip_field;
 use asn_bits::BitCursor;
-use asn_rules::Skipped;
 use asn_values::{Alt, AsnType, Value};
 use asn_walk::{Index, ReadLeaves};
 use std::alloc::{AllocError, Global};
@@ -27,15 +27,15 @@ use std::alloc::{AllocError, Global};
 pub(crate) fn read_closed_choice<R: ReadVersions>(
     alloc: Global,
     root: &[Alt],
-    skipped: &mut Vec<Skipped>,
+    skipped: &mut Vec<SkippedAt>,
     units: &mut BitCursor<'_>,
 ) -> Result<Value, Halt>
     requires at_unit { R.rules.at_unit units.old }
     requires of_profile { InProfile (choice (alternatives_seen root.now) closed_choice) }
     ensures at_unit { OnOk result (R.rules.at_unit units.new) }
-    ensures done { IfOk result (λ v. Reads R.rules (ReadingAfter (skipped_seen skipped.old.items)
+    ensures done { IfOk result (λ v. Reads R.rules (ReadingAfter (skipped_at_seen skipped.old.items)
         (Loose (loose_by R.rules R.loose) (choice (alternatives_seen root.now) closed_choice)))
-        (datum_of v, skipped_seen skipped.new.items) units.old units.new) }
+        (datum_of v, skipped_at_seen skipped.new.items) units.old units.new) }
     ensures stop { IfErr result (λ why. HaltsAt R.rules
         (Loose (loose_by R.rules R.loose) (choice (alternatives_seen root.now) closed_choice)) units.old why) }
 {
@@ -53,7 +53,7 @@ pub(crate) fn read_marked_choice<R: ReadVersions>(
     _ty: &AsnType,
     root: &[Alt],
     additions: &[Alt],
-    skipped: &mut Vec<Skipped>,
+    skipped: &mut Vec<SkippedAt>,
     units: &mut BitCursor<'_>,
 ) -> Result<Value, Halt>
     requires at_unit { R.rules.at_unit units.old }
@@ -61,10 +61,10 @@ pub(crate) fn read_marked_choice<R: ReadVersions>(
         (choice (alternatives_seen root.now) (marked_choice (alternatives_seen additions.now))) }
     requires parts { IsMarkedChoice _ty.now root.now additions.now }
     ensures at_unit { OnOk result (R.rules.at_unit units.new) }
-    ensures done { IfOk result (λ v. Reads R.rules (ReadingAfter (skipped_seen skipped.old.items)
+    ensures done { IfOk result (λ v. Reads R.rules (ReadingAfter (skipped_at_seen skipped.old.items)
         (Loose (loose_by R.rules R.loose)
         (choice (alternatives_seen root.now) (marked_choice (alternatives_seen additions.now)))))
-        (datum_of v, skipped_seen skipped.new.items) units.old units.new) }
+        (datum_of v, skipped_at_seen skipped.new.items) units.old units.new) }
     ensures stop { IfErr result (λ why. HaltsAt R.rules
         (Loose (loose_by R.rules R.loose)
         (choice (alternatives_seen root.now) (marked_choice (alternatives_seen additions.now)))) units.old why) }
@@ -85,7 +85,7 @@ fn read_root_alternative<R: ReadVersions>(
     alloc: Global,
     root: &[Alt],
     index: usize,
-    skipped: &mut Vec<Skipped>,
+    skipped: &mut Vec<SkippedAt>,
     units: &mut BitCursor<'_>,
 ) -> Result<Value, Halt>
     requires at_unit { R.rules.at_unit units.old }
@@ -93,13 +93,14 @@ fn read_root_alternative<R: ReadVersions>(
     requires inside { index < length root.now }
     requires few { index ≤ 63 }
     ensures at_unit { OnOk result (R.rules.at_unit units.new) }
-    ensures done { IfOk result (λ v. Reads R.rules (ReadingAfter (skipped_seen skipped.old.items)
+    ensures done { IfOk result (λ v. Reads R.rules (ReadingAfter (skipped_at_seen skipped.old.items)
         (LooseRoot (loose_by R.rules R.loose) index (alternatives_seen root.now) index))
-        (datum_of v, skipped_seen skipped.new.items) units.old units.new) }
+        (datum_of v, skipped_at_seen skipped.new.items) units.old units.new) }
     ensures stop { IfErr result (λ why. HaltsAt R.rules
         (LooseRoot (loose_by R.rules R.loose) index (alternatives_seen root.now) index) units.old why) }
 {
-    let value = read::<R>(alloc, &root[index].ty, skipped, units)?;
+    let step = PathStep::Alternative(index);
+    let value = read_part::<R>(alloc, &root[index].ty, step, skipped, units)?;
     Ok(chosen(alloc, index, value)?)
 }
 
@@ -111,7 +112,7 @@ fn read_added_alternative<R: ReadVersions>(
     added: &[Alt],
     tag: usize,
     index: usize,
-    skipped: &mut Vec<Skipped>,
+    skipped: &mut Vec<SkippedAt>,
     units: &mut BitCursor<'_>,
 ) -> Result<Value, Halt>
     requires at_unit { R.rules.at_unit units.old }
@@ -119,14 +120,15 @@ fn read_added_alternative<R: ReadVersions>(
     requires few { tag ≤ 63 }
     requires few_added { index ≤ 63 }
     ensures at_unit { OnOk result (R.rules.at_unit units.new) }
-    ensures done { IfOk result (λ v. Reads R.rules (ReadingAfter (skipped_seen skipped.old.items)
+    ensures done { IfOk result (λ v. Reads R.rules (ReadingAfter (skipped_at_seen skipped.old.items)
         (LooseAdded (loose_by R.rules R.loose) tag index (alternatives_seen added.now) index))
-        (datum_of v, skipped_seen skipped.new.items) units.old units.new) }
+        (datum_of v, skipped_at_seen skipped.new.items) units.old units.new) }
     ensures stop { IfErr result (λ why. HaltsAt R.rules
         (LooseAdded (loose_by R.rules R.loose) tag index (alternatives_seen added.now) index) units.old why) }
 {
     if index < added.len() {
-        let value = read_known::<R>(alloc, &added[index].ty, skipped, units)?;
+        let step = PathStep::Alternative(tag);
+        let value = read_known::<R>(alloc, &added[index].ty, step, skipped, units)?;
         return Ok(chosen(alloc, tag, value)?);
     }
     skip_field::<R>(alloc, index as u32, skipped, units)?;

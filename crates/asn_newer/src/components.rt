@@ -1,5 +1,5 @@
 //! The components of a SEQUENCE in messages of newer and older senders: those of the root, and the extension additions.
-ghost use Rattle.std.specs.Prelude.{◌≡◌, ◌≤◌, ◌<◌, ◌+◌, ◌++◌, [], true, false, Some, IfOk, IfErr, IfSome, IsSome, IsNone, OnOk, length, vec_len, vec_capacity};
+ghost use Rattle.std.specs.Prelude.{◌≡◌, ◌≤◌, ◌<◌, ◌+◌, ◌++◌, ℕ, [], true, false, Some, IfOk, IfErr, IfSome, IsSome, IsNone, OnOk, length, vec_len, vec_capacity};
 ghost use Rattle.std.specs.Option.{option_map};
 ghost use Rattle.asn_values.specs.Datum.{number};
 ghost use Rattle.asn_values.specs.Profile.{InProfile};
@@ -14,17 +14,17 @@ ghost use Rattle.asn_walk.specs.Reading.{Reads};
 ghost use Rattle.asn_newer.specs.Bitmaps.{bits_left};
 ghost use Rattle.asn_newer.specs.Halting.{HaltsAt};
 ghost use Rattle.asn_newer.specs.Loose.{LooseEach, LooseOpen};
-ghost use Rattle.asn_newer.specs.Reading.{skipped_seen};
+ghost use Rattle.asn_newer.specs.Reading.{skipped_at_seen};
 ghost use Rattle.asn_newer.specs.Walking.{loose_by, LooseAdditions, LooseEntry, ReadingAfter, EntriesAfter};
 
 use crate::bitmaps::read_any_bitmap;
 use crate::halt::Halt;
 use crate::leaves::ReadVersions;
+use crate::path::{PathStep, SkippedAt};
 use crate::presence::next_present;
-use crate::reader::{read, read_known};
+use crate::reader::{read_known, read_part};
 use crate::skipping::skip_fields;
 use asn_bits::BitCursor;
-use asn_rules::Skipped;
 use asn_values::{AsnType, Field, Need, Value};
 use asn_walk::{PresenceBits, absent, has_presence_bit};
 use asn_walk_read::try_integer;
@@ -37,7 +37,7 @@ pub(crate) fn read_components<R: ReadVersions>(
     fields: &[Field],
     presence: PresenceBits,
     entries: &mut Vec<Option<Value>>,
-    skipped: &mut Vec<Skipped>,
+    skipped: &mut Vec<SkippedAt>,
     units: &mut BitCursor<'_>,
 ) -> Result<(), Halt>
     requires at_unit { R.rules.at_unit units.old }
@@ -47,21 +47,21 @@ pub(crate) fn read_components<R: ReadVersions>(
     requires capacity { vec_len entries.old + length fields.now ≤ vec_capacity entries.old }
     ensures at_unit { OnOk result (R.rules.at_unit units.new) }
     ensures done { OnOk result (Reads R.rules
-        (EntriesAfter (entries_seen entries.old.items) (skipped_seen skipped.old.items)
-        (LooseEach (loose_by R.rules R.loose) (fields_seen fields.now) (bits_left presence)))
-        (entries_seen entries.new.items, skipped_seen skipped.new.items) units.old units.new) }
+        (EntriesAfter (entries_seen entries.old.items) (skipped_at_seen skipped.old.items)
+        (LooseEach (loose_by R.rules R.loose) 0 (fields_seen fields.now) (bits_left presence)))
+        (entries_seen entries.new.items, skipped_at_seen skipped.new.items) units.old units.new) }
     ensures stop { IfErr result (λ why. HaltsAt R.rules
-        (LooseEach (loose_by R.rules R.loose) (fields_seen fields.now) (bits_left presence)) units.old why) }
+        (LooseEach (loose_by R.rules R.loose) 0 (fields_seen fields.now) (bits_left presence)) units.old why) }
 {
     R::keep_walk_laws();
     let mut presence = presence;
-    for field in fields {
+    for (index, field) in fields.iter().enumerate() {
         if let Some(number) = try_bounded::<R>(field, units) {
             entries.push_reserved(Some(Value::Int(number)));
             continue;
         }
         let present = presence.next_of(field);
-        let entry = read_entry::<R>(alloc, field, present, skipped, units)?;
+        let entry = read_entry::<R>(alloc, field, index, present, skipped, units)?;
         entries.push_reserved(entry);
     }
     Ok(())
@@ -75,8 +75,8 @@ fn try_bounded<R: ReadVersions>(field: &Field, units: &mut BitCursor<'_>) -> Opt
     requires of_profile { InProfile (part_of_field field.now).shape }
     ensures at_unit { R.rules.at_unit units.new }
     ensures must { IsSome result → has_presence_bit (part_of_field field.now).demand ≡ false }
-    ensures some { IfSome result (λ z. Reads R.rules
-        (LooseEntry (loose_by R.rules R.loose) (part_of_field field.now).demand (part_of_field field.now).shape true)
+    ensures some { IfSome result (λ z. (i : ℕ) → Reads R.rules
+        (LooseEntry (loose_by R.rules R.loose) i (part_of_field field.now).demand (part_of_field field.now).shape true)
         (Some (number z), []) units.old units.new) }
     ensures of_integers { IfSome result IsOfProfile }
     ensures none { IsNone result → units.new ≡ units.old }
@@ -90,27 +90,28 @@ fn try_bounded<R: ReadVersions>(field: &Field, units: &mut BitCursor<'_>) -> Opt
     }
 }
 
-/// Reads the entry of a component, of which `present` says whether it is there.
+/// Reads the entry of the component with this index in the root, of which `present` says whether it is there.
 #[inline(always)]
 #[cycle(newer)]
 fn read_entry<R: ReadVersions>(
     alloc: Global,
     field: &Field,
+    index: usize,
     present: bool,
-    skipped: &mut Vec<Skipped>,
+    skipped: &mut Vec<SkippedAt>,
     units: &mut BitCursor<'_>,
 ) -> Result<Option<Value>, Halt>
     requires at_unit { R.rules.at_unit units.old }
     requires of_profile { InProfile (part_of_field field.now).shape }
     requires good { IsGoodDemand (part_of_field field.now).demand (part_of_field field.now).shape }
     ensures at_unit { OnOk result (R.rules.at_unit units.new) }
-    ensures done { IfOk result (λ e. Reads R.rules (ReadingAfter (skipped_seen skipped.old.items)
-        (LooseEntry (loose_by R.rules R.loose)
+    ensures done { IfOk result (λ e. Reads R.rules (ReadingAfter (skipped_at_seen skipped.old.items)
+        (LooseEntry (loose_by R.rules R.loose) index
         (part_of_field field.now).demand (part_of_field field.now).shape present))
-        (option_map datum_of e, skipped_seen skipped.new.items) units.old units.new) }
+        (option_map datum_of e, skipped_at_seen skipped.new.items) units.old units.new) }
     ensures stop { IfErr result (λ why. HaltsAt R.rules
-        (LooseEntry (loose_by R.rules R.loose) (part_of_field field.now).demand (part_of_field field.now).shape present)
-        units.old why) }
+        (LooseEntry (loose_by R.rules R.loose) index (part_of_field field.now).demand (part_of_field field.now).shape
+        present) units.old why) }
 {
     R::keep_laws();
     if !present {
@@ -118,7 +119,10 @@ fn read_entry<R: ReadVersions>(
     }
     match &field.need {
         Need::Default(default) => Ok(Some(R::read_other(&field.ty, default, units)?)),
-        Need::Must | Need::Optional => Ok(Some(read::<R>(alloc, &field.ty, skipped, units)?)),
+        Need::Must | Need::Optional => {
+            let step = PathStep::Component(index);
+            Ok(Some(read_part::<R>(alloc, &field.ty, step, skipped, units)?))
+        }
     }
 }
 
@@ -129,7 +133,7 @@ pub(crate) fn read_additions<R: ReadVersions>(
     alloc: Global,
     fields: &[Field],
     entries: &mut Vec<Option<Value>>,
-    skipped: &mut Vec<Skipped>,
+    skipped: &mut Vec<SkippedAt>,
     units: &mut BitCursor<'_>,
 ) -> Result<(), Halt>
     requires at_unit { R.rules.at_unit units.old }
@@ -137,9 +141,9 @@ pub(crate) fn read_additions<R: ReadVersions>(
     requires few { length fields.now ≤ 64 }
     ensures at_unit { OnOk result (R.rules.at_unit units.new) }
     ensures done { OnOk result (Reads R.rules
-        (EntriesAfter (entries_seen entries.old.items) (skipped_seen skipped.old.items)
+        (EntriesAfter (entries_seen entries.old.items) (skipped_at_seen skipped.old.items)
         (LooseAdditions (loose_by R.rules R.loose) (fields_seen fields.now)))
-        (entries_seen entries.new.items, skipped_seen skipped.new.items) units.old units.new) }
+        (entries_seen entries.new.items, skipped_at_seen skipped.new.items) units.old units.new) }
     ensures stop { IfErr result (λ why. HaltsAt R.rules
         (LooseAdditions (loose_by R.rules R.loose) (fields_seen fields.now)) units.old why) }
 {
@@ -155,7 +159,7 @@ fn read_open_fields<R: ReadVersions>(
     fields: &[Field],
     presence: PresenceBits,
     entries: &mut Vec<Option<Value>>,
-    skipped: &mut Vec<Skipped>,
+    skipped: &mut Vec<SkippedAt>,
     units: &mut BitCursor<'_>,
 ) -> Result<(), Halt>
     requires at_unit { R.rules.at_unit units.old }
@@ -164,17 +168,18 @@ fn read_open_fields<R: ReadVersions>(
     requires few_bits { presence.left ≤ 64 }
     ensures at_unit { OnOk result (R.rules.at_unit units.new) }
     ensures done { OnOk result (Reads R.rules
-        (EntriesAfter (entries_seen entries.old.items) (skipped_seen skipped.old.items)
+        (EntriesAfter (entries_seen entries.old.items) (skipped_at_seen skipped.old.items)
         (LooseOpen (loose_by R.rules R.loose) 0 (fields_seen fields.now) (bits_left presence)))
-        (entries_seen entries.new.items, skipped_seen skipped.new.items) units.old units.new) }
+        (entries_seen entries.new.items, skipped_at_seen skipped.new.items) units.old units.new) }
     ensures stop { IfErr result (λ why. HaltsAt R.rules
         (LooseOpen (loose_by R.rules R.loose) 0 (fields_seen fields.now) (bits_left presence)) units.old why) }
 {
     R::keep_walk_laws();
     let mut presence = presence;
-    for field in fields {
+    for (index, field) in fields.iter().enumerate() {
         let entry = if next_present(&mut presence) {
-            Some(read_known::<R>(alloc, &field.ty, skipped, units)?)
+            let step = PathStep::Addition(index);
+            Some(read_known::<R>(alloc, &field.ty, step, skipped, units)?)
         } else {
             None
         };

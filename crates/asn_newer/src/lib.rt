@@ -12,10 +12,12 @@ pub mod laws;
 mod leaves;
 mod message;
 mod oer_items;
+mod path;
 mod per_items;
 mod presence;
 mod reader;
 mod skipping;
+mod texts;
 
 pub use bitmaps::read_any_bitmap;
 pub use fault::NewerFault;
@@ -23,3 +25,5 @@ pub use halt::Halt;
 pub use laws::OtherVersions;
 pub use leaves::ReadVersions;
 pub use message::ReadNewer;
+pub use path::{NewerAt, PathStep, SkippedAt};
+pub use texts::path_text;

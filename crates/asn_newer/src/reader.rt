@@ -13,7 +13,8 @@ ghost use Rattle.asn_walk.specs.Coding.{ListingOf};
 ghost use Rattle.asn_walk.specs.Reading.{Reads};
 ghost use Rattle.asn_newer.specs.Halting.{HaltsAt};
 ghost use Rattle.asn_newer.specs.Loose.{Loose, Known};
-ghost use Rattle.asn_newer.specs.Reading.{skipped_seen};
+ghost use Rattle.asn_newer.specs.Reading.{skipped_at_seen};
+ghost use Rattle.asn_newer.specs.Skipped.{Inside};
 ghost use Rattle.asn_newer.specs.Walking.{
   loose_by,
   ReadingAfter,
@@ -28,8 +29,8 @@ use crate::components::{push_absent, read_additions, read_components};
 use crate::halt::{Halt, halt_of_field};
 use crate::items::read_any_item;
 use crate::leaves::ReadVersions;
+use crate::path::{PathStep, SkippedAt, push_inside};
 use asn_bits::BitCursor;
-use asn_rules::Skipped;
 use asn_values::{AsnType, Field, Size, Value};
 use asn_walk::{PresenceBits, ReadLeaves, bitmap_width};
 use std::alloc::Global;
@@ -46,15 +47,15 @@ const RESERVED_AT_ONCE: usize = 1024;
 pub(crate) fn read<R: ReadVersions>(
     alloc: Global,
     ty: &AsnType,
-    skipped: &mut Vec<Skipped>,
+    skipped: &mut Vec<SkippedAt>,
     units: &mut BitCursor<'_>,
 ) -> Result<Value, Halt>
     requires at_unit { R.rules.at_unit units.old }
     requires of_profile { InProfile (shape_of ty.now) }
     ensures at_unit { OnOk result (R.rules.at_unit units.new) }
     ensures done { IfOk result (λ v. Reads R.rules
-        (ReadingAfter (skipped_seen skipped.old.items) (Loose (loose_by R.rules R.loose) (shape_of ty.now)))
-        (datum_of v, skipped_seen skipped.new.items) units.old units.new) }
+        (ReadingAfter (skipped_at_seen skipped.old.items) (Loose (loose_by R.rules R.loose) (shape_of ty.now)))
+        (datum_of v, skipped_at_seen skipped.new.items) units.old units.new) }
     ensures stop { IfErr result (λ why.
         HaltsAt R.rules (Loose (loose_by R.rules R.loose) (shape_of ty.now)) units.old why) }
 {
@@ -96,20 +97,44 @@ pub(crate) fn read<R: ReadVersions>(
     }
 }
 
+/// Reads a value of the part to which the step leads, and appends the fields that it skips.
+#[cycle(newer)]
+pub(crate) fn read_part<R: ReadVersions>(
+    alloc: Global,
+    ty: &AsnType,
+    step: PathStep,
+    skipped: &mut Vec<SkippedAt>,
+    units: &mut BitCursor<'_>,
+) -> Result<Value, Halt>
+    requires at_unit { R.rules.at_unit units.old }
+    requires of_profile { InProfile (shape_of ty.now) }
+    ensures at_unit { OnOk result (R.rules.at_unit units.new) }
+    ensures done { IfOk result (λ v. Reads R.rules (ReadingAfter (skipped_at_seen skipped.old.items)
+        (Inside step (Loose (loose_by R.rules R.loose) (shape_of ty.now))))
+        (datum_of v, skipped_at_seen skipped.new.items) units.old units.new) }
+    ensures stop { IfErr result (λ why.
+        HaltsAt R.rules (Inside step (Loose (loose_by R.rules R.loose) (shape_of ty.now))) units.old why) }
+{
+    let mut inner = Vec::new(alloc);
+    let value = read::<R>(alloc, ty, &mut inner, units)?;
+    push_inside(inner, step, skipped)?;
+    Ok(value)
+}
+
 /// Reads a SEQUENCE without an extension mark.
 #[cycle(newer)]
 fn read_closed<R: ReadVersions>(
     alloc: Global,
     root: &[Field],
-    skipped: &mut Vec<Skipped>,
+    skipped: &mut Vec<SkippedAt>,
     units: &mut BitCursor<'_>,
 ) -> Result<Value, Halt>
     requires at_unit { R.rules.at_unit units.old }
     requires of_profile { InProfile (sequence (fields_seen root.now) closed) }
     ensures at_unit { OnOk result (R.rules.at_unit units.new) }
-    ensures done { IfOk result (λ v. Reads R.rules (ReadingAfter (skipped_seen skipped.old.items)
+    ensures done { IfOk result (λ v. Reads R.rules (ReadingAfter (skipped_at_seen skipped.old.items)
         (Loose (loose_by R.rules R.loose) (sequence (fields_seen root.now) closed)))
-        (datum_of v, skipped_seen skipped.new.items) units.old units.new) }
+        (datum_of v, skipped_at_seen skipped.new.items) units.old units.new) }
     ensures stop { IfErr result (λ why.
         HaltsAt R.rules (Loose (loose_by R.rules R.loose) (sequence (fields_seen root.now) closed)) units.old why) }
 {
@@ -132,16 +157,16 @@ fn read_marked<R: ReadVersions>(
     _ty: &AsnType,
     root: &[Field],
     additions: &[Field],
-    skipped: &mut Vec<Skipped>,
+    skipped: &mut Vec<SkippedAt>,
     units: &mut BitCursor<'_>,
 ) -> Result<Value, Halt>
     requires at_unit { R.rules.at_unit units.old }
     requires of_profile { InProfile (sequence (fields_seen root.now) (marked (fields_seen additions.now))) }
     requires parts { IsMarkedSequence _ty.now root.now additions.now }
     ensures at_unit { OnOk result (R.rules.at_unit units.new) }
-    ensures done { IfOk result (λ v. Reads R.rules (ReadingAfter (skipped_seen skipped.old.items)
+    ensures done { IfOk result (λ v. Reads R.rules (ReadingAfter (skipped_at_seen skipped.old.items)
         (Loose (loose_by R.rules R.loose) (sequence (fields_seen root.now) (marked (fields_seen additions.now)))))
-        (datum_of v, skipped_seen skipped.new.items) units.old units.new) }
+        (datum_of v, skipped_at_seen skipped.new.items) units.old units.new) }
     ensures stop { IfErr result (λ why. HaltsAt R.rules
         (Loose (loose_by R.rules R.loose) (sequence (fields_seen root.now) (marked (fields_seen additions.now))))
         units.old why) }
@@ -163,27 +188,33 @@ fn read_marked<R: ReadVersions>(
     Ok(Value::Seq(entries))
 }
 
-/// Reads an open type field that holds a value of the type, and appends the fields that are skipped in it.
+/// Reads an open type field that holds a value of the part to which the step leads, and appends the fields that are
+/// skipped in it.
 #[cycle(newer)]
 pub(crate) fn read_known<R: ReadVersions>(
     alloc: Global,
     ty: &AsnType,
-    skipped: &mut Vec<Skipped>,
+    step: PathStep,
+    skipped: &mut Vec<SkippedAt>,
     units: &mut BitCursor<'_>,
 ) -> Result<Value, Halt>
     requires at_unit { R.rules.at_unit units.old }
     requires of_profile { InProfile (shape_of ty.now) }
     ensures at_unit { OnOk result (R.rules.at_unit units.new) }
-    ensures done { IfOk result (λ v. Reads R.rules (ReadingAfter (skipped_seen skipped.old.items)
-        (Known R.rules (Loose (loose_by R.rules R.loose) (shape_of ty.now))))
-        (datum_of v, skipped_seen skipped.new.items) units.old units.new) }
+    ensures done { IfOk result (λ v. Reads R.rules (ReadingAfter (skipped_at_seen skipped.old.items)
+        (Inside step (Known R.rules (Loose (loose_by R.rules R.loose) (shape_of ty.now)))))
+        (datum_of v, skipped_at_seen skipped.new.items) units.old units.new) }
     ensures stop { IfErr result (λ why. HaltsAt R.rules
-        (Known R.rules (Loose (loose_by R.rules R.loose) (shape_of ty.now))) units.old why) }
+        (Inside step (Known R.rules (Loose (loose_by R.rules R.loose) (shape_of ty.now)))) units.old why) }
 {
     R::keep_walk_laws();
     let octets = R::read_open_octets(alloc, units)?;
-    match read_content::<R>(alloc, ty, &octets, skipped) {
-        Ok(value) => Ok(value),
+    let mut inner = Vec::new(alloc);
+    match read_content::<R>(alloc, ty, &octets, &mut inner) {
+        Ok(value) => {
+            push_inside(inner, step, skipped)?;
+            Ok(value)
+        }
         Err(halt) => Err(halt_of_field(halt)),
     }
 }
@@ -194,13 +225,13 @@ pub(crate) fn read_content<R: ReadVersions>(
     alloc: Global,
     ty: &AsnType,
     octets: &[u8],
-    skipped: &mut Vec<Skipped>,
+    skipped: &mut Vec<SkippedAt>,
 ) -> Result<Value, Halt>
     requires of_profile { InProfile (shape_of ty.now) }
     requires octets { AreOctets octets.now }
     requires few { length octets.now ≤ max_octets }
     ensures done { IfOk result (λ v. ReadsContent (loose_by R.rules R.loose) (shape_of ty.now)
-        (skipped_seen skipped.old.items) (datum_of v) (skipped_seen skipped.new.items) octets.now) }
+        (skipped_at_seen skipped.old.items) (datum_of v) (skipped_at_seen skipped.new.items) octets.now) }
     ensures stop { IfErr result (HaltsContent (loose_by R.rules R.loose) (shape_of ty.now) octets.now) }
 {
     R::keep_walk_laws();
@@ -220,15 +251,15 @@ fn read_list<R: ReadVersions>(
     alloc: Global,
     element: &AsnType,
     size: &Size,
-    skipped: &mut Vec<Skipped>,
+    skipped: &mut Vec<SkippedAt>,
     units: &mut BitCursor<'_>,
 ) -> Result<Value, Halt>
     requires at_unit { R.rules.at_unit units.old }
     requires of_profile { InProfile (sequence_of (shape_of element.now) (size_range_of size.now)) }
     ensures at_unit { OnOk result (R.rules.at_unit units.new) }
-    ensures done { IfOk result (λ v. Reads R.rules (ReadingAfter (skipped_seen skipped.old.items)
+    ensures done { IfOk result (λ v. Reads R.rules (ReadingAfter (skipped_at_seen skipped.old.items)
         (Loose (loose_by R.rules R.loose) (sequence_of (shape_of element.now) (size_range_of size.now))))
-        (datum_of v, skipped_seen skipped.new.items) units.old units.new) }
+        (datum_of v, skipped_at_seen skipped.new.items) units.old units.new) }
     ensures stop { IfErr result (λ why. HaltsAt R.rules
         (Loose (loose_by R.rules R.loose) (sequence_of (shape_of element.now) (size_range_of size.now)))
         units.old why) }
@@ -248,7 +279,7 @@ fn read_fragments<R: ReadVersions>(
     element: &AsnType,
     fragments: R::Fragments,
     elements: &mut Vec<Value>,
-    skipped: &mut Vec<Skipped>,
+    skipped: &mut Vec<SkippedAt>,
     units: &mut BitCursor<'_>,
 ) -> Result<(), Halt>
     requires at_unit { R.rules.at_unit units.old }
@@ -256,9 +287,9 @@ fn read_fragments<R: ReadVersions>(
     requires between { R.is_between fragments }
     ensures at_unit { OnOk result (R.rules.at_unit units.new) }
     ensures done { OnOk result (Reads R.rules
-        (ItemsAfter (map datum_of elements.old.items) (skipped_seen skipped.old.items)
+        (ItemsAfter (map datum_of elements.old.items) (skipped_at_seen skipped.old.items)
         (Remaining (Loose (loose_by R.rules R.loose) (shape_of element.now)) (R.ahead fragments)))
-        (map datum_of elements.new.items, skipped_seen skipped.new.items) units.old units.new) }
+        (map datum_of elements.new.items, skipped_at_seen skipped.new.items) units.old units.new) }
     ensures stop { IfErr result (λ why. HaltsAt R.rules
         (Remaining (Loose (loose_by R.rules R.loose) (shape_of element.now)) (R.ahead fragments)) units.old why) }
 {
@@ -279,22 +310,23 @@ fn read_elements<R: ReadVersions>(
     element: &AsnType,
     count: usize,
     elements: &mut Vec<Value>,
-    skipped: &mut Vec<Skipped>,
+    skipped: &mut Vec<SkippedAt>,
     units: &mut BitCursor<'_>,
 ) -> Result<(), Halt>
     requires at_unit { R.rules.at_unit units.old }
     requires of_profile { InProfile (shape_of element.now) }
     ensures at_unit { OnOk result (R.rules.at_unit units.new) }
     ensures done { OnOk result (Reads R.rules
-        (ItemsAfter (map datum_of elements.old.items) (skipped_seen skipped.old.items)
+        (ItemsAfter (map datum_of elements.old.items) (skipped_at_seen skipped.old.items)
         (Row (Loose (loose_by R.rules R.loose) (shape_of element.now)) count))
-        (map datum_of elements.new.items, skipped_seen skipped.new.items) units.old units.new) }
+        (map datum_of elements.new.items, skipped_at_seen skipped.new.items) units.old units.new) }
     ensures stop { IfErr result (λ why. HaltsAt R.rules
         (Row (Loose (loose_by R.rules R.loose) (shape_of element.now)) count) units.old why) }
 {
     R::keep_walk_laws();
     for i in 0..count {
-        let value = read::<R>(alloc, element, skipped, units)?;
+        let step = PathStep::Element(elements.len());
+        let value = read_part::<R>(alloc, element, step, skipped, units)?;
         elements.push(value)?;
     }
     Ok(())

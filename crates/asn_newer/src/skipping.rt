@@ -4,11 +4,12 @@ ghost use Rattle.asn_walk.specs.Reading.{Reads};
 ghost use Rattle.asn_newer.specs.Bitmaps.{bits_left};
 ghost use Rattle.asn_newer.specs.Halting.{HaltsAt};
 ghost use Rattle.asn_newer.specs.Loose.{AllUnknown, Unknown};
-ghost use Rattle.asn_newer.specs.Reading.{skipped_seen};
+ghost use Rattle.asn_newer.specs.Reading.{skipped_at_seen};
 ghost use Rattle.asn_newer.specs.Walking.{FieldAfter, FieldsAfter};
 
 use crate::halt::Halt;
 use crate::leaves::ReadVersions;
+use crate::path::SkippedAt;
 use crate::presence::next_present;
 use asn_bits::BitCursor;
 use asn_rules::Skipped;
@@ -19,18 +20,18 @@ use std::alloc::Global;
 pub(crate) fn skip_field<R: ReadLeaves>(
     alloc: Global,
     place: u32,
-    skipped: &mut Vec<Skipped>,
+    skipped: &mut Vec<SkippedAt>,
     units: &mut BitCursor<'_>,
 ) -> Result<(), Halt>
     requires at_unit { R.rules.at_unit units.old }
     ensures at_unit { OnOk result (R.rules.at_unit units.new) }
-    ensures done { OnOk result (Reads R.rules (FieldAfter (skipped_seen skipped.old.items) (Unknown R.rules place))
-        (skipped_seen skipped.new.items) units.old units.new) }
+    ensures done { OnOk result (Reads R.rules (FieldAfter (skipped_at_seen skipped.old.items) (Unknown R.rules place))
+        (skipped_at_seen skipped.new.items) units.old units.new) }
     ensures stop { IfErr result (λ why. HaltsAt R.rules (Unknown R.rules place) units.old why) }
 {
     R::keep_laws();
     let octets = R::read_open_octets(alloc, units)?;
-    skipped.push(Skipped { place, octets })?;
+    skipped.push(SkippedAt::here(alloc, Skipped { place, octets }))?;
     Ok(())
 }
 
@@ -39,16 +40,16 @@ pub(crate) fn skip_fields<R: ReadVersions>(
     alloc: Global,
     place: u32,
     presence: PresenceBits,
-    skipped: &mut Vec<Skipped>,
+    skipped: &mut Vec<SkippedAt>,
     units: &mut BitCursor<'_>,
 ) -> Result<(), Halt>
     requires at_unit { R.rules.at_unit units.old }
     requires few { presence.left ≤ 64 }
     requires few_places { place ≤ 64 }
     ensures at_unit { OnOk result (R.rules.at_unit units.new) }
-    ensures done { OnOk result (Reads R.rules (FieldsAfter (skipped_seen skipped.old.items)
+    ensures done { OnOk result (Reads R.rules (FieldsAfter (skipped_at_seen skipped.old.items)
         (AllUnknown R.rules place (bits_left presence)))
-        (skipped_seen skipped.new.items) units.old units.new) }
+        (skipped_at_seen skipped.new.items) units.old units.new) }
     ensures stop { IfErr result (λ why.
         HaltsAt R.rules (AllUnknown R.rules place (bits_left presence)) units.old why) }
 {

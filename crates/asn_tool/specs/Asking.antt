@@ -6,4 +6,5 @@ use Rattle.asn_tool.specs.declared.asking.Asking.{Asking}
 abbrev pub IsPlain : Asking → Type 0
 IsPlain a = (a.messages.items ≡ []) × (a.is_explained ≡ false) × (a.is_counted ≡ false) × (a.forms.given ≡ None)
     × (a.forms.written ≡ None) × (a.forms.is_split ≡ false) × (a.layout.is_declared ≡ false)
-    × (a.layout.is_pretty ≡ false) × (a.budget ≡ None)
+    × (a.layout.is_pretty ≡ false) × (a.versions.is_json ≡ false) × (a.versions.is_taken_back ≡ false)
+    × (a.budget ≡ None)

@@ -99,9 +99,14 @@ message_rules given = files_rule (codes "messages") ∷ names_rule (codes "in") 
 abbrev pub form_rules : Option ValueParser → Option ValueParser → List Rule
 form_rules given written = message_rules given ++ names_rule (codes "out") written ∷ []
 
+-- those for messages of other versions of a type
+abbrev pub version_rules : List Rule
+version_rules = flag_rule (codes "json") ∷ flag_rule (codes "newer") ∷ []
+
 -- those for the layout of JSON, and for what is counted
 abbrev pub answer_rules : Option ValueParser → List Rule
-answer_rules members = flag_rule (codes "pretty") ∷ names_rule (codes "order") members ∷ flag_rule (codes "stats") ∷ []
+answer_rules members = flag_rule (codes "pretty") ∷ names_rule (codes "order") members ∷ flag_rule (codes "stats")
+    ∷ version_rules
 
 -- those for what the profile does not have as it is published
 abbrev pub leave_rules : List Rule

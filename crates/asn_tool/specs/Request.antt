@@ -20,6 +20,7 @@ use Rattle.asn_octet_forms.specs.declared.texts.OctetForm.TheVariants as octets
 use Rattle.asn_published.specs.declared.options.Options.{Options}
 use Rattle.asn_tool.specs.declared.asking.Asking.{Asking}
 use Rattle.asn_tool.specs.declared.asking.Forms.{Forms}
+use Rattle.asn_tool.specs.declared.asking.Versions.{Versions}
 use Rattle.asn_tool.specs.declared.request.Form.{Form}
 use Rattle.asn_tool.specs.declared.request.Form.TheVariants as form
 use Rattle.asn_tool.specs.declared.request.LineFault.{LineFault}
@@ -119,11 +120,15 @@ is_declared_in rows = option_map_or is_declared (first_of (codes "order") rows) 
 abbrev pub IsLayout : List Row → Layout → Type 0
 IsLayout rows l = (l.is_declared ≡ is_declared_in rows) × IsFlag (codes "pretty") rows l.is_pretty
 
+-- what is asked for of messages of other versions
+abbrev pub AreVersions : List Row → Versions → Type 0
+AreVersions rows v = IsFlag (codes "json") rows v.is_json × IsFlag (codes "newer") rows v.is_taken_back
+
 -- what the options ask for of the messages
 abbrev pub IsAsking : List Row → Asking → Type 0
 IsAsking rows a = IsFlag (codes "explain") rows a.is_explained
     × (texts_of a.messages.items ≡ files_of (codes "messages") rows) × AreForms rows a.forms × IsLayout rows a.layout
-    × IsFlag (codes "stats") rows a.is_counted × IsNumberOf (codes "budget") rows a.budget
+    × AreVersions rows a.versions × IsFlag (codes "stats") rows a.is_counted × IsNumberOf (codes "budget") rows a.budget
 
 -- ---- what is looked at
 

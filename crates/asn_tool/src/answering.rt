@@ -1,9 +1,10 @@
 //! The answer to one message, in the form and the layout that is asked for, while standard error tells why it is refused.
-use crate::asking::{Asking, Forms};
+use crate::asking::{Asking, Forms, Versions};
 use crate::budget::{Answered, answer_within};
 use crate::counting::Counts;
 use crate::explaining::{over_words, why_refused};
 use crate::laying::laid_text;
+use crate::newer_json::{TakenBack, newer_line, taken_back};
 use asn_convert::{Job, Order, RuleName, RunFault, answer_line};
 use asn_json_layout::Layout;
 use asn_octet_forms::{OctetForm, octets_in, text_of};
@@ -23,6 +24,7 @@ pub struct Asked<'t> {
     pub rules: RuleName,
     pub forms: Forms,
     pub layout: Layout,
+    pub versions: Versions,
     /// Whether standard error tells why a message is refused.
     pub is_explained: bool,
     /// Whether messages are counted.
@@ -43,6 +45,7 @@ impl<'t> Asked<'t> {
             rules: *rules,
             forms: asking.forms,
             layout: asking.layout,
+            versions: asking.versions,
             is_explained: asking.is_explained,
             is_counted: asking.is_counted,
             budget: asking.budget,
@@ -56,7 +59,7 @@ impl<'t> Asked<'t> {
 
     /// Whether JSON is laid out.
     fn is_laid(&self) -> bool {
-        self.layout.is_declared || self.layout.is_pretty
+        self.layout.is_declared || self.layout.is_pretty || self.versions.is_json
     }
 
     /// Whether an answer is written as it is.
@@ -92,6 +95,29 @@ pub struct Place<'a> {
 /// # Errors
 /// `Write` where the writer answered a fault, `Memory` where an allocation failed.
 pub fn answer_one<W: Write>(
+    rt: &HostRuntime,
+    answers: &mut Answers<W>,
+    place: Place<'_>,
+    line: &[u8],
+    asked: Asked<'_>,
+) -> Result<bool, RunFault> {
+    if !asked.versions.is_taken_back {
+        return answer_line_of(rt, answers, place, line, asked);
+    }
+    match taken_back(rt.alloc(), line)? {
+        TakenBack::Value(value) => answer_line_of(rt, answers, place, value.as_bytes(), asked),
+        TakenBack::Refused(refusal, reason) => {
+            put_refusal(rt, answers, place, refusal.as_bytes(), asked)?;
+            if asked.is_explained {
+                tell(rt, place, reason)?;
+            }
+            Ok(false)
+        }
+    }
+}
+
+/// The same of a line that is hexadecimal or the JSON of a value itself.
+fn answer_line_of<W: Write>(
     rt: &HostRuntime,
     answers: &mut Answers<W>,
     place: Place<'_>,
@@ -176,7 +202,12 @@ fn put_laid<W: Write>(
         layout,
         ..
     } = asked;
-    match laid_text(rt.alloc(), asked.ty(), order, rules, line, layout)? {
+    let text = if asked.versions.is_json {
+        newer_line(rt.alloc(), asked.ty(), rules, line, layout.is_declared)?
+    } else {
+        laid_text(rt.alloc(), asked.ty(), order, rules, line, layout)?
+    };
+    match text {
         Some(mut text) => {
             text.push('\n')?;
             put(output, text.as_bytes())

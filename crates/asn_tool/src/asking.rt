@@ -17,6 +17,8 @@ pub struct Asking<'a> {
     pub forms: Forms,
     /// The layout of the JSON of their values.
     pub layout: Layout,
+    /// What is asked for of messages of other versions of a type.
+    pub versions: Versions,
     /// Whether it is counted how many they are, how long, of which alternatives, and why they are refused.
     pub is_counted: bool,
     /// The most entries, and octets of strings, that the value of a message may take, if there is a bound.
@@ -41,6 +43,8 @@ impl<'a> Asking<'a> {
             && !is_split
             && !self.layout.is_declared
             && !self.layout.is_pretty
+            && !self.versions.is_json
+            && !self.versions.is_taken_back
             && self.budget.is_none()
     }
 
@@ -70,6 +74,33 @@ impl<'a> Asking<'a> {
             }
             Order::Show | Order::Encode | Order::Convert | Order::Newer if self.is_counted => {
                 Some("--stats is for check")
+            }
+            _ => self.versions.unserved(*order, self.layout),
+        }
+    }
+}
+
+/// What is asked for of messages of other versions of a type.
+#[derive(Clone, Copy, Debug, PartialEq, Eq, Drop)]
+pub struct Versions {
+    /// Whether each is shown as an object with its value and what is skipped in it.
+    pub is_json: bool,
+    /// Whether such objects are encoded.
+    pub is_taken_back: bool,
+}
+
+impl Versions {
+    /// What of it the order does not do, which shows values in this layout.
+    fn unserved(&self, order: Order, layout: Layout) -> Option<&'static str> {
+        match order {
+            Order::Show | Order::Check | Order::Encode | Order::Convert if self.is_json => {
+                Some("--json is for newer: show writes JSON without it")
+            }
+            Order::Newer if self.is_json && layout.is_pretty => {
+                Some("--json writes an object a line, and --pretty a line a member")
+            }
+            Order::Show | Order::Check | Order::Convert | Order::Newer if self.is_taken_back => {
+                Some("--newer is for encode")
             }
             _ => None,
         }

@@ -41,6 +41,7 @@ What a refusal means, of which --explain tells more on standard error:
   ! over budget: ..     the value of the message takes more than --budget allows
   ! module ..           the text is no module of the profile; at N: after N octets
   ! no type NAME        the module has no type of the name
+  ! skipped PATH        of encode --newer: the type does not have an addition at PATH, and it would be lost
 Of newer: ! refused, ! cut short and ! too many additions, where the octets are a message of no version of the type.
 
 A module whose types come to more than 10,000,000 once references are followed is refused, with a line on standard
@@ -155,7 +156,12 @@ writes a0.
 
 As octets, where m.asn has that module:
   echo '{\"id\":5}' | asn_tool encode --type T --rules per --module m.asn --out binary >message
-leaves a file of one octet.";
+leaves a file of one octet.
+
+With --newer the lines are those of `newer --json`: the value of one of which nothing was skipped is encoded, and any other
+is refused, since the octets of additions that the type does not have would be lost:
+  asn_tool encode --type T --rules per --module m.asn --newer <lines
+writes a0 for {\"value\":{\"id\":5},\"skipped\":[]}.";
 
 /// Of `convert`.
 pub static CONVERT: &str = "\
@@ -194,7 +200,12 @@ the name, which the only line of output tells; 3 if reading, writing or memory f
 Example:
   printf '%s\\n' 'M DEFINITIONS AUTOMATIC TAGS ::= BEGIN' 'T ::= SEQUENCE { a BOOLEAN, ... }' END ==== c04041c0 |
     asn_tool newer --type T --rules per
-writes {\"a\":true} +0:07. With --pretty each member stands on a line of its own.";
+writes {\"a\":true} +0:07. With --pretty each member stands on a line of its own.
+
+With --json each line is an object: the value, and of each addition that was skipped the path to the SEQUENCE or CHOICE that
+has it, its number, and its octets. Of the same line, newer --type T --rules per --json writes
+  {\"value\":{\"a\":true},\"skipped\":[{\"path\":\"$\",\"addition\":0,\"octets\":\"07\"}]}
+`encode --newer` takes such lines back, where nothing was skipped.";
 
 /// Of `fields`.
 pub static FIELDS: &str = "\

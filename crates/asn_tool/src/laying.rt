@@ -82,7 +82,7 @@ fn newer_text<R: ReadNewer>(
 }
 
 /// The JSON of a value of the type, or of one that is read of a message of a newer sender, in this layout.
-fn value_text(
+pub fn value_text(
     alloc: Global,
     ty: &Checked,
     value: &Value,

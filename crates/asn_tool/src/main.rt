@@ -18,6 +18,7 @@ mod laying;
 mod look;
 mod looking;
 mod messages;
+mod newer_json;
 mod piped;
 mod program;
 mod refused;

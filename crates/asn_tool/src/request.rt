@@ -5,9 +5,9 @@ ghost use Rattle.asn_convert.specs.declared.job.Order.{Order};
 ghost use Rattle.asn_convert.specs.declared.job.RuleName.{RuleName};
 ghost use Rattle.asn_tool.specs.declared.request.LineFault.{LineFault};
 ghost use Rattle.asn_tool.specs.Command.{HasOptions, IsTaken};
-ghost use Rattle.asn_tool.specs.Request.{AreForms, AreOptions, Asks, HasRequest, IsAsking, IsJobOf, IsLayout, IsNumberOf, IsRequestOf, Told, fault_by, files_of, form_in, form_of, is_declared_in, octet_form_in, octet_form_of, look_name, order_name, rule_name, texts_of};
+ghost use Rattle.asn_tool.specs.Request.{AreForms, AreOptions, AreVersions, Asks, HasRequest, IsAsking, IsJobOf, IsLayout, IsNumberOf, IsRequestOf, Told, fault_by, files_of, form_in, form_of, is_declared_in, octet_form_in, octet_form_of, look_name, order_name, rule_name, texts_of};
 
-use crate::asking::{Asking, Forms};
+use crate::asking::{Asking, Forms, Versions};
 use crate::look::{Look, Looking, look_of, looking_named};
 use crate::program::command;
 use asn_convert::{Job, Order, RuleName};
@@ -216,6 +216,7 @@ fn asking_in<'a>(alloc: Global, options: &ArgMatches<'a>) -> Result<Asking<'a>, 
         messages: files_in(alloc, options, "messages")?,
         forms: forms_in(options),
         layout: layout_in(options),
+        versions: versions_in(options),
         is_counted: options.get_flag("stats"),
         budget: budget_in(options),
     })
@@ -268,6 +269,16 @@ fn layout_in(options: &ArgMatches<'_>) -> Layout
     Layout {
         is_declared: is_declared_in(options),
         is_pretty: options.get_flag("pretty"),
+    }
+}
+
+/// What is asked for of messages of other versions of a type.
+fn versions_in(options: &ArgMatches<'_>) -> Versions
+    ensures { AreVersions (rows_of (found_of options.now)) result }
+{
+    Versions {
+        is_json: options.get_flag("json"),
+        is_taken_back: options.get_flag("newer"),
     }
 }
 

@@ -2,7 +2,7 @@
 ghost use Rattle.std.specs.Prelude.{◌≡◌, IfOk, codes, false, true};
 ghost use Rattle.clap.specs.Words.{app_of, rule_of, shape_of};
 ghost use Rattle.clap.specs.declared.builder.Command.TheViews.{out-Command};
-ghost use Rattle.asn_tool.specs.Command.{IsFields, IsFlatten, IsOrder, IsOrderApp, TakesNames, answer_rules, example_shape, file_rule, files_rule, flag_rule, form_rules, given_names, leave_rules, member_names, message_rules, module_shape, name_rule, names_rule, number_rule, report_names, rule_names, rules_rule, source_rules, type_rule, types_shape, with_rules, written_names};
+ghost use Rattle.asn_tool.specs.Command.{IsFields, IsFlatten, IsOrder, IsOrderApp, TakesNames, answer_rules, example_shape, file_rule, files_rule, flag_rule, form_rules, given_names, leave_rules, member_names, message_rules, module_shape, name_rule, names_rule, number_rule, report_names, rule_names, rules_rule, source_rules, type_rule, types_shape, version_rules, with_rules, written_names};
 
 use crate::help;
 use clap::{Arg, ArgAction, Command, value_parser};
@@ -307,7 +307,27 @@ fn with_answers<'a>(alloc: Global, command: Command<'a>) -> Result<Command<'a>, 
         "stats",
         "`check` counts on standard error the messages, their octets, alternatives and refusals",
     );
-    command.arg(pretty)?.arg(members_option(alloc))?.arg(stats)
+    let command = command.arg(pretty)?.arg(members_option(alloc))?.arg(stats)?;
+    with_versions(alloc, command)
+}
+
+/// The command with the options for messages of other versions of a type.
+fn with_versions<'a>(alloc: Global, command: Command<'a>) -> Result<Command<'a>, AllocError>
+    ensures shape { IfOk result (λ c. app_of c ≡ with_rules (app_of command.entry) version_rules) }
+    ensures local { (out-Command command.entry).has_globals ≡ false
+        → IfOk result (λ c. (out-Command c).has_globals ≡ false) }
+{
+    let json = flag(
+        alloc,
+        "json",
+        "`newer` writes an object with the value, and with what is skipped by path, addition and octets",
+    );
+    let newer = flag(
+        alloc,
+        "newer",
+        "`encode` takes such objects, and refuses one of which something was skipped",
+    );
+    command.arg(json)?.arg(newer)
 }
 
 /// The option for the order of the members of JSON.

@@ -2,13 +2,13 @@
 ghost use Rattle.std.specs.Prelude.{◌≡◌, IfOk, IfErr, OnOk, Err};
 ghost use Rattle.asn_values.specs.Datum.{Datum};
 ghost use Rattle.asn_values.specs.View.{shape_of, datum_of};
-ghost use Rattle.asn_newer.specs.Reading.{IsNewer, NotNewer};
+ghost use Rattle.asn_newer.specs.Reading.{IsNewer, IsNewerAt, NotNewer};
 ghost use Rattle.asn_rules.specs.Answer.{IsEncoding};
 ghost use Rattle.asn_rules.specs.Codec.{Decoded};
 ghost use Rattle.asn_rules.specs.Delivered.{Encoded, NotDelivered};
 ghost use Rattle.asn_rules.specs.Faults.{state_of};
 
-use asn_newer::{NewerFault, ReadNewer};
+use asn_newer::{NewerAt, NewerFault, ReadNewer};
 use asn_rules::{Counted, DecodeFault, EncodeToFault, Newer, Rules, decode};
 use asn_values::{Checked, Value};
 use std::alloc::Global;
@@ -59,4 +59,20 @@ pub fn read_newer<R: ReadNewer>(
     ensures fault { IfErr result (λ why. NotNewer R.OtherVersions.loose (shape_of ty.now) octets.now why) }
 {
     R::read_newer(alloc, ty, octets)
+}
+
+/// The same, with the path to the SEQUENCE or CHOICE of each skipped field: see `ReadNewer::read_newer_at`. `path_text`
+/// is the text of a path.
+///
+/// # Errors
+/// As `ReadNewer::read_newer_at`.
+pub fn read_newer_at<R: ReadNewer>(
+    alloc: Global,
+    ty: &Checked,
+    octets: &[u8],
+) -> Result<NewerAt, NewerFault>
+    ensures read { IfOk result (λ n. IsNewerAt R.OtherVersions.loose (shape_of ty.now) n octets.now) }
+    ensures fault { IfErr result (λ why. NotNewer R.OtherVersions.loose (shape_of ty.now) octets.now why) }
+{
+    R::read_newer_at(alloc, ty, octets)
 }

@@ -13,7 +13,7 @@ pub use asn_json::{JsonFault, from_json, to_json};
 pub use asn_module::{
     BoundFault, Module, ModuleFault, RefusedText, TypeNames, read, read_explained, read_within,
 };
-pub use asn_newer::{NewerFault, ReadNewer};
+pub use asn_newer::{NewerAt, NewerFault, PathStep, ReadNewer, SkippedAt, path_text};
 pub use asn_oer::Oer;
 pub use asn_per::Per;
 pub use asn_plan::{Budget, PlanRules, Planned, Taken, WithinFault};
@@ -30,4 +30,4 @@ pub use asn_values::{
 pub use asn_view::{
     BuildFault, ByName, Components, Elements, Given, Kind, View, Viewed, WrongPart, misfit,
 };
-pub use calls::{check, encode_to, read_newer};
+pub use calls::{check, encode_to, read_newer, read_newer_at};

@@ -4,7 +4,9 @@ use Rattle.std.proofs.Common.{◌≡◌, ◌+◌, ◌-◌, ℕ, zero, suc, Bool,
 use Rattle.std.proofs.lemmas.Bool.{true≢false}
 use Rattle.asn_values.specs.Datum.{Datum, item, components, component_list, elements, element_list, alternative}
 use Rattle.asn_values.specs.Shape.{Shape, boolean, null, integer, enumerated, bit_string, octet_string, restricted, utf8_string, sequence, sequence_of, choice, Label, MoreLabels, closed_labels, marked_labels, demands, Fields, no_fields, field, MoreFields, closed, marked, Alternatives, no_alternatives, one_of, MoreAlternatives, closed_choice, marked_choice, count}
-use Rattle.asn_newer.specs.Skipped.{Skipped, Reading, nothing_skipped, item_skipped, all_skipped}
+use Rattle.asn_newer.specs.declared.path.PathStep.{PathStep}
+use Rattle.asn_newer.specs.declared.path.PathStep.TheVariants as step
+use Rattle.asn_newer.specs.Skipped.{SkippedAt, Reading, inside, nothing_skipped, item_skipped, all_skipped}
 use Rattle.asn_newer.specs.Loose.{LooseCoding}
 use Rattle.asn_newer.specs.Versions.{LabelVersions, MoreLabelVersions, Versions, FieldVersions, MoreVersions, AddedVersions, AlternativeVersions, MoreChoiceVersions, AddedAlternatives, received, entries_received, more_received, added_received, root_received, other_received, addition_received}
 
@@ -79,16 +81,20 @@ module _ (a b : Bool) where
 
 -- ---- nothing is skipped
 
-both : (xs ys : List Skipped) → xs ≡ [] → ys ≡ [] → xs ++ ys ≡ []
-both xs ys p q = ap (λ (x : List Skipped). x ++ ys) p ∙ q
+both : (xs ys : List SkippedAt) → xs ≡ [] → ys ≡ [] → xs ++ ys ≡ []
+both xs ys p q = ap (λ (x : List SkippedAt). x ++ ys) p ∙ q
 
 one_of_both : (k : Bool) (x y : Reading) → x.1 ≡ [] → y.1 ≡ [] → (elim k as (λ (z : Bool). Reading) [ true ↦ x | false ↦ y ]).1 ≡ []
 one_of_both true x y p q = p
 one_of_both false x y p q = q
 
-none_of_all : (f : Datum → Reading) → ((d : Datum) → (f d).1 ≡ []) → (ds : List Datum) → all_skipped (map f ds) ≡ []
-none_of_all f each [] = refl
-none_of_all f each (d ∷ ds) = both (f d).1 (all_skipped (map f ds)) (each d) (none_of_all f each ds)
+-- in a part
+none_inside : (s : PathStep) (xs : List SkippedAt) → xs ≡ [] → map (inside s) xs ≡ []
+none_inside s xs p = ap (map (inside s)) p
+
+none_of_all : (f : Datum → Reading) → ((d : Datum) → (f d).1 ≡ []) → (i : ℕ) (ds : List Datum) → all_skipped i (map f ds) ≡ []
+none_of_all f each i [] = refl
+none_of_all f each i (d ∷ ds) = both (map (inside (step.Element i)) (f d).1) (all_skipped (suc i) (map f ds)) (none_inside (step.Element i) (f d).1 (each d)) (none_of_all f each (suc i) ds)
 
 module _ (l : LooseCoding) (b : Bool) where
   mutual
@@ -107,10 +113,10 @@ module _ (l : LooseCoding) (b : Bool) where
     skips_nothing (enumerated root (marked_labels ls)) (enumerated roots (marked_labels more)) _ w = refl
     skips_nothing (enumerated root (marked_labels ls)) _ v w = absurd w
     skips_nothing (sequence root more) (sequence roots mores) (components cs) w =
-        both _ _ (entries_skip_nothing root roots (take (length (demands root)) (component_list cs)) w.0) (more_skip_nothing more mores (drop (length (demands root)) (component_list cs)) w.1)
+        both _ _ (entries_skip_nothing 0 root roots (take (length (demands root)) (component_list cs)) w.0) (more_skip_nothing more mores (drop (length (demands root)) (component_list cs)) w.1)
     skips_nothing (sequence root more) (sequence roots mores) _ w = refl
     skips_nothing (sequence root more) _ v w = absurd w
-    skips_nothing (sequence_of t s) (sequence_of u z) (elements ds) w = none_of_all (λ d. received l t u d) (λ d. skips_nothing t u d w.0) (element_list ds)
+    skips_nothing (sequence_of t s) (sequence_of u z) (elements ds) w = none_of_all (λ d. received l t u d) (λ d. skips_nothing t u d w.0) 0 (element_list ds)
     skips_nothing (sequence_of t s) (sequence_of u z) _ w = refl
     skips_nothing (sequence_of t s) _ v w = absurd w
     skips_nothing (choice root more) (choice roots mores) (alternative tag d) w =
@@ -119,12 +125,12 @@ module _ (l : LooseCoding) (b : Bool) where
     skips_nothing (choice root more) (choice roots mores) _ w = refl
     skips_nothing (choice root more) _ v w = absurd w
 
-    entries_skip_nothing : (fs gs : Fields) (es : List (Option Datum)) → FieldVersions false b fs gs → (entries_received l fs gs es).1 ≡ []
-    entries_skip_nothing no_fields gs es w = refl
-    entries_skip_nothing (field name demand t fs) no_fields es w = absurd w
-    entries_skip_nothing (field name demand t fs) (field other need u gs) [] w = refl
-    entries_skip_nothing (field name demand t fs) (field other need u gs) (Some d ∷ es) w = both _ _ (skips_nothing t u d w.2) (entries_skip_nothing fs gs es w.3)
-    entries_skip_nothing (field name demand t fs) (field other need u gs) (None ∷ es) w = entries_skip_nothing fs gs es w.3
+    entries_skip_nothing : (i : ℕ) (fs gs : Fields) (es : List (Option Datum)) → FieldVersions false b fs gs → (entries_received l i fs gs es).1 ≡ []
+    entries_skip_nothing i no_fields gs es w = refl
+    entries_skip_nothing i (field name demand t fs) no_fields es w = absurd w
+    entries_skip_nothing i (field name demand t fs) (field other need u gs) [] w = refl
+    entries_skip_nothing i (field name demand t fs) (field other need u gs) (Some d ∷ es) w = both _ _ (none_inside (step.Component i) (received l t u d).1 (skips_nothing t u d w.2)) (entries_skip_nothing (suc i) fs gs es w.3)
+    entries_skip_nothing i (field name demand t fs) (field other need u gs) (None ∷ es) w = entries_skip_nothing (suc i) fs gs es w.3
 
     more_skip_nothing : (more mores : MoreFields) (es : List (Option Datum)) → MoreVersions false b more mores → (more_received l more mores es).1 ≡ []
     more_skip_nothing closed mores es w = refl
@@ -135,13 +141,13 @@ module _ (l : LooseCoding) (b : Bool) where
     added_skip_nothing place no_fields gs es w = refl
     added_skip_nothing place (field name demand t fs) no_fields es w = absurd (true≢false (sym w))
     added_skip_nothing place (field name demand t fs) (field other need u gs) [] w = refl
-    added_skip_nothing place (field name demand t fs) (field other need u gs) (Some d ∷ es) w = both _ _ (skips_nothing t u d w.2) (added_skip_nothing (suc place) fs gs es w.3)
+    added_skip_nothing place (field name demand t fs) (field other need u gs) (Some d ∷ es) w = both _ _ (none_inside (step.Addition place) (received l t u d).1 (skips_nothing t u d w.2)) (added_skip_nothing (suc place) fs gs es w.3)
     added_skip_nothing place (field name demand t fs) (field other need u gs) (None ∷ es) w = added_skip_nothing (suc place) fs gs es w.3
 
     root_skips_nothing : (tag : ℕ) (alts others : Alternatives) (i : ℕ) (d : Datum) → AlternativeVersions false b alts others → (root_received l tag alts others i d).1 ≡ []
     root_skips_nothing tag no_alternatives others i d w = refl
     root_skips_nothing tag (one_of name t alts) no_alternatives i d w = absurd w
-    root_skips_nothing tag (one_of name t alts) (one_of other u others) zero d w = skips_nothing t u d w.1
+    root_skips_nothing tag (one_of name t alts) (one_of other u others) zero d w = none_inside (step.Alternative tag) (received l t u d).1 (skips_nothing t u d w.1)
     root_skips_nothing tag (one_of name t alts) (one_of other u others) (suc i) d w = root_skips_nothing tag alts others i d w.2
 
     other_skips_nothing : (tag : ℕ) (more mores : MoreAlternatives) (i : ℕ) (d : Datum) → MoreChoiceVersions false b more mores → (other_received l tag more mores i d).1 ≡ []
@@ -152,5 +158,5 @@ module _ (l : LooseCoding) (b : Bool) where
     addition_skips_nothing : (tag place : ℕ) (alts others : Alternatives) (i : ℕ) (d : Datum) → AddedAlternatives false b alts others → (addition_received l tag place alts others i d).1 ≡ []
     addition_skips_nothing tag place no_alternatives others i d w = refl
     addition_skips_nothing tag place (one_of name t alts) no_alternatives i d w = absurd (true≢false (sym w))
-    addition_skips_nothing tag place (one_of name t alts) (one_of other u others) zero d w = skips_nothing t u d w.1
+    addition_skips_nothing tag place (one_of name t alts) (one_of other u others) zero d w = none_inside (step.Alternative tag) (received l t u d).1 (skips_nothing t u d w.1)
     addition_skips_nothing tag place (one_of name t alts) (one_of other u others) (suc i) d w = addition_skips_nothing tag place alts others i d w.2

@@ -1,5 +1,5 @@
 -- A receiver of the sender's own version reads the value itself, and skips nothing.
-use Rattle.std.proofs.Common.{◌≡◌, ◌+◌, ◌-◌, ℕ, zero, suc, Bool, true, false, nat_lt, MatchBool, List, [], ◌∷◌, length, map, take, drop, Option, None, Some, refl, ap, ◌∙◌}
+use Rattle.std.proofs.Common.{◌≡◌, ◌+◌, ◌-◌, ℕ, zero, suc, Bool, true, false, nat_lt, MatchBool, List, [], ◌∷◌, ◌++◌, length, map, take, drop, Option, None, Some, refl, ap, ◌∙◌}
 use Rattle.std.proofs.lemmas.Bool.{lt-ltb}
 use Rattle.std.proofs.lemmas.List.{take-append-drop}
 use Rattle.std.specs.List.{AllByRecursion}
@@ -7,7 +7,9 @@ use Rattle.asn_values.specs.Datum.{Datum, item, Components, components, componen
 use Rattle.asn_values.specs.Shape.{Shape, boolean, null, integer, enumerated, bit_string, octet_string, restricted, utf8_string, sequence, sequence_of, choice, Label, MoreLabels, closed_labels, marked_labels, demands, Fields, no_fields, field, MoreFields, closed, marked, Alternatives, no_alternatives, one_of, MoreAlternatives, closed_choice, marked_choice, count}
 use Rattle.asn_values.specs.Fits.{Fits, FitsEach, FitsMore, FitsAlternative, FitsMoreAlternatives}
 use Rattle.asn_rules.proofs.Law.Entries.{components_again}
-use Rattle.asn_newer.specs.Skipped.{Reading, Entries, nothing_skipped, item_skipped, entry_read, entry_left, sequence_read, list_read, alternative_read}
+use Rattle.asn_newer.specs.declared.path.PathStep.{PathStep}
+use Rattle.asn_newer.specs.declared.path.PathStep.TheVariants as step
+use Rattle.asn_newer.specs.Skipped.{Reading, Entries, all_skipped, part_read, nothing_skipped, item_skipped, entry_read, entry_left, sequence_read, list_read, alternative_read}
 use Rattle.asn_newer.specs.Loose.{LooseCoding}
 use Rattle.asn_newer.specs.Versions.{LabelVersions, MoreLabelVersions, Versions, FieldVersions, MoreVersions, AddedVersions, AlternativeVersions, MoreChoiceVersions, AddedAlternatives, received, entries_received, more_received, added_received, root_received, other_received, addition_received}
 
@@ -71,20 +73,17 @@ parts_are n cs E F p q =
     ap (λ (x : Entries). sequence_read (x, F)) p ∙ ap (λ (x : Entries). sequence_read ((take n (component_list cs), []), x)) q
     ∙ ap (λ (es : List (Option Datum)). nothing_skipped (components (components_of es))) (take-append-drop n (component_list cs)) ∙ ap (λ (x : Components). nothing_skipped (components x)) (components_again cs)
 
--- an element before others
-prepended : (d : Datum) (r : Reading) (rs : List Reading) (ds : Elements) → r ≡ nothing_skipped d → list_read rs ≡ nothing_skipped (elements ds) → list_read (r ∷ rs) ≡ nothing_skipped (elements (element d ds))
-prepended d r rs ds p q = ap (λ (x : Reading). list_read (x ∷ rs)) p ∙ go (list_read rs) (nothing_skipped (elements ds)) q refl
-  where
-    put : Datum → Datum
-    put (elements ds) = elements (element d ds)
-    put x = x
-
-    go : (x y : Reading) → x ≡ y → list_read rs ≡ x → list_read (nothing_skipped d ∷ rs) ≡ (put y.0, y.1)
-    go x y e f = ap (λ (z : Reading). (put z.0, z.1)) (f ∙ e)
-
+-- elements of which each is read itself: their values, and nothing is skipped
 elements_are : (f : Datum → Reading) (P : Datum → Type 0) → ((d : Datum) → P d → f d ≡ nothing_skipped d) → (ds : Elements) → AllByRecursion P (element_list ds) → list_read (map f (element_list ds)) ≡ nothing_skipped (elements ds)
-elements_are f P each no_elements h = refl
-elements_are f P each (element d ds) h = prepended d (f d) (map f (element_list ds)) ds (each d h.0) (elements_are f P each ds h.1)
+elements_are f P each ds h = λ i. (elements (values ds h i), skipped 0 ds h i)
+  where
+    values : (ds : Elements) → AllByRecursion P (element_list ds) → elements_of (map (λ (r : Reading). r.0) (map f (element_list ds))) ≡ ds
+    values no_elements h = refl
+    values (element d ds) h = ap (λ (x : Reading). element x.0 (elements_of (map (λ (r : Reading). r.0) (map f (element_list ds))))) (each d h.0) ∙ ap (element d) (values ds h.1)
+
+    skipped : (k : ℕ) (ds : Elements) → AllByRecursion P (element_list ds) → all_skipped k (map f (element_list ds)) ≡ []
+    skipped k no_elements h = refl
+    skipped k (element d ds) h = ap (λ (x : Reading). (part_read (step.Element k) x).1 ++ all_skipped (suc k) (map f (element_list ds))) (each d h.0) ∙ skipped (suc k) ds h.1
 
 -- an alternative of the root or an addition
 either_is : (k : Bool) (A B : Type 0) (x y z : Reading) → MatchBool k A B → (A → x ≡ z) → (B → y ≡ z) → elim k [ true ↦ x | false ↦ y ] ≡ z
@@ -96,8 +95,8 @@ first_is true x y e = refl
 first_is false x y e = absurd (cc)
 
 -- an entry before others
-entry_is : (d : Datum) (r : Reading) (E : Entries) (es : List (Option Datum)) → r ≡ nothing_skipped d → E ≡ whole es → entry_read (r, E) ≡ whole (Some d ∷ es)
-entry_is d r E es p q = ap (λ (x : Reading). entry_read (x, E)) p ∙ ap (λ (x : Entries). entry_read (nothing_skipped d, x)) q
+entry_is : (s : PathStep) (d : Datum) (r : Reading) (E : Entries) (es : List (Option Datum)) → r ≡ nothing_skipped d → E ≡ whole es → entry_read (part_read s r, E) ≡ whole (Some d ∷ es)
+entry_is s d r E es p q = ap (λ (x : Reading). entry_read (part_read s x, E)) p ∙ ap (λ (x : Entries). entry_read (nothing_skipped d, x)) q
 
 module _ (l : LooseCoding) where
   mutual
@@ -114,7 +113,7 @@ module _ (l : LooseCoding) where
         first_is (nat_lt p (length root + length ls)) (nothing_skipped (item p)) (item_skipped (l.told_number root ls p)) (lt-ltb p (length root + length ls) f)
     itself (enumerated root (marked_labels ls)) _ f = absurd f
     itself (sequence root more) (components cs) f =
-        parts_are (length (demands root)) cs _ _ (entries_are root (take (length (demands root)) (component_list cs)) f.0) (more_are more (drop (length (demands root)) (component_list cs)) f.1)
+        parts_are (length (demands root)) cs _ _ (entries_are 0 root (take (length (demands root)) (component_list cs)) f.0) (more_are more (drop (length (demands root)) (component_list cs)) f.1)
     itself (sequence root more) _ f = absurd f
     itself (sequence_of t s) (elements ds) f = elements_are (λ d. received l t t d) (λ d. Fits t d) (λ d g. itself t d g) ds f.1
     itself (sequence_of t s) _ f = absurd f
@@ -124,12 +123,12 @@ module _ (l : LooseCoding) where
         (λ g. root_is tag root tag d g) (λ g. other_is tag more (tag - count root) d g)
     itself (choice root more) _ f = absurd f
 
-    entries_are : (fs : Fields) (es : List (Option Datum)) → FitsEach fs es → entries_received l fs fs es ≡ whole es
-    entries_are no_fields [] f = refl
-    entries_are no_fields (e ∷ es) f = absurd f
-    entries_are (field name demand t fs) [] f = absurd f
-    entries_are (field name demand t fs) (Some d ∷ es) f = entry_is d (received l t t d) (entries_received l fs fs es) es (itself t d f.0) (entries_are fs es f.1)
-    entries_are (field name demand t fs) (None ∷ es) f = ap (entry_left None) (entries_are fs es f.1)
+    entries_are : (i : ℕ) (fs : Fields) (es : List (Option Datum)) → FitsEach fs es → entries_received l i fs fs es ≡ whole es
+    entries_are i no_fields [] f = refl
+    entries_are i no_fields (e ∷ es) f = absurd f
+    entries_are i (field name demand t fs) [] f = absurd f
+    entries_are i (field name demand t fs) (Some d ∷ es) f = entry_is (step.Component i) d (received l t t d) (entries_received l (suc i) fs fs es) es (itself t d f.0) (entries_are (suc i) fs es f.1)
+    entries_are i (field name demand t fs) (None ∷ es) f = ap (entry_left None) (entries_are (suc i) fs es f.1)
 
     more_are : (more : MoreFields) (es : List (Option Datum)) → FitsMore more es → more_received l more more es ≡ whole es
     more_are closed [] f = refl
@@ -140,12 +139,12 @@ module _ (l : LooseCoding) where
     added_are place no_fields [] f = refl
     added_are place no_fields (e ∷ es) f = absurd f
     added_are place (field name demand t fs) [] f = absurd f
-    added_are place (field name demand t fs) (Some d ∷ es) f = entry_is d (received l t t d) (added_received l (suc place) fs fs es) es (itself t d f.0) (added_are (suc place) fs es f.1)
+    added_are place (field name demand t fs) (Some d ∷ es) f = entry_is (step.Addition place) d (received l t t d) (added_received l (suc place) fs fs es) es (itself t d f.0) (added_are (suc place) fs es f.1)
     added_are place (field name demand t fs) (None ∷ es) f = ap (entry_left None) (added_are (suc place) fs es f.1)
 
     root_is : (tag : ℕ) (alts : Alternatives) (i : ℕ) (d : Datum) → FitsAlternative alts i d → root_received l tag alts alts i d ≡ nothing_skipped (alternative tag d)
     root_is tag no_alternatives i d f = absurd f
-    root_is tag (one_of name t alts) zero d f = ap (alternative_read tag) (itself t d f)
+    root_is tag (one_of name t alts) zero d f = ap (λ (x : Reading). alternative_read tag (part_read (step.Alternative tag) x)) (itself t d f)
     root_is tag (one_of name t alts) (suc i) d f = root_is tag alts i d f
 
     other_is : (tag : ℕ) (more : MoreAlternatives) (i : ℕ) (d : Datum) → FitsMoreAlternatives more i d → other_received l tag more more i d ≡ nothing_skipped (alternative tag d)
@@ -154,5 +153,5 @@ module _ (l : LooseCoding) where
 
     addition_is : (tag place : ℕ) (alts : Alternatives) (i : ℕ) (d : Datum) → FitsAlternative alts i d → addition_received l tag place alts alts i d ≡ nothing_skipped (alternative tag d)
     addition_is tag place no_alternatives i d f = absurd f
-    addition_is tag place (one_of name t alts) zero d f = ap (alternative_read tag) (itself t d f)
+    addition_is tag place (one_of name t alts) zero d f = ap (λ (x : Reading). alternative_read tag (part_read (step.Alternative tag) x)) (itself t d f)
     addition_is tag place (one_of name t alts) (suc i) d f = addition_is tag place alts i d f

@@ -88,7 +88,7 @@ module _ (l : LooseCoding) (h : WayLaws l) where
     loose_way (enumerated root closed_labels) good = map_way (spelt_way l.coding h.laws None (enumerated root closed_labels) good)
     loose_way (sequence root more) good =
         map_way (then_way (plain_way (λ p. l.coding.preamble (extension_bit (is_some (additions_to_come more)) p.0 ++ bits (bitmap_length root) p.1)) part (h.laws.preamble (bitmap_length root) (additions_to_come more)))
-        (λ p. then_way (each_way root (bits (bitmap_length root) p.1) (components_of_profile root more good)) (λ _. more_way root more p.0 good)))
+        (λ p. then_way (each_way 0 root (bits (bitmap_length root) p.1) (components_of_profile root more good)) (λ _. more_way root more p.0 good)))
     loose_way (sequence_of t s) good =
         map_way (map_way (then_way (lawful_way part (h.laws.list_start s (list_size t s good)) (h.start s)) (λ a. remaining_way part (loose_way t (element_of_profile t s good)) a)))
     loose_way (choice root more) good = map_way (then_way (index_way root more good) (by_way (λ i. root_way i root i (root_alternatives_of_profile root more good)) (λ i. other_way (count root) more i (others_good root more good))))
@@ -100,15 +100,15 @@ module _ (l : LooseCoding) (h : WayLaws l) where
     loose_way (restricted k s) good = map_way (spelt_way l.coding h.laws None (restricted k s) good)
     loose_way utf8_string good = map_way (spelt_way l.coding h.laws None utf8_string good)
 
-    pub each_way : (fs : Fields) (present : List ℕ) → AreOfProfile fs → OneWay R (LooseEach l fs present)
-    each_way no_fields present good = nothing_way ([], []) part
-    each_way (field name must t fs) present good = map_way (then_way (loose_way t good.0) (λ _. each_way fs present good.2))
-    each_way (field name optional t fs) [] good = never_way
-    each_way (field name optional t fs) (zero ∷ present) good = map_way (each_way fs present good.2)
-    each_way (field name optional t fs) (suc b ∷ present) good = map_way (then_way (loose_way t good.0) (λ _. each_way fs present good.2))
-    each_way (field name (default d) t fs) [] good = never_way
-    each_way (field name (default d) t fs) (zero ∷ present) good = map_way (each_way fs present good.2)
-    each_way (field name (default d) t fs) (suc b ∷ present) good = map_way (then_way (map_way (spelt_way l.coding h.laws (Some d) t good.0)) (λ _. each_way fs present good.2))
+    pub each_way : (i : ℕ) (fs : Fields) (present : List ℕ) → AreOfProfile fs → OneWay R (LooseEach l i fs present)
+    each_way i no_fields present good = nothing_way ([], []) part
+    each_way i (field name must t fs) present good = map_way (then_way (map_way (loose_way t good.0)) (λ _. each_way (suc i) fs present good.2))
+    each_way i (field name optional t fs) [] good = never_way
+    each_way i (field name optional t fs) (zero ∷ present) good = map_way (each_way (suc i) fs present good.2)
+    each_way i (field name optional t fs) (suc b ∷ present) good = map_way (then_way (map_way (loose_way t good.0)) (λ _. each_way (suc i) fs present good.2))
+    each_way i (field name (default d) t fs) [] good = never_way
+    each_way i (field name (default d) t fs) (zero ∷ present) good = map_way (each_way (suc i) fs present good.2)
+    each_way i (field name (default d) t fs) (suc b ∷ present) good = map_way (then_way (map_way (spelt_way l.coding h.laws (Some d) t good.0)) (λ _. each_way (suc i) fs present good.2))
 
     pub more_way : (root : Fields) (more : MoreFields) (extended : Bool) → InProfile (sequence root more) → OneWay R (LooseMore l more extended)
     more_way root closed extended good = nothing_way ([], []) part
@@ -119,11 +119,11 @@ module _ (l : LooseCoding) (h : WayLaws l) where
     open_way place no_fields present good = map_way (all_unknown_way place present)
     open_way place (field name demand t fs) [] good = nothing_way (absent_entries (field name demand t fs), []) part
     open_way place (field name demand t fs) (zero ∷ present) good = map_way (open_way (suc place) fs present good.2)
-    open_way place (field name demand t fs) (suc b ∷ present) good = map_way (then_way (known_way (loose_way t good.0)) (λ _. open_way (suc place) fs present good.2))
+    open_way place (field name demand t fs) (suc b ∷ present) good = map_way (then_way (map_way (known_way (loose_way t good.0))) (λ _. open_way (suc place) fs present good.2))
 
     pub root_way : (tag : ℕ) (alts : Alternatives) (i : ℕ) → AreAllOfProfile alts → OneWay R (LooseRoot l tag alts i)
     root_way tag no_alternatives i good = never_way
-    root_way tag (one_of name t alts) zero good = map_way (loose_way t good.0)
+    root_way tag (one_of name t alts) zero good = map_way (map_way (loose_way t good.0))
     root_way tag (one_of name t alts) (suc i) good = root_way tag alts i good.1
 
     pub other_way : (roots : ℕ) (more : MoreAlternatives) (i : ℕ) → AreAllOfProfile (more_alternatives more) → OneWay R (LooseOther l roots more i)
@@ -132,7 +132,7 @@ module _ (l : LooseCoding) (h : WayLaws l) where
 
     pub added_way : (tag place : ℕ) (alts : Alternatives) (i : ℕ) → AreAllOfProfile alts → OneWay R (LooseAdded l tag place alts i)
     added_way tag place no_alternatives i good = map_way (unknown_way place)
-    added_way tag place (one_of name t alts) zero good = map_way (known_way (loose_way t good.0))
+    added_way tag place (one_of name t alts) zero good = map_way (map_way (known_way (loose_way t good.0)))
     added_way tag place (one_of name t alts) (suc i) good = added_way tag place alts i good.1
 
   -- ---- messages

@@ -26,8 +26,9 @@ use Rattle.asn_walk.specs.Composites.{in_open_field, each_code, open_code, more_
 use Rattle.asn_per.proofs.Types.AdditionLanguages.{bits_of_some}
 use Rattle.asn_per.proofs.Types.ChoiceLanguages.{few_choices}
 use Rattle.asn_per.proofs.Types.SequenceLanguage.{presence_length}
-use Rattle.asn_newer.specs.Skipped.{Reading, Entries, nothing_skipped, entry_read, entry_left, list_read}
-use Rattle.asn_newer.specs.Loose.{LooseCoding, IsLoose, Complete, Unknown, additions_to_come, alternatives_to_come, Loose, LooseEach, LooseMore, LooseOpen, LooseRoot, LooseOther, LooseAdded}
+use Rattle.asn_newer.specs.declared.path.PathStep.TheVariants as step
+use Rattle.asn_newer.specs.Skipped.{Reading, Entries, part_read, nothing_skipped, entry_read, entry_left, list_read}
+use Rattle.asn_newer.specs.Loose.{LooseCoding, IsLooseAt, Complete, Unknown, additions_to_come, alternatives_to_come, Loose, LooseEach, LooseMore, LooseOpen, LooseRoot, LooseOther, LooseAdded}
 use Rattle.asn_newer.specs.Versions.{Versions, FieldVersions, MoreVersions, AddedVersions, AlternativeVersions, MoreChoiceVersions, AddedAlternatives, received, entries_received, more_received, added_received, root_received, other_received, addition_received, unknown}
 use Rattle.asn_newer.specs.NewerLaws.{PartLaws, Encodes}
 
@@ -248,19 +249,19 @@ module _ (l : LooseCoding) (h : PartLaws l) (a b : Bool) where
       }
 
   -- a component with a DEFAULT, which is spelt where it has another value
-  default_read : (name : List ℕ) (d v : Datum) (t u : Shape) (gs : Fields) (pres : List ℕ) (E : Entries) (cs : List Chunk) → InProfile t → good_default t d ≡ true → Versions a b t u → Fits t v
-      → LooseEach l gs pres E cs → (k : Bool) → is_default d v ≡ k
-      → LooseEach l (field name (default d) u gs) (bit_of (not k) ∷ pres) (entry_read (received l t u v, E)) ((elim (not k) [ true ↦ l.coding.code t v | false ↦ [] ]) ++ cs)
-  default_read name d v t u gs pres E cs good g w f rest true e =
-      record { source = E; spelt = rest; seen = ap (λ (r : Reading). entry_read (r, E)) (default_same t u d v g w).1 ∙ ap (λ (x : Datum). (Some x ∷ E.0, E.1)) (sym (default_is d v e)) }
-  default_read name d v t u gs pres E cs good g w f rest false e =
+  default_read : (i : ℕ) (name : List ℕ) (d v : Datum) (t u : Shape) (gs : Fields) (pres : List ℕ) (E : Entries) (cs : List Chunk) → InProfile t → good_default t d ≡ true → Versions a b t u → Fits t v
+      → LooseEach l (suc i) gs pres E cs → (k : Bool) → is_default d v ≡ k
+      → LooseEach l i (field name (default d) u gs) (bit_of (not k) ∷ pres) (entry_read (part_read (step.Component i) (received l t u v), E)) ((elim (not k) [ true ↦ l.coding.code t v | false ↦ [] ]) ++ cs)
+  default_read i name d v t u gs pres E cs good g w f rest true e =
+      record { source = E; spelt = rest; seen = ap (λ (r : Reading). entry_read (part_read (step.Component i) r, E)) (default_same t u d v g w).1 ∙ ap (λ (x : Datum). (Some x ∷ E.0, E.1)) (sym (default_is d v e)) }
+  default_read i name d v t u gs pres E cs good g w f rest false e =
       let same = default_same t u d v g w in
       record {
-        source = (received l t u v, E);
+        source = (part_read (step.Component i) (received l t u v), E);
         spelt = record {
           first = l.coding.code t v;
           second = cs;
-          spelt = record { source = v; spelt = record { fits = (subst (λ (x : Shape). Fits x v) same.0 f, e); same = ap (λ (x : Shape). l.coding.code x v) same.0 }; seen = same.1 };
+          spelt = record { source = v; spelt = record { fits = (subst (λ (x : Shape). Fits x v) same.0 f, e); same = ap (λ (x : Shape). l.coding.code x v) same.0 }; seen = ap (part_read (step.Component i)) same.1 };
           follows = rest;
           whole = refl;
         };
@@ -323,7 +324,7 @@ module _ (l : LooseCoding) (h : PartLaws l) (a b : Bool) where
         let front : extension_bit (is_marked more) (any_present gs) ++ pres ≡ extension_bit (is_some (additions_to_come mores)) (any_present gs) ++ bits n m =
         ap (λ (k : Bool). extension_bit k (any_present gs) ++ pres) (same_mark a b more mores w.1) ∙ ap (λ (r : List ℕ). extension_bit (is_some (additions_to_come mores)) (any_present gs) ++ r) o.1 in
         record {
-          source = ((any_present gs, m), (entries_received l root roots es, more_received l more mores gs));
+          source = ((any_present gs, m), (entries_received l 0 root roots es, more_received l more mores gs));
           spelt = record {
             first = ones (c.preamble (extension_bit (is_marked more) (any_present gs) ++ pres));
             second = each_code c root es ++ more_code c more gs;
@@ -331,7 +332,7 @@ module _ (l : LooseCoding) (h : PartLaws l) (a b : Bool) where
             follows = record {
               first = each_code c root es;
               second = more_code c more gs;
-              spelt = subst (λ (r : List ℕ). LooseEach l roots r (entries_received l root roots es) (each_code c root es)) o.1 (reads_each root roots es (components_of_profile root more good) w.0 f.0);
+              spelt = subst (λ (r : List ℕ). LooseEach l 0 roots r (entries_received l 0 root roots es) (each_code c root es)) o.1 (reads_each 0 root roots es (components_of_profile root more good) w.0 f.0);
               follows = reads_more root more mores gs good w.1 f.1;
               whole = refl;
             };
@@ -355,34 +356,34 @@ module _ (l : LooseCoding) (h : PartLaws l) (a b : Bool) where
     reads (choice root more) (choice roots mores) _ good w f = absurd f
     reads (choice root more) _ v good w f = absurd w
 
-    reads_each : (fs gs : Fields) (es : List (Option Datum)) → AreOfProfile fs → FieldVersions a b fs gs → FitsEach fs es → LooseEach l gs (presence (demands fs) es) (entries_received l fs gs es) (each_code l.coding fs es)
-    reads_each no_fields no_fields [] good w f = record { same = refl; empty = refl }
-    reads_each no_fields no_fields (e ∷ es) good w f = absurd f
-    reads_each no_fields (field other need u gs) es good w f = absurd w
-    reads_each (field name demand t fs) no_fields es good w f = absurd w
-    reads_each (field name demand t fs) (field other need u gs) [] good w f = absurd f
-    reads_each (field name must t fs) (field other need u gs) (Some v ∷ es) good w f =
-        subst (λ (k : Demand). LooseEach l (field other k u gs) (presence (demands fs) es) (entry_read (received l t u v, entries_received l fs gs es)) (l.coding.code t v ++ each_code l.coding fs es)) w.1
+    reads_each : (i : ℕ) (fs gs : Fields) (es : List (Option Datum)) → AreOfProfile fs → FieldVersions a b fs gs → FitsEach fs es → LooseEach l i gs (presence (demands fs) es) (entries_received l i fs gs es) (each_code l.coding fs es)
+    reads_each i no_fields no_fields [] good w f = record { same = refl; empty = refl }
+    reads_each i no_fields no_fields (e ∷ es) good w f = absurd f
+    reads_each i no_fields (field other need u gs) es good w f = absurd w
+    reads_each i (field name demand t fs) no_fields es good w f = absurd w
+    reads_each i (field name demand t fs) (field other need u gs) [] good w f = absurd f
+    reads_each i (field name must t fs) (field other need u gs) (Some v ∷ es) good w f =
+        subst (λ (k : Demand). LooseEach l i (field other k u gs) (presence (demands fs) es) (entry_read (part_read (step.Component i) (received l t u v), entries_received l (suc i) fs gs es)) (l.coding.code t v ++ each_code l.coding fs es)) w.1
         (record {
-          source = (received l t u v, entries_received l fs gs es);
-          spelt = record { first = l.coding.code t v; second = each_code l.coding fs es; spelt = reads t u v good.0 w.2 f.0; follows = reads_each fs gs es good.2 w.3 f.1; whole = refl };
+          source = (part_read (step.Component i) (received l t u v), entries_received l (suc i) fs gs es);
+          spelt = record { first = l.coding.code t v; second = each_code l.coding fs es; spelt = record { source = received l t u v; spelt = reads t u v good.0 w.2 f.0; seen = refl }; follows = reads_each (suc i) fs gs es good.2 w.3 f.1; whole = refl };
           seen = refl;
         })
-    reads_each (field name must t fs) (field other need u gs) (None ∷ es) good w f = absurd f.0
-    reads_each (field name optional t fs) (field other need u gs) (Some v ∷ es) good w f =
-        subst (λ (k : Demand). LooseEach l (field other k u gs) (1 ∷ presence (demands fs) es) (entry_read (received l t u v, entries_received l fs gs es)) (l.coding.code t v ++ each_code l.coding fs es)) w.1
+    reads_each i (field name must t fs) (field other need u gs) (None ∷ es) good w f = absurd f.0
+    reads_each i (field name optional t fs) (field other need u gs) (Some v ∷ es) good w f =
+        subst (λ (k : Demand). LooseEach l i (field other k u gs) (1 ∷ presence (demands fs) es) (entry_read (part_read (step.Component i) (received l t u v), entries_received l (suc i) fs gs es)) (l.coding.code t v ++ each_code l.coding fs es)) w.1
         (record {
-          source = (received l t u v, entries_received l fs gs es);
-          spelt = record { first = l.coding.code t v; second = each_code l.coding fs es; spelt = reads t u v good.0 w.2 f.0; follows = reads_each fs gs es good.2 w.3 f.1; whole = refl };
+          source = (part_read (step.Component i) (received l t u v), entries_received l (suc i) fs gs es);
+          spelt = record { first = l.coding.code t v; second = each_code l.coding fs es; spelt = record { source = received l t u v; spelt = reads t u v good.0 w.2 f.0; seen = refl }; follows = reads_each (suc i) fs gs es good.2 w.3 f.1; whole = refl };
           seen = refl;
         })
-    reads_each (field name optional t fs) (field other need u gs) (None ∷ es) good w f =
-        subst (λ (k : Demand). LooseEach l (field other k u gs) (0 ∷ presence (demands fs) es) (entry_left None (entries_received l fs gs es)) (each_code l.coding fs es)) w.1
-        (record { source = entries_received l fs gs es; spelt = reads_each fs gs es good.2 w.3 f.1; seen = refl })
-    reads_each (field name (default d) t fs) (field other need u gs) (Some v ∷ es) good w f =
-        subst (λ (k : Demand). LooseEach l (field other k u gs) (presence (demands (field name (default d) t fs)) (Some v ∷ es)) (entry_read (received l t u v, entries_received l fs gs es)) (each_code l.coding (field name (default d) t fs) (Some v ∷ es))) w.1
-        (default_read other d v t u gs (presence (demands fs) es) (entries_received l fs gs es) (each_code l.coding fs es) good.0 good.1 w.2 f.0 (reads_each fs gs es good.2 w.3 f.1) (is_default d v) refl)
-    reads_each (field name (default d) t fs) (field other need u gs) (None ∷ es) good w f = absurd f.0
+    reads_each i (field name optional t fs) (field other need u gs) (None ∷ es) good w f =
+        subst (λ (k : Demand). LooseEach l i (field other k u gs) (0 ∷ presence (demands fs) es) (entry_left None (entries_received l (suc i) fs gs es)) (each_code l.coding fs es)) w.1
+        (record { source = entries_received l (suc i) fs gs es; spelt = reads_each (suc i) fs gs es good.2 w.3 f.1; seen = refl })
+    reads_each i (field name (default d) t fs) (field other need u gs) (Some v ∷ es) good w f =
+        subst (λ (k : Demand). LooseEach l i (field other k u gs) (presence (demands (field name (default d) t fs)) (Some v ∷ es)) (entry_read (part_read (step.Component i) (received l t u v), entries_received l (suc i) fs gs es)) (each_code l.coding (field name (default d) t fs) (Some v ∷ es))) w.1
+        (default_read i other d v t u gs (presence (demands fs) es) (entries_received l (suc i) fs gs es) (each_code l.coding fs es) good.0 good.1 w.2 f.0 (reads_each (suc i) fs gs es good.2 w.3 f.1) (is_default d v) refl)
+    reads_each i (field name (default d) t fs) (field other need u gs) (None ∷ es) good w f = absurd f.0
 
     reads_more : (root : Fields) (more mores : MoreFields) (es : List (Option Datum)) → InProfile (sequence root more) → MoreVersions a b more mores → FitsMore more es → LooseMore l mores (any_present es) (more_received l more mores es) (more_code l.coding more es)
     reads_more root closed closed [] good w f = record { same = refl; empty = refl }
@@ -415,11 +416,15 @@ module _ (l : LooseCoding) (h : PartLaws l) (a b : Bool) where
         }
     reads_open place (field name optional t fs) (field other need u gs) (None ∷ es) good o w f = record { source = added_received l (suc place) fs gs es; spelt = reads_open (suc place) fs gs es good.2 o w.3 f.1; seen = refl }
     reads_open place (field name optional t fs) (field other need u gs) (Some d ∷ es) good o w f = record {
-      source = (received l t u d, added_received l (suc place) fs gs es);
+      source = (part_read (step.Addition place) (received l t u d), added_received l (suc place) fs gs es);
       spelt = record {
         first = in_open_field l.coding (l.coding.code t d);
         second = open_code l.coding fs es;
-        spelt = record { content = l.coding.complete (l.coding.code t d); spelt = complete t u d good.0 f.0 (reads t u d good.0 w.2 f.0); same = refl };
+        spelt = record {
+          source = received l t u d;
+          spelt = record { content = l.coding.complete (l.coding.code t d); spelt = complete t u d good.0 f.0 (reads t u d good.0 w.2 f.0); same = refl };
+          seen = refl;
+        };
         follows = reads_open (suc place) fs gs es good.2 o w.3 f.1;
         whole = refl;
       };
@@ -430,7 +435,8 @@ module _ (l : LooseCoding) (h : PartLaws l) (a b : Bool) where
         → LooseRoot l tag others i (root_received l tag alts others i d) (alternative_code l.coding alts i d)
     reads_root tag no_alternatives others i d good w f = absurd f
     reads_root tag (one_of name t alts) no_alternatives i d good w f = absurd w
-    reads_root tag (one_of name t alts) (one_of other u others) zero d good w f = record { source = received l t u d; spelt = reads t u d good.0 w.1 f; seen = refl }
+    reads_root tag (one_of name t alts) (one_of other u others) zero d good w f =
+        record { source = part_read (step.Alternative tag) (received l t u d); spelt = record { source = received l t u d; spelt = reads t u d good.0 w.1 f; seen = refl }; seen = refl }
     reads_root tag (one_of name t alts) (one_of other u others) (suc i) d good w f = reads_root tag alts others i d good.1 w.2 f
 
     reads_other : (n i : ℕ) (more mores : MoreAlternatives) (d : Datum) → AreAllOfProfile (more_alternatives more) → MoreChoiceVersions a b more mores → FitsMoreAlternatives more i d
@@ -445,12 +451,16 @@ module _ (l : LooseCoding) (h : PartLaws l) (a b : Bool) where
     reads_added tag place (one_of name t alts) no_alternatives zero d good w f = record { source = unknown l.coding place t d; spelt = skipped place t d good.0 f; seen = refl }
     reads_added tag place (one_of name t alts) no_alternatives (suc i) d good w f = reads_added tag place alts no_alternatives i d good.1 (none_chosen alts w) f
     reads_added tag place (one_of name t alts) (one_of other u others) zero d good w f = record {
-      source = received l t u d;
-      spelt = record { content = l.coding.complete (l.coding.code t d); spelt = complete t u d good.0 f (reads t u d good.0 w.1 f); same = refl };
+      source = part_read (step.Alternative tag) (received l t u d);
+      spelt = record {
+        source = received l t u d;
+        spelt = record { content = l.coding.complete (l.coding.code t d); spelt = complete t u d good.0 f (reads t u d good.0 w.1 f); same = refl };
+        seen = refl;
+      };
       seen = refl;
     }
     reads_added tag place (one_of name t alts) (one_of other u others) (suc i) d good w f = reads_added tag place alts others i d good.1 w.2 f
 
   -- octets of a complete encoding
-  pub message_read : (t u : Shape) (v : Datum) (o : List ℕ) → InProfile t → Versions a b t u → Encodes l t v o → IsLoose l u (received l t u v).0 (received l t u v).1 o
+  pub message_read : (t u : Shape) (v : Datum) (o : List ℕ) → InProfile t → Versions a b t u → Encodes l t v o → IsLooseAt l u (received l t u v).0 (received l t u v).1 o
   message_read t u v o good w e = record { octets = e.0; chunks = l.coding.code t v; spelt = reads t u v good w e.1.0; units = e.1.1 ∙ h.filled t v good e.1.0 }

@@ -26,9 +26,11 @@ use Rattle.asn_rules.proofs.Law.SomeValue.{a_value}
 use Rattle.asn_walk.specs.Ahead.{Ahead, items, lengths, end, Remaining}
 use Rattle.asn_walk.specs.Coding.{Coding, ListingOf, IsIndexWithin, absent_entries}
 use Rattle.asn_walk.specs.Laws.{Laws}
-use Rattle.asn_newer.specs.Skipped.{Reading, Entries, nothing_skipped}
+use Rattle.asn_newer.specs.declared.path.PathStep.{PathStep}
+use Rattle.asn_newer.specs.declared.path.PathStep.TheVariants as step
+use Rattle.asn_newer.specs.Skipped.{Reading, Entries, Inside, nothing_skipped}
 use Rattle.asn_newer.specs.NewerLaws.{ReadsFit}
-use Rattle.asn_newer.specs.Loose.{LooseCoding, AnyItem, alternatives_to_come, by_index, Loose, LooseEach, LooseMore, LooseOpen, LooseRoot, LooseOther, LooseAdded}
+use Rattle.asn_newer.specs.Loose.{LooseCoding, Known, AnyItem, alternatives_to_come, by_index, Loose, LooseEach, LooseMore, LooseOpen, LooseRoot, LooseOther, LooseAdded}
 
 -- ---- lists: as many items of another language can stand there, and each item is one of its own
 
@@ -211,6 +213,10 @@ module _ (l : LooseCoding) (laws : Laws l.coding) where
   chosen_fits root closed_choice (inr i) r cs here there within h = absurd h
   chosen_fits root (marked_choice alts) (inr i) r cs here there within h = addition_of root alts i r.0 (there i h)
 
+  -- of a part, told of the whole
+  inside_fits : (s : PathStep) (t : Shape) (L : Reading → List Chunk → Type 0) (r : Reading) (cs : List Chunk) (h : Inside s L r cs) → FitsReceived t h.source.0 → FitsReceived t r.0
+  inside_fits s t L r cs h f = subst (λ (q : Reading). FitsReceived t q.0) (sym h.seen) f
+
   mutual
     pub fits : (t : Shape) (r : Reading) (cs : List Chunk) → InProfile t → Loose l t r cs → FitsReceived t r.0
     fits boolean r cs good h = spelt_fits None boolean r cs h
@@ -226,7 +232,7 @@ module _ (l : LooseCoding) (laws : Laws l.coding) where
         let t = h.spelt.follows in
         let es = h.source.1.0.0 in
         let gs = h.source.1.1.0 in
-        let f = fits_each root (bits (bitmap_length root) h.source.0.1) h.source.1.0 t.first (components_of_profile root more good) t.spelt in
+        let f = fits_each 0 root (bits (bitmap_length root) h.source.0.1) h.source.1.0 t.first (components_of_profile root more good) t.spelt in
         let g = fits_more root more h.source.0.0 h.source.1.1 t.second good t.follows in
         subst (λ (q : Reading). FitsReceived (sequence root more) q.0) (sym h.seen) (subst (SequenceBy true root more) (sym (component_list-components_of (es ++ gs))) (both_fit root more es gs f g))
     fits (sequence_of t s) r cs good h =
@@ -240,23 +246,23 @@ module _ (l : LooseCoding) (laws : Laws l.coding) where
         (chosen_fits root more h.source.0 h.source.1 h.spelt.second (λ i f. root_fits i root i h.source.1 h.spelt.second (root_alternatives_of_profile root more good) f)
         (λ i f. other_fits (count root) more i h.source.1 h.spelt.second (others_of_profile root more good) f) h.spelt.spelt.fits h.spelt.follows)
 
-    fits_each : (fs : Fields) (present : List ℕ) (p : Entries) (cs : List Chunk) → AreOfProfile fs → LooseEach l fs present p cs → FitsEachBy true fs p.0
-    fits_each no_fields present p cs good h = subst (λ (q : Entries). FitsEachBy true no_fields q.0) (sym h.same) tt
-    fits_each (field name must t fs) present p cs good h =
+    fits_each : (i : ℕ) (fs : Fields) (present : List ℕ) (p : Entries) (cs : List Chunk) → AreOfProfile fs → LooseEach l i fs present p cs → FitsEachBy true fs p.0
+    fits_each i no_fields present p cs good h = subst (λ (q : Entries). FitsEachBy true no_fields q.0) (sym h.same) tt
+    fits_each i (field name must t fs) present p cs good h =
         let u = h.spelt in
-        subst (λ (q : Entries). FitsEachBy true (field name must t fs) q.0) (sym h.seen) (fits t h.source.0 u.first good.0 u.spelt, fits_each fs present h.source.1 u.second good.2 u.follows)
-    fits_each (field name optional t fs) (suc b ∷ present) p cs good h =
+        subst (λ (q : Entries). FitsEachBy true (field name must t fs) q.0) (sym h.seen) (inside_fits (step.Component i) t (Loose l t) h.source.0 u.first u.spelt (fits t u.spelt.source u.first good.0 u.spelt.spelt), fits_each (suc i) fs present h.source.1 u.second good.2 u.follows)
+    fits_each i (field name optional t fs) (suc b ∷ present) p cs good h =
         let u = h.spelt in
-        subst (λ (q : Entries). FitsEachBy true (field name optional t fs) q.0) (sym h.seen) (fits t h.source.0 u.first good.0 u.spelt, fits_each fs present h.source.1 u.second good.2 u.follows)
-    fits_each (field name optional t fs) (zero ∷ present) p cs good h =
-        subst (λ (q : Entries). FitsEachBy true (field name optional t fs) q.0) (sym h.seen) (tt, fits_each fs present h.source cs good.2 h.spelt)
-    fits_each (field name (default d) t fs) (suc b ∷ present) p cs good h =
+        subst (λ (q : Entries). FitsEachBy true (field name optional t fs) q.0) (sym h.seen) (inside_fits (step.Component i) t (Loose l t) h.source.0 u.first u.spelt (fits t u.spelt.source u.first good.0 u.spelt.spelt), fits_each (suc i) fs present h.source.1 u.second good.2 u.follows)
+    fits_each i (field name optional t fs) (zero ∷ present) p cs good h =
+        subst (λ (q : Entries). FitsEachBy true (field name optional t fs) q.0) (sym h.seen) (tt, fits_each (suc i) fs present h.source cs good.2 h.spelt)
+    fits_each i (field name (default d) t fs) (suc b ∷ present) p cs good h =
         let u = h.spelt in
-        subst (λ (q : Entries). FitsEachBy true (field name (default d) t fs) q.0) (sym h.seen) (spelt_fits (Some d) t h.source.0 u.first u.spelt, fits_each fs present h.source.1 u.second good.2 u.follows)
-    fits_each (field name (default d) t fs) (zero ∷ present) p cs good h =
-        subst (λ (q : Entries). FitsEachBy true (field name (default d) t fs) q.0) (sym h.seen) (fits_by true t d (good_fits t d good.0 good.1), fits_each fs present h.source cs good.2 h.spelt)
-    fits_each (field name optional t fs) [] p cs good h = absurd h
-    fits_each (field name (default d) t fs) [] p cs good h = absurd h
+        subst (λ (q : Entries). FitsEachBy true (field name (default d) t fs) q.0) (sym h.seen) (spelt_fits (Some d) t h.source.0 u.first u.spelt, fits_each (suc i) fs present h.source.1 u.second good.2 u.follows)
+    fits_each i (field name (default d) t fs) (zero ∷ present) p cs good h =
+        subst (λ (q : Entries). FitsEachBy true (field name (default d) t fs) q.0) (sym h.seen) (fits_by true t d (good_fits t d good.0 good.1), fits_each (suc i) fs present h.source cs good.2 h.spelt)
+    fits_each i (field name optional t fs) [] p cs good h = absurd h
+    fits_each i (field name (default d) t fs) [] p cs good h = absurd h
 
     fits_more : (root : Fields) (more : MoreFields) (extended : Bool) (p : Entries) (cs : List Chunk) → InProfile (sequence root more) → LooseMore l more extended p cs → FitsMoreBy true more p.0
     fits_more root closed extended p cs good h = subst (λ (q : Entries). FitsMoreBy true closed q.0) (sym h.same) tt
@@ -274,19 +280,22 @@ module _ (l : LooseCoding) (laws : Laws l.coding) where
         subst (λ (q : Entries). FitsEachBy true (field name optional t fs) q.0) (sym h.seen) (tt, fits_open (suc place) fs present h.source cs good.2 o h.spelt)
     fits_open place (field name optional t fs) (suc b ∷ present) p cs good o h =
         let u = h.spelt in
-        let content = u.spelt.spelt in
+        let content = u.spelt.spelt.spelt in
         subst (λ (q : Entries). FitsEachBy true (field name optional t fs) q.0) (sym h.seen)
-        (fits t h.source.0 content.chunks good.0 content.spelt, fits_open (suc place) fs present h.source.1 u.second good.2 o u.follows)
+        (inside_fits (step.Addition place) t (Known l.coding (Loose l t)) h.source.0 u.first u.spelt (fits t u.spelt.source content.chunks good.0 content.spelt), fits_open (suc place) fs present h.source.1 u.second good.2 o u.follows)
 
     root_fits : (tag : ℕ) (alts : Alternatives) (i : ℕ) (r : Reading) (cs : List Chunk) → AreAllOfProfile alts → LooseRoot l tag alts i r cs → IsAlternativeAt tag alts i r.0
     root_fits tag no_alternatives i r cs good h = absurd h
-    root_fits tag (one_of name t alts) zero r cs good h = (h.source.0, ap (λ (q : Reading). q.0) h.seen, fits t h.source cs good.0 h.spelt)
+    root_fits tag (one_of name t alts) zero r cs good h = let k = h.spelt in (h.source.0, ap (λ (q : Reading). q.0) h.seen, inside_fits (step.Alternative tag) t (Loose l t) h.source cs k (fits t k.source cs good.0 k.spelt))
     root_fits tag (one_of name t alts) (suc i) r cs good h = root_fits tag alts i r cs good.1 h
 
     addition_fits : (tag place : ℕ) (alts : Alternatives) (i : ℕ) (r : Reading) (cs : List Chunk) → AreAllOfProfile alts → LooseAdded l tag place alts i r cs
         → IsAlternativeAt tag alts i r.0 ⊎ (r.0 ≡ unknown_alternative tag)
     addition_fits tag place no_alternatives i r cs good h = inr (ap (λ (q : Reading). q.0) h.seen)
-    addition_fits tag place (one_of name t alts) zero r cs good h = let content = h.spelt.spelt in inl (h.source.0, ap (λ (q : Reading). q.0) h.seen, fits t h.source content.chunks good.0 content.spelt)
+    addition_fits tag place (one_of name t alts) zero r cs good h =
+        let k = h.spelt in
+        let content = k.spelt.spelt in
+        inl (h.source.0, ap (λ (q : Reading). q.0) h.seen, inside_fits (step.Alternative tag) t (Known l.coding (Loose l t)) h.source cs k (fits t k.source content.chunks good.0 content.spelt))
     addition_fits tag place (one_of name t alts) (suc i) r cs good h = addition_fits tag place alts i r cs good.1 h
 
     other_fits : (n : ℕ) (more : MoreAlternatives) (i : ℕ) (r : Reading) (cs : List Chunk) → AreAllOfProfile (more_alternatives more) → LooseOther l n more i r cs → IsOtherAt (n + i) more i r.0
@@ -295,4 +304,4 @@ module _ (l : LooseCoding) (laws : Laws l.coding) where
 
 -- what is read of a message fits
 pub reads_fit : (l : LooseCoding) → Laws l.coding → ReadsFit l
-reads_fit l laws t v s o good h = fits l laws t (v, s) h.chunks good h.spelt
+reads_fit l laws t v s o good h = fits l laws t (v, h.skipped) h.read.chunks good h.read.spelt

@@ -25,7 +25,8 @@ use Rattle.asn_rules.specs.Live.{Fielding}
 use Rattle.asn_rules.proofs.Languages.Parts.{map_source, map_spells, nothing_spells}
 use Rattle.asn_rules.proofs.Languages.Then.{then_none_first}
 use Rattle.asn_walk.specs.Coding.{PreambleOf, IndexOf, absent_entries}
-use Rattle.asn_newer.specs.Skipped.{Skipped, Reading, Entries, nothing_skipped, sequence_read, alternative_read, alternative_skipped}
+use Rattle.asn_newer.specs.declared.path.PathStep.TheVariants as step
+use Rattle.asn_newer.specs.Skipped.{SkippedAt, Reading, Entries, Inside, nothing_skipped, sequence_read, alternative_read, alternative_skipped}
 use Rattle.asn_newer.specs.Loose.{LooseCoding, AnyBitmap, Known, Unknown, Loose, LooseEach, LooseMore, LooseOpen, LooseRoot, LooseOther, LooseAdded, additions_to_come, alternatives_to_come, by_index}
 use Rattle.asn_newer.specs.Walking.{LooseAdditions, ReadingAfter, EntriesAfter, FieldAfter}
 use Rattle.asn_newer.specs.Ways.{WayLaws}
@@ -40,46 +41,46 @@ module _ (l : LooseCoding) (h : WayLaws l) (root : Fields) (more : MoreFields) (
   abbrev R : Fielding
   R = l.coding.ruling.fielding
 
-  whole : Onward R (Then (PreambleOf l.coding (bitmap_length root) (additions_to_come more)) (λ p. Then (LooseEach l root (bits (bitmap_length root) p.1)) (λ _. LooseMore l more p.0))) us (λ p. sequence_read p.1) (Loose l (sequence root more)) us
-  whole = mapped R (λ p. sequence_read p.1) (Then (PreambleOf l.coding (bitmap_length root) (additions_to_come more)) (λ p. Then (LooseEach l root (bits (bitmap_length root) p.1)) (λ _. LooseMore l more p.0))) us
+  whole : Onward R (Then (PreambleOf l.coding (bitmap_length root) (additions_to_come more)) (λ p. Then (LooseEach l 0 root (bits (bitmap_length root) p.1)) (λ _. LooseMore l more p.0))) us (λ p. sequence_read p.1) (Loose l (sequence root more)) us
+  whole = mapped R (λ p. sequence_read p.1) (Then (PreambleOf l.coding (bitmap_length root) (additions_to_come more)) (λ p. Then (LooseEach l 0 root (bits (bitmap_length root) p.1)) (λ _. LooseMore l more p.0))) us
 
   pub preamble_none : NoneOn R (PreambleOf l.coding (bitmap_length root) (additions_to_come more)) us (Loose l (sequence root more)) us
   preamble_none further n = whole.none further (then_none_first n)
 
   module _ {p : Bool × ℕ} {r : List ℕ} (preamble : Spells R (PreambleOf l.coding (bitmap_length root) (additions_to_come more)) p us r) where
-    inside : Onward R (Then (LooseEach l root (bits (bitmap_length root) p.1)) (λ _. LooseMore l more p.0)) r sequence_read (Loose l (sequence root more)) us
-    inside = on (second {M = λ p. Then (LooseEach l root (bits (bitmap_length root) p.1)) (λ _. LooseMore l more p.0)} (plain_way (λ p. l.coding.preamble (extension_bit (is_some (additions_to_come more)) p.0 ++ bits (bitmap_length root) p.1)) (part l h) (h.laws.preamble (bitmap_length root) (additions_to_come more))) preamble) whole
+    inside : Onward R (Then (LooseEach l 0 root (bits (bitmap_length root) p.1)) (λ _. LooseMore l more p.0)) r sequence_read (Loose l (sequence root more)) us
+    inside = on (second {M = λ p. Then (LooseEach l 0 root (bits (bitmap_length root) p.1)) (λ _. LooseMore l more p.0)} (plain_way (λ p. l.coding.preamble (extension_bit (is_some (additions_to_come more)) p.0 ++ bits (bitmap_length root) p.1)) (part l h) (h.laws.preamble (bitmap_length root) (additions_to_come more))) preamble) whole
 
-    pub root_none : NoneOn R (LooseEach l root (bits (bitmap_length root) p.1)) r (Loose l (sequence root more)) us
+    pub root_none : NoneOn R (LooseEach l 0 root (bits (bitmap_length root) p.1)) r (Loose l (sequence root more)) us
     root_none further n = inside.none further (then_none_first n)
 
-    module _ (ss : List Skipped) {es : List (Option Datum)} {now : List Skipped} {q : List ℕ} (each : Spells R (EntriesAfter [] ss (LooseEach l root (bits (bitmap_length root) p.1))) (es, now) r q) where
+    module _ (ss : List SkippedAt) {es : List (Option Datum)} {now : List SkippedAt} {q : List ℕ} (each : Spells R (EntriesAfter [] ss (LooseEach l 0 root (bits (bitmap_length root) p.1))) (es, now) r q) where
       abbrev came : Entries
       came = (map_source each).0
 
       more_on : Onward R (LooseMore l more p.0) q (λ m. sequence_read (came, m)) (Loose l (sequence root more)) us
-      more_on = on (second {M = λ _. LooseMore l more p.0} (each_way l h root (bits (bitmap_length root) p.1) (components_of_profile root more good)) (map_source each).1) inside
+      more_on = on (second {M = λ _. LooseMore l more p.0} (each_way l h 0 root (bits (bitmap_length root) p.1) (components_of_profile root more good)) (map_source each).1) inside
 
       pub more_none : NoneOn R (LooseMore l more p.0) q (Loose l (sequence root more)) us
       more_none = more_on.none
 
       -- the additions after the root
-      pub sequence_done : {all : List (Option Datum)} {end : List Skipped} {t : List ℕ} → Spells R (EntriesAfter es now (LooseMore l more p.0)) (all, end) q t → Spells R (ReadingAfter ss (Loose l (sequence root more))) (components (components_of all), end) us t
+      pub sequence_done : {all : List (Option Datum)} {end : List SkippedAt} {t : List ℕ} → Spells R (EntriesAfter es now (LooseMore l more p.0)) (all, end) q t → Spells R (ReadingAfter ss (Loose l (sequence root more))) (components (components_of all), end) us t
       sequence_done {all} {end} {t} k =
           let m = map_source k in
           let done = more_on.done m.0 t m.1 in
           let entries : all ≡ came.0 ++ m.0.0 = ap (λ (p : Entries). p.0) m.2 ∙ ap (λ (x : List (Option Datum)). x ++ m.0.0) (ap (λ (p : Entries). p.0) (map_source each).2) in
-          let fields : end ≡ ss ++ (came.1 ++ m.0.1) = ap (λ (p : Entries). p.1) m.2 ∙ ap (λ (x : List Skipped). x ++ m.0.1) (ap (λ (p : Entries). p.1) (map_source each).2) ∙ append_assoc ss came.1 m.0.1 in
+          let fields : end ≡ ss ++ (came.1 ++ m.0.1) = ap (λ (p : Entries). p.1) m.2 ∙ ap (λ (x : List SkippedAt). x ++ m.0.1) (ap (λ (p : Entries). p.1) (map_source each).2) ∙ append_assoc ss came.1 m.0.1 in
           subst (λ (x : List (Option Datum)). Spells R (ReadingAfter ss (Loose l (sequence root more))) (components (components_of x), end) us t) (sym entries)
           (taken (record { skipped = came.1 ++ m.0.1; same = fields; spelt = done }))
 
 -- without additions
-pub no_more : (l : LooseCoding) (es : List (Option Datum)) (now : List Skipped) (e : Bool) (us : List ℕ) → Spells l.coding.ruling.fielding (EntriesAfter es now (LooseMore l closed e)) (es, now) us us
+pub no_more : (l : LooseCoding) (es : List (Option Datum)) (now : List SkippedAt) (e : Bool) (us : List ℕ) → Spells l.coding.ruling.fielding (EntriesAfter es now (LooseMore l closed e)) (es, now) us us
 no_more l es now e us = subst (λ (p : Entries). Spells l.coding.ruling.fielding (EntriesAfter es now (LooseMore l closed e)) p us us) (λ i. (append-nil es i, append-nil now i)) (map_spells {f = λ (p : Entries). (es ++ p.0, now ++ p.1)} (nothing_spells l.coding.ruling.fielding ([], []) us))
 
 -- where none is present
-pub none_present : (l : LooseCoding) (fs : Fields) (es : List (Option Datum)) (now : List Skipped) (us : List ℕ) → Spells l.coding.ruling.fielding (EntriesAfter es now (LooseMore l (marked fs) false)) (es ++ absent_entries fs, now) us us
-none_present l fs es now us = subst (λ (s : List Skipped). Spells l.coding.ruling.fielding (EntriesAfter es now (LooseMore l (marked fs) false)) (es ++ absent_entries fs, s) us us) (append-nil now) (map_spells {f = λ (p : Entries). (es ++ p.0, now ++ p.1)} (nothing_spells l.coding.ruling.fielding (absent_entries fs, []) us))
+pub none_present : (l : LooseCoding) (fs : Fields) (es : List (Option Datum)) (now : List SkippedAt) (us : List ℕ) → Spells l.coding.ruling.fielding (EntriesAfter es now (LooseMore l (marked fs) false)) (es ++ absent_entries fs, now) us us
+none_present l fs es now us = subst (λ (s : List SkippedAt). Spells l.coding.ruling.fielding (EntriesAfter es now (LooseMore l (marked fs) false)) (es ++ absent_entries fs, s) us us) (append-nil now) (map_spells {f = λ (p : Entries). (es ++ p.0, now ++ p.1)} (nothing_spells l.coding.ruling.fielding (absent_entries fs, []) us))
 
 -- the presence bits, and what stands after them
 module _ (l : LooseCoding) (h : WayLaws l) (fs : Fields) (us : List ℕ) where
@@ -93,7 +94,7 @@ module _ (l : LooseCoding) (h : WayLaws l) (fs : Fields) (us : List ℕ) where
     pub open_on : Onward l.coding.ruling.fielding (LooseOpen l 0 fs (bits p.0 p.1)) r (λ (e : Entries). e) (LooseAdditions l fs) us
     open_on = on (second {M = λ p. LooseOpen l 0 fs (bits p.0 p.1)} h.bitmap bitmap) bitmap_on
 
-    pub additions_done : (es : List (Option Datum)) (ss : List Skipped) {all : Entries} {q : List ℕ} → Spells l.coding.ruling.fielding (EntriesAfter es ss (LooseOpen l 0 fs (bits p.0 p.1))) all r q → Spells l.coding.ruling.fielding (EntriesAfter es ss (LooseAdditions l fs)) all us q
+    pub additions_done : (es : List (Option Datum)) (ss : List SkippedAt) {all : Entries} {q : List ℕ} → Spells l.coding.ruling.fielding (EntriesAfter es ss (LooseOpen l 0 fs (bits p.0 p.1))) all r q → Spells l.coding.ruling.fielding (EntriesAfter es ss (LooseAdditions l fs)) all us q
     additions_done es ss {all} {q} k =
         let m = map_source k in
         subst (λ (a : Entries). Spells l.coding.ruling.fielding (EntriesAfter es ss (LooseAdditions l fs)) a us q) (sym m.2) (map_spells {f = λ (p : Entries). (es ++ p.0, ss ++ p.1)} (open_on.done m.0 q m.1))
@@ -140,15 +141,15 @@ module _ (l : LooseCoding) (h : WayLaws l) (root more : List Alt) (good : InProf
       (after_index l h (alternatives_of (map branch_of root)) (marked_choice (alternatives_of (map branch_of more))) good us {i = inr i} (after k))
 
 -- the alternative at an index of the root
-pub root_at : (l : LooseCoding) (tag : ℕ) (alts : List Alt) (i : ℕ) (d : Alt) (us : List ℕ) → i < length alts → Onward l.coding.ruling.fielding (Loose l (shape_of (get_or alts i d).ty)) us (alternative_read tag) (LooseRoot l tag (alternatives_of (map branch_of alts)) i) us
+pub root_at : (l : LooseCoding) (tag : ℕ) (alts : List Alt) (i : ℕ) (d : Alt) (us : List ℕ) → i < length alts → Onward l.coding.ruling.fielding (Inside (step.Alternative tag) (Loose l (shape_of (get_or alts i d).ty))) us (alternative_read tag) (LooseRoot l tag (alternatives_of (map branch_of alts)) i) us
 root_at l tag [] i d us e = absurd (omega arith)
-root_at l tag (a ∷ alts) zero d us e = rw (shape_of_branch a) (mapped l.coding.ruling.fielding (alternative_read tag) (Loose l (shape_of a.ty)) us)
+root_at l tag (a ∷ alts) zero d us e = rw (shape_of_branch a) (mapped l.coding.ruling.fielding (alternative_read tag) (Inside (step.Alternative tag) (Loose l (shape_of a.ty))) us)
 root_at l tag (a ∷ alts) (suc i) d us e = root_at l tag alts i d us (omega arith)
 
 -- that at an index of the additions
-pub added_at : (l : LooseCoding) (tag place : ℕ) (alts : List Alt) (i : ℕ) (d : Alt) (us : List ℕ) → i < length alts → Onward l.coding.ruling.fielding (Known l.coding (Loose l (shape_of (get_or alts i d).ty))) us (alternative_read tag) (LooseAdded l tag place (alternatives_of (map branch_of alts)) i) us
+pub added_at : (l : LooseCoding) (tag place : ℕ) (alts : List Alt) (i : ℕ) (d : Alt) (us : List ℕ) → i < length alts → Onward l.coding.ruling.fielding (Inside (step.Alternative tag) (Known l.coding (Loose l (shape_of (get_or alts i d).ty)))) us (alternative_read tag) (LooseAdded l tag place (alternatives_of (map branch_of alts)) i) us
 added_at l tag place [] i d us e = absurd (omega arith)
-added_at l tag place (a ∷ alts) zero d us e = rw (shape_of_branch a) (mapped l.coding.ruling.fielding (alternative_read tag) (Known l.coding (Loose l (shape_of a.ty))) us)
+added_at l tag place (a ∷ alts) zero d us e = rw (shape_of_branch a) (mapped l.coding.ruling.fielding (alternative_read tag) (Inside (step.Alternative tag) (Known l.coding (Loose l (shape_of a.ty)))) us)
 added_at l tag place (a ∷ alts) (suc i) d us e = added_at l tag place alts i d us (omega arith)
 
 -- one that the type has not
@@ -158,7 +159,7 @@ unknown_at l tag place (a ∷ alts) zero us e = absurd (omega arith)
 unknown_at l tag place (a ∷ alts) (suc i) us e = unknown_at l tag place alts i us (omega arith)
 
 -- it was skipped
-pub alternative_missed : (l : LooseCoding) (tag place : ℕ) (alts : List Alt) (i : ℕ) {us r : List ℕ} (ss : List Skipped) {now : List Skipped} → length alts ≤ i → Spells l.coding.ruling.fielding (FieldAfter ss (Unknown l.coding place)) now us r
+pub alternative_missed : (l : LooseCoding) (tag place : ℕ) (alts : List Alt) (i : ℕ) {us r : List ℕ} (ss : List SkippedAt) {now : List SkippedAt} → length alts ≤ i → Spells l.coding.ruling.fielding (FieldAfter ss (Unknown l.coding place)) now us r
     → Spells l.coding.ruling.fielding (ReadingAfter ss (LooseAdded l tag place (alternatives_of (map branch_of alts)) i)) (unknown_alternative tag, now) us r
 alternative_missed l tag place alts i {us} {r} ss {now} e k =
     let m = map_source k in

@@ -18,7 +18,7 @@ use Rattle.asn_rules.proofs.Answer.Answers.{done_stays}
 use Rattle.asn_rules.proofs.Live.Flat.{flat-ones}
 use Rattle.asn_rules.proofs.Sealed.Headed.{plain_front}
 use Rattle.asn_rules.proofs.Languages.Parts.{contents-ones}
-use Rattle.asn_newer.specs.Skipped.{Skipped, Reading}
+use Rattle.asn_newer.specs.Skipped.{SkippedAt, Reading}
 use Rattle.asn_newer.specs.Loose.{LooseCoding, Complete, Known, Loose}
 use Rattle.asn_newer.specs.Halting.{NoBeginning, Halts, halt_of, halt_of_field}
 use Rattle.asn_newer.specs.Walking.{ReadingAfter, ReadsContent, NoContent, HaltsContent}
@@ -75,7 +75,7 @@ module _ (l : LooseCoding) (h : WayLaws l) (t : Shape) (good : InProfile t) (o :
   none_complete halt.TooMany n = record { told = n }
   none_complete halt.Memory n = record { told = tt }
 
-  module _ (before : List Skipped) {v : Datum} {after : List Skipped} {r : List ℕ} (read : Spells R (ReadingAfter before (Loose l t)) (v, after) us r) where
+  module _ (before : List SkippedAt) {v : Datum} {after : List SkippedAt} {r : List ℕ} (read : Spells R (ReadingAfter before (Loose l t)) (v, after) us r) where
     -- what stands after the value fills it up
     fills : (a : Reading) (x : Complete l.coding (Loose l t) a o) → r ≡ l.coding.padding (length us - length r)
     fills a x =
@@ -124,7 +124,7 @@ module _ (l : LooseCoding) (h : WayLaws l) (t : Shape) (good : InProfile t) (o :
 -- ---- an open type field with a known addition
 
 module _ (l : LooseCoding) (h : WayLaws l) (t : Shape) {os us r : List ℕ} (frame : Spells l.coding.ruling.fielding (Frame l.coding.ruling.fielding open_field) os us r) where
-  pub known_read : {before : List Skipped} {v : Datum} {after : List Skipped} → ReadsContent l t before v after os → Spells l.coding.ruling.fielding (ReadingAfter before (Known l.coding (Loose l t))) (v, after) us r
+  pub known_read : {before : List SkippedAt} {v : Datum} {after : List SkippedAt} → ReadsContent l t before v after os → Spells l.coding.ruling.fielding (ReadingAfter before (Known l.coding (Loose l t))) (v, after) us r
   known_read {before} {v} {after} k = taken (record { skipped = k.skipped; same = k.same; spelt = field_read {C = Complete l.coding (Loose l t)} {a = (v, k.skipped)} frame k.complete })
 
   no_fields : NoContent l t os → NoBeginning l.coding.ruling.fielding (Known l.coding (Loose l t)) us

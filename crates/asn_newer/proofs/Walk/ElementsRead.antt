@@ -1,6 +1,6 @@
 -- Where the reader of a SEQUENCE OF stands in messages of newer and older senders.
-use Rattle.std.proofs.Common.{◌≡◌, ◌<◌, ◌+◌, ◌*◌, ⊎_elim, ℕ, suc, nat_lt, Bool, true, false, List, [], ◌∷◌, ◌++◌, length, map, Option, Some, None, refl, sym, ap, subst, ◌∙◌, append_assoc, arith}
-use Rattle.std.proofs.lemmas.List.{append-nil, map-append}
+use Rattle.std.proofs.Common.{◌≡◌, ◌<◌, ◌+◌, ◌*◌, ⊎_elim, ℕ, suc, nat_lt, Bool, true, false, List, [], ◌∷◌, ◌++◌, length, length-append, map, Option, Some, None, refl, sym, ap, subst, ◌∙◌, append_assoc, arith}
+use Rattle.std.proofs.lemmas.List.{append-nil, map-append, length-map}
 use Rattle.asn_values.specs.Datum.{Datum, elements, elements_of}
 use Rattle.asn_values.specs.Shape.{Shape, SizeRange, sequence_of}
 use Rattle.asn_values.specs.Profile.{InProfile}
@@ -20,7 +20,8 @@ use Rattle.asn_rules.proofs.Languages.Then.{then_none_first}
 use Rattle.asn_walk.specs.Ahead.{Ahead, items, lengths, end, Remaining, Advances, Next, StopsNext}
 use Rattle.asn_walk.specs.Coding.{ListingOf}
 use Rattle.asn_walk.proofs.Listing.{list_size, steps_left, going_nearer}
-use Rattle.asn_newer.specs.Skipped.{Skipped, Reading, all_skipped, list_read}
+use Rattle.asn_newer.specs.declared.path.PathStep.TheVariants as step
+use Rattle.asn_newer.specs.Skipped.{SkippedAt, Reading, Inside, inside, all_skipped, list_read}
 use Rattle.asn_newer.specs.Loose.{LooseCoding, Loose}
 use Rattle.asn_newer.specs.Halting.{Halts, halt_of}
 use Rattle.asn_newer.specs.Walking.{ReadingAfter, ItemsAfter}
@@ -31,54 +32,70 @@ use Rattle.asn_newer.proofs.Law.OneReading.{part}
 use Rattle.asn_newer.proofs.Law.OneWay.{lawful_way, header_way, row_way}
 
 -- the values and the skipped fields of readings, after those before
-abbrev pub put_items : List Datum → List Skipped → List Reading → List Datum × List Skipped
-put_items ds ss rs = (ds ++ map (λ (r : Reading). r.0) rs, ss ++ all_skipped rs)
+abbrev pub put_items : List Datum → List SkippedAt → List Reading → List Datum × List SkippedAt
+put_items ds ss rs = (ds ++ map (λ (r : Reading). r.0) rs, ss ++ all_skipped (length ds) rs)
 
-skipped_append : (rs qs : List Reading) → all_skipped (rs ++ qs) ≡ all_skipped rs ++ all_skipped qs
-skipped_append [] qs = refl
-skipped_append (r ∷ rs) qs = ap (λ (s : List Skipped). r.1 ++ s) (skipped_append rs qs) ∙ sym (append_assoc r.1 (all_skipped rs) (all_skipped qs))
+-- the elements after others are counted on
+skipped_append : (i j : ℕ) (rs qs : List Reading) → i + length rs ≡ j → all_skipped i (rs ++ qs) ≡ all_skipped i rs ++ all_skipped j qs
+skipped_append i j [] qs e = let same : i ≡ j = omega (arith, e) in ap (λ (n : ℕ). all_skipped n qs) same
+skipped_append i j (r ∷ rs) qs e =
+    let these = map (inside (step.Element i)) r.1 in
+    ap (λ (s : List SkippedAt). these ++ s) (skipped_append (suc i) j rs qs (omega (arith, e))) ∙ sym (append_assoc these (all_skipped (suc i) rs) (all_skipped j qs))
 
 -- after some readings, and then others
-put_again : (ds : List Datum) (ss : List Skipped) (rs qs : List Reading) → put_items ds ss (rs ++ qs) ≡ put_items (ds ++ map (λ (r : Reading). r.0) rs) (ss ++ all_skipped rs) qs
-put_again ds ss rs qs i = (
-  (ap (λ (x : List Datum). ds ++ x) (map-append (λ (r : Reading). r.0) rs qs) ∙ sym (append_assoc ds (map (λ (r : Reading). r.0) rs) (map (λ (r : Reading). r.0) qs))) i,
-  (ap (λ (x : List Skipped). ss ++ x) (skipped_append rs qs) ∙ sym (append_assoc ss (all_skipped rs) (all_skipped qs))) i,
-)
+put_again : (ds : List Datum) (ss : List SkippedAt) (rs qs : List Reading) → put_items ds ss (rs ++ qs) ≡ put_items (ds ++ map (λ (r : Reading). r.0) rs) (ss ++ all_skipped (length ds) rs) qs
+put_again ds ss rs qs =
+    let vs = map (λ (r : Reading). r.0) rs in
+    let on : length ds + length rs ≡ length (ds ++ vs) = omega (arith, length-append ds vs, length-map rs (λ (r : Reading). r.0)) in
+    (λ i. (
+      (ap (λ (x : List Datum). ds ++ x) (map-append (λ (r : Reading). r.0) rs qs) ∙ sym (append_assoc ds vs (map (λ (r : Reading). r.0) qs))) i,
+      (ap (λ (x : List SkippedAt). ss ++ x) (skipped_append (length ds) (length (ds ++ vs)) rs qs on) ∙ sym (append_assoc ss (all_skipped (length ds) rs) (all_skipped (length (ds ++ vs)) qs))) i,
+    ))
 
 module _ (R : Fielding) (L : Reading → List Chunk → Type 0) where
   -- m items are still to be read
-  pub record RowUpTo (T : List Datum × List Skipped → List Chunk → Type 0) (us : List ℕ) (m : ℕ) (ds : List Datum) (ss : List Skipped) (vs : List ℕ) : Type 0 where
+  pub record RowUpTo (T : List Datum × List SkippedAt → List Chunk → Type 0) (us : List ℕ) (m : ℕ) (ds : List Datum) (ss : List SkippedAt) (vs : List ℕ) : Type 0 where
     pub onward : Onward R (Row L m) vs (put_items ds ss) T us
 
-  pub row_begins : (n : ℕ) (ds : List Datum) (ss : List Skipped) (us : List ℕ) → RowUpTo (ItemsAfter ds ss (Row L n)) us n ds ss us
+  pub row_begins : (n : ℕ) (ds : List Datum) (ss : List SkippedAt) (us : List ℕ) → RowUpTo (ItemsAfter ds ss (Row L n)) us n ds ss us
   row_begins n ds ss us = record { onward = mapped R (put_items ds ss) (Row L n) us }
 
-module _ {R : Fielding} {L : Reading → List Chunk → Type 0} {T : List Datum × List Skipped → List Chunk → Type 0} {us : List ℕ} {ds : List Datum} {ss : List Skipped} {vs : List ℕ} where
+module _ {R : Fielding} {L : Reading → List Chunk → Type 0} {T : List Datum × List SkippedAt → List Chunk → Type 0} {us : List ℕ} {ds : List Datum} {ss : List SkippedAt} {vs : List ℕ} where
   -- the next stops
   pub row_none : (m k : ℕ) → k ≡ suc m → RowUpTo R L T us k ds ss vs → NoneOn R L vs T us
   row_none m k e w further n = (subst (λ (j : ℕ). RowUpTo R L T us j ds ss vs) e w).onward.none further (none_mapped (then_none_first n))
 
   -- it has been read
-  pub row_next : (m k : ℕ) → k ≡ suc m → OneWay R L → (d : Datum) (now : List Skipped) (r : List ℕ) → Spells R (ReadingAfter ss L) (d, now) vs r → RowUpTo R L T us k ds ss vs → RowUpTo R L T us m (ds ++ d ∷ []) now r
+  pub row_next : (m k : ℕ) → k ≡ suc m → OneWay R L → (d : Datum) (now : List SkippedAt) (r : List ℕ) → Spells R (ReadingAfter ss (Inside (step.Element (length ds)) L)) (d, now) vs r → RowUpTo R L T us k ds ss vs → RowUpTo R L T us m (ds ++ d ∷ []) now r
   row_next m k e way d now r t w =
       let a = took t in
+      let q = map_source a.spelt in
       let o = (subst (λ (j : ℕ). RowUpTo R L T us j ds ss vs) e w).onward in
-      let step = on (on (second {M = λ _. Row L m} way a.spelt) (mapped R prepended (Then L (λ _. Row L m)) vs)) o in
-      record { onward = seen_as (λ rs i. (sym (append_assoc ds (d ∷ []) (map (λ (q : Reading). q.0) rs)) i, (sym (append_assoc ss a.skipped (all_skipped rs)) ∙ ap (λ (x : List Skipped). x ++ all_skipped rs) (sym a.same)) i)) step }
+      let far = on (on (second {M = λ _. Row L m} way q.1) (mapped R prepended (Then L (λ _. Row L m)) vs)) o in
+      let these = map (inside (step.Element (length ds))) q.0.1 in
+      let value : d ≡ q.0.0 = ap (λ (x : Reading). x.0) q.2 in
+      let skipped : now ≡ ss ++ these = a.same ∙ ap (λ (x : Reading). ss ++ x.1) q.2 in
+      let next : suc (length ds) ≡ length (ds ++ d ∷ []) = omega (arith, length-append ds (d ∷ [])) in
+      record {
+        onward = seen_as (λ rs i. (
+          (ap (λ (x : Datum). ds ++ x ∷ map (λ (p : Reading). p.0) rs) (sym value) ∙ sym (append_assoc ds (d ∷ []) (map (λ (p : Reading). p.0) rs))) i,
+          (sym (append_assoc ss these (all_skipped (suc (length ds)) rs)) ∙ ap (λ (x : List SkippedAt). x ++ all_skipped (suc (length ds)) rs) (sym skipped) ∙ ap (λ (n : ℕ). now ++ all_skipped n rs) next) i,
+        )) far;
+      }
 
   -- all have
   pub row_ends : (k : ℕ) → k ≡ 0 → RowUpTo R L T us k ds ss vs → Spells R T (ds, ss) us vs
   row_ends k e w =
       let o = (subst (λ (j : ℕ). RowUpTo R L T us j ds ss vs) e w).onward in
-      subst (λ (p : List Datum × List Skipped). Spells R T p us vs) (λ i. (append-nil ds i, append-nil ss i)) (o.done [] vs (nothing_spells R [] vs))
+      subst (λ (p : List Datum × List SkippedAt). Spells R T p us vs) (λ i. (append-nil ds i, append-nil ss i)) (o.done [] vs (nothing_spells R [] vs))
 
 -- ---- fragments
 
 -- what is ahead is still to be read
-pub record ListUpTo (R : Fielding) (L : Reading → List Chunk → Type 0) (T : List Datum × List Skipped → List Chunk → Type 0) (us : List ℕ) (ahead : Ahead) (ds : List Datum) (ss : List Skipped) (vs : List ℕ) : Type 0 where
+pub record ListUpTo (R : Fielding) (L : Reading → List Chunk → Type 0) (T : List Datum × List SkippedAt → List Chunk → Type 0) (us : List ℕ) (ahead : Ahead) (ds : List Datum) (ss : List SkippedAt) (vs : List ℕ) : Type 0 where
   pub onward : Onward R (Remaining L ahead) vs (put_items ds ss) T us
 
-pub list_begins : (R : Fielding) (L : Reading → List Chunk → Type 0) (ahead : Ahead) (ds : List Datum) (ss : List Skipped) (us : List ℕ) → ListUpTo R L (ItemsAfter ds ss (Remaining L ahead)) us ahead ds ss us
+pub list_begins : (R : Fielding) (L : Reading → List Chunk → Type 0) (ahead : Ahead) (ds : List Datum) (ss : List SkippedAt) (us : List ℕ) → ListUpTo R L (ItemsAfter ds ss (Remaining L ahead)) us ahead ds ss us
 list_begins R L ahead ds ss us = record { onward = mapped R (put_items ds ss) (Remaining L ahead) us }
 
 module _ (l : LooseCoding) (h : WayLaws l) (L : Reading → List Chunk → Type 0) (way : OneWay l.coding.ruling.fielding L) where
@@ -91,7 +108,7 @@ module _ (l : LooseCoding) (h : WayLaws l) (L : Reading → List Chunk → Type 
       let S = At (Spanned is) so_far closed in
       on (mapped R after_first (Then (Header S) (Body L (General L) S)) vs) (alike R vs (general_once L S))
 
-  module _ {T : List Datum × List Skipped → List Chunk → Type 0} {us : List ℕ} {ahead : Ahead} {ds : List Datum} {ss : List Skipped} {vs : List ℕ} (w : ListUpTo R L T us ahead ds ss vs) where
+  module _ {T : List Datum × List SkippedAt → List Chunk → Type 0} {us : List ℕ} {ahead : Ahead} {ds : List Datum} {ss : List SkippedAt} {vs : List ℕ} (w : ListUpTo R L T us ahead ds ss vs) where
     -- the length stops
     pub no_length : (why : Stop) → StopsNext R ahead vs why → Halts l.coding T us (halt_of why)
     no_length why s =
@@ -103,7 +120,7 @@ module _ (l : LooseCoding) (h : WayLaws l) (L : Reading → List Chunk → Type 
     list_ends {new} {r} n = go ahead n.advances w.onward
       where
         go : (a : Ahead) → Advances R a None new vs r → Onward R (Remaining L a) vs (put_items ds ss) T us → Spells R T (ds, ss) us r
-        go end e o = subst (λ (t : List ℕ). Spells R T (ds, ss) us t) (sym e) (subst (λ (p : List Datum × List Skipped). Spells R T p us vs) (λ i. (append-nil ds i, append-nil ss i)) (o.done [] vs (nothing_spells R [] vs)))
+        go end e o = subst (λ (t : List ℕ). Spells R T (ds, ss) us t) (sym e) (subst (λ (p : List Datum × List SkippedAt). Spells R T p us vs) (λ i. (append-nil ds i, append-nil ss i)) (o.done [] vs (nothing_spells R [] vs)))
         go (items n) e o = absurd e
         go (lengths is so_far closed) e o = absurd e
 
@@ -121,7 +138,7 @@ module _ (l : LooseCoding) (h : WayLaws l) (L : Reading → List Chunk → Type 
               e.read
 
       -- they have been read
-      module _ {es : List Datum} {now : List Skipped} {t : List ℕ} (all_read : Spells R (ItemsAfter ds ss (Row L k)) (es, now) r t) where
+      module _ {es : List Datum} {now : List SkippedAt} {t : List ℕ} (all_read : Spells R (ItemsAfter ds ss (Row L k)) (es, now) r t) where
         abbrev rows : List Reading
         rows = (map_source all_read).0
 
@@ -129,7 +146,7 @@ module _ (l : LooseCoding) (h : WayLaws l) (L : Reading → List Chunk → Type 
         row = (map_source all_read).1
 
         moved : {M : List Reading → List Chunk → Type 0} → Onward R M t (λ qs. put_items ds ss (rows ++ qs)) T us → Onward R M t (put_items es now) T us
-        moved o = seen_as (λ qs. put_again ds ss rows qs ∙ ap (λ (p : List Datum × List Skipped). put_items p.0 p.1 qs) (sym (map_source all_read).2)) o
+        moved o = seen_as (λ qs. put_again ds ss rows qs ∙ ap (λ (p : List Datum × List SkippedAt). put_items p.0 p.1 qs) (sym (map_source all_read).2)) o
 
         -- which are nearer to the end
         pub list_nearer : steps_left new + length t < steps_left ahead + length vs
@@ -189,9 +206,9 @@ module _ (l : LooseCoding) (h : WayLaws l) (t : Shape) (s : SizeRange) (good : I
     pub rest_none : NoneOn l.coding.ruling.fielding (Remaining (Loose l t) a) r (Loose l (sequence_of t s)) us
     rest_none = rest.none
 
-    pub rest_read : (ss : List Skipped) {ds : List Datum} {now : List Skipped} {q : List ℕ} → Spells l.coding.ruling.fielding (ItemsAfter [] ss (Remaining (Loose l t) a)) (ds, now) r q → Spells l.coding.ruling.fielding (ReadingAfter ss (Loose l (sequence_of t s))) (elements (elements_of ds), now) us q
+    pub rest_read : (ss : List SkippedAt) {ds : List Datum} {now : List SkippedAt} {q : List ℕ} → Spells l.coding.ruling.fielding (ItemsAfter [] ss (Remaining (Loose l t) a)) (ds, now) r q → Spells l.coding.ruling.fielding (ReadingAfter ss (Loose l (sequence_of t s))) (elements (elements_of ds), now) us q
     rest_read ss {ds} {now} {q} k =
         let m = map_source k in
-        let d : ds ≡ map (λ (r : Reading). r.0) m.0 = ap (λ (p : List Datum × List Skipped). p.0) m.2 in
+        let d : ds ≡ map (λ (r : Reading). r.0) m.0 = ap (λ (p : List Datum × List SkippedAt). p.0) m.2 in
         subst (λ (x : List Datum). Spells l.coding.ruling.fielding (ReadingAfter ss (Loose l (sequence_of t s))) (elements (elements_of x), now) us q) (sym d)
-        (taken (record { skipped = all_skipped m.0; same = ap (λ (p : List Datum × List Skipped). p.1) m.2; spelt = rest.done m.0 q m.1 }))
+        (taken (record { skipped = all_skipped 0 m.0; same = ap (λ (p : List Datum × List SkippedAt). p.1) m.2; spelt = rest.done m.0 q m.1 }))

@@ -1,5 +1,5 @@
 -- What is read after what was read before: fields that are skipped, entries of a SEQUENCE, elements of a list.
-use Rattle.std.proofs.Common.{◌≡◌, ◌≤◌, ◌<◌, ◌+◌, ◌/◌, ◌%◌, ◌^◌, ◌⊎◌, inl, inr, ⊎_elim, ℕ, suc, Bool, true, false, List, [], ◌∷◌, ◌++◌, Option, Some, None, refl, sym, ap, subst, ◌∙◌, append_assoc, arith}
+use Rattle.std.proofs.Common.{◌≡◌, ◌≤◌, ◌<◌, ◌+◌, ◌/◌, ◌%◌, ◌^◌, ◌⊎◌, inl, inr, ⊎_elim, ℕ, suc, Bool, true, false, List, [], ◌∷◌, ◌++◌, map, Option, Some, None, refl, sym, ap, subst, ◌∙◌, append_assoc, arith}
 use Rattle.std.proofs.lemmas.Bool.{true≢false}
 use Rattle.std.proofs.lemmas.List.{append-nil}
 use Rattle.asn_values.specs.Datum.{Datum}
@@ -24,7 +24,9 @@ use Rattle.asn_walk.specs.Coding.{Coding, absent_entries}
 use Rattle.asn_walk.proofs.Widths.{width_more, width_same, demand_of_part}
 use Rattle.asn_walk.specs.declared.presence.PresenceBits.{PresenceBits}
 use Rattle.asn_newer.specs.Bitmaps.{NextBit, bits_left}
-use Rattle.asn_newer.specs.Skipped.{Skipped, Reading, Entries, nothing_skipped, entry_read, entry_left}
+use Rattle.asn_newer.specs.declared.path.PathStep.{PathStep}
+use Rattle.asn_newer.specs.declared.path.PathStep.TheVariants as step
+use Rattle.asn_newer.specs.Skipped.{SkippedAt, Reading, Entries, Inside, skipped_here, inside, part_read, nothing_skipped, entry_read, entry_left}
 use Rattle.asn_newer.specs.Loose.{LooseCoding, AnyOctets, Unknown, AllUnknown, Known, Loose, LooseEach, LooseOpen}
 use Rattle.asn_newer.specs.Walking.{LooseEntry, ReadingAfter, EntriesAfter, FieldsAfter, FieldAfter}
 use Rattle.asn_newer.specs.Ways.{OneWay, WayLaws}
@@ -45,37 +47,47 @@ unmapped {f = f} n = λ v r h. n (f v) r (map_spells {f = f} h)
 -- ---- values, after fields that were skipped before
 
 -- the fields that were skipped in a value
-pub record Took {A : Type 0} (R : Fielding) (L : A × List Skipped → List Chunk → Type 0) (before : List Skipped) (v : A) (after : List Skipped) (us r : List ℕ) : Type 0 where
-  pub skipped : List Skipped
+pub record Took {A : Type 0} (R : Fielding) (L : A × List SkippedAt → List Chunk → Type 0) (before : List SkippedAt) (v : A) (after : List SkippedAt) (us r : List ℕ) : Type 0 where
+  pub skipped : List SkippedAt
   pub same : after ≡ before ++ skipped
   pub spelt : Spells R L (v, skipped) us r
 
-pub took : {A : Type 0} {R : Fielding} {L : A × List Skipped → List Chunk → Type 0} {before : List Skipped} {v : A} {after : List Skipped} {us r : List ℕ} → Spells R (ReadingAfter before L) (v, after) us r → Took R L before v after us r
+pub took : {A : Type 0} {R : Fielding} {L : A × List SkippedAt → List Chunk → Type 0} {before : List SkippedAt} {v : A} {after : List SkippedAt} {us r : List ℕ} → Spells R (ReadingAfter before L) (v, after) us r → Took R L before v after us r
 took {A} {R} {L} {before} {v} {after} {us} {r} h =
     let m = map_source h in
-    record { skipped = m.0.1; same = ap (λ (p : A × List Skipped). p.1) m.2; spelt = subst (λ (a : A). Spells R L (a, m.0.1) us r) (sym (ap (λ (p : A × List Skipped). p.0) m.2)) m.1 }
+    record { skipped = m.0.1; same = ap (λ (p : A × List SkippedAt). p.1) m.2; spelt = subst (λ (a : A). Spells R L (a, m.0.1) us r) (sym (ap (λ (p : A × List SkippedAt). p.0) m.2)) m.1 }
 
-pub taken : {A : Type 0} {R : Fielding} {L : A × List Skipped → List Chunk → Type 0} {before : List Skipped} {v : A} {after : List Skipped} {us r : List ℕ} → Took R L before v after us r → Spells R (ReadingAfter before L) (v, after) us r
-taken {A} {R} {L} {before} {v} {after} {us} {r} t = subst (λ (s : List Skipped). Spells R (ReadingAfter before L) (v, s) us r) (sym t.same) (map_spells {f = λ p. (p.0, before ++ p.1)} t.spelt)
+pub taken : {A : Type 0} {R : Fielding} {L : A × List SkippedAt → List Chunk → Type 0} {before : List SkippedAt} {v : A} {after : List SkippedAt} {us r : List ℕ} → Took R L before v after us r → Spells R (ReadingAfter before L) (v, after) us r
+taken {A} {R} {L} {before} {v} {after} {us} {r} t = subst (λ (s : List SkippedAt). Spells R (ReadingAfter before L) (v, s) us r) (sym t.same) (map_spells {f = λ p. (p.0, before ++ p.1)} t.spelt)
 
 -- where nothing was skipped
-pub none_taken : {A : Type 0} {R : Fielding} {L : A × List Skipped → List Chunk → Type 0} (before : List Skipped) {v : A} {us r : List ℕ} → Spells R L (v, []) us r → Spells R (ReadingAfter before L) (v, before) us r
+pub none_taken : {A : Type 0} {R : Fielding} {L : A × List SkippedAt → List Chunk → Type 0} (before : List SkippedAt) {v : A} {us r : List ℕ} → Spells R L (v, []) us r → Spells R (ReadingAfter before L) (v, before) us r
 none_taken before h = taken (record { skipped = []; same = sym (append-nil before); spelt = h })
 
 -- from part to whole, where the view leaves alone what was skipped
-pub taken_on : {A B : Type 0} {R : Fielding} {M : B × List Skipped → List Chunk → Type 0} {vs : List ℕ} (f : B → A) {L : A × List Skipped → List Chunk → Type 0} {us r : List ℕ} (before : List Skipped) (v : B) {after : List Skipped}
+pub taken_on : {A B : Type 0} {R : Fielding} {M : B × List SkippedAt → List Chunk → Type 0} {vs : List ℕ} (f : B → A) {L : A × List SkippedAt → List Chunk → Type 0} {us r : List ℕ} (before : List SkippedAt) (v : B) {after : List SkippedAt}
     → Onward R M vs (λ p. (f p.0, p.1)) L us → Spells R (ReadingAfter before M) (v, after) vs r → Spells R (ReadingAfter before L) (f v, after) us r
 taken_on f {r = r} before v o h =
     let t = took h in
     taken (record { skipped = t.skipped; same = t.same; spelt = o.done (v, t.skipped) r t.spelt })
 
+-- ---- what was read of a part
+
+-- from the part to the whole, with what was skipped in it after what was skipped before
+pub part_taken : {R : Fielding} {L : Reading → List Chunk → Type 0} (s : PathStep) (before none inner : List SkippedAt) (v : Datum) {after : List SkippedAt} {us r : List ℕ} → none ≡ [] → after ≡ before ++ map (inside s) inner
+    → Spells R (ReadingAfter none L) (v, inner) us r → Spells R (ReadingAfter before (Inside s L)) (v, after) us r
+part_taken s before none inner v e f h =
+    let t = took h in
+    let all : inner ≡ t.skipped = t.same ∙ ap (λ (x : List SkippedAt). x ++ t.skipped) e in
+    taken (record { skipped = map (inside s) t.skipped; same = f ∙ ap (λ (x : List SkippedAt). before ++ map (inside s) x) all; spelt = map_spells {f = part_read s} t.spelt })
+
 -- ---- fields that are skipped
 
 module _ (c : Coding) (place : ℕ) where
-  pub field_skipped : {os us r : List ℕ} (before : List Skipped) → Spells c.ruling.fielding (Frame c.ruling.fielding open_field) os us r → Spells c.ruling.fielding (FieldAfter before (Unknown c place)) (before ++ record { place = place; octets = os } ∷ []) us r
+  pub field_skipped : {os us r : List ℕ} (before : List SkippedAt) → Spells c.ruling.fielding (Frame c.ruling.fielding open_field) os us r → Spells c.ruling.fielding (FieldAfter before (Unknown c place)) (before ++ skipped_here place os ∷ []) us r
   field_skipped {os} before h =
       let k = held h in
-      map_spells {f = λ (s : Skipped). before ++ s ∷ []} (map_spells {f = λ (os : List ℕ). record { place = place; octets = os }} (field_read {C = AnyOctets c} {a = os} h (record { same = refl; octets = k.2; some = k.0 })))
+      map_spells {f = λ (s : SkippedAt). before ++ s ∷ []} (map_spells {f = skipped_here place} (field_read {C = AnyOctets c} {a = os} h (record { same = refl; octets = k.2; some = k.0 })))
 
   pub none_skipped : {us : List ℕ} → NoSpelling c.ruling.fielding (Frame c.ruling.fielding open_field) us → NoSpelling c.ruling.fielding (Unknown c place) us
   none_skipped n = none_mapped (no_field n)
@@ -98,45 +110,45 @@ bit_unset {old} {new} {b} n e = ⊎_elim (λ p. inl (p.0, p.1)) (λ p. inr (p �
 -- ---- fields under their presence bits
 
 -- those that were skipped so far, and those that are skipped next
-pub record SkippedUpTo (c : Coding) (T : List Skipped → List Chunk → Type 0) (us : List ℕ) (place : ℕ) (present : List ℕ) (skipped : List Skipped) (vs : List ℕ) : Type 0 where
+pub record SkippedUpTo (c : Coding) (T : List SkippedAt → List Chunk → Type 0) (us : List ℕ) (place : ℕ) (present : List ℕ) (skipped : List SkippedAt) (vs : List ℕ) : Type 0 where
   pub onward : Onward c.ruling.fielding (AllUnknown c place present) vs (λ s. skipped ++ s) T us
 
-pub skips_start : (c : Coding) (before : List Skipped) (place : ℕ) (present us : List ℕ) → SkippedUpTo c (FieldsAfter before (AllUnknown c place present)) us place present before us
+pub skips_start : (c : Coding) (before : List SkippedAt) (place : ℕ) (present us : List ℕ) → SkippedUpTo c (FieldsAfter before (AllUnknown c place present)) us place present before us
 skips_start c before place present us = record { onward = mapped c.ruling.fielding (λ s. before ++ s) (AllUnknown c place present) us }
 
 -- ---- where a reader of entries stands
 
 -- a component that is there and has no DEFAULT
-pub entry_on : (l : LooseCoding) (x : Field) (us : List ℕ) → (x.need ≡ needs.Must) ⊎ (x.need ≡ needs.Optional)
-    → Onward l.coding.ruling.fielding (Loose l (shape_of x.ty)) us (λ (r : Reading). (Some r.0, r.1)) (LooseEntry l (part_of_field x).demand (part_of_field x).shape true) us
-entry_on l x us (inl e) = rw (shape_of_part x, demand_of_part x, e) (mapped l.coding.ruling.fielding (λ (r : Reading). (Some r.0, r.1)) (Loose l (shape_of x.ty)) us)
-entry_on l x us (inr e) = rw (shape_of_part x, demand_of_part x, e) (mapped l.coding.ruling.fielding (λ (r : Reading). (Some r.0, r.1)) (Loose l (shape_of x.ty)) us)
+pub entry_on : (l : LooseCoding) (i : ℕ) (x : Field) (us : List ℕ) → (x.need ≡ needs.Must) ⊎ (x.need ≡ needs.Optional)
+    → Onward l.coding.ruling.fielding (Inside (step.Component i) (Loose l (shape_of x.ty))) us (λ (r : Reading). (Some r.0, r.1)) (LooseEntry l i (part_of_field x).demand (part_of_field x).shape true) us
+entry_on l i x us (inl e) = rw (shape_of_part x, demand_of_part x, e) (mapped l.coding.ruling.fielding (λ (r : Reading). (Some r.0, r.1)) (Inside (step.Component i) (Loose l (shape_of x.ty))) us)
+entry_on l i x us (inr e) = rw (shape_of_part x, demand_of_part x, e) (mapped l.coding.ruling.fielding (λ (r : Reading). (Some r.0, r.1)) (Inside (step.Component i) (Loose l (shape_of x.ty))) us)
 
-abbrev pub put : List (Option Datum) → List Skipped → Entries → Entries
+abbrev pub put : List (Option Datum) → List SkippedAt → Entries → Entries
 put es ss p = (es ++ p.0, ss ++ p.1)
 
-pub record EachUpTo (l : LooseCoding) (T : Entries → List Chunk → Type 0) (us : List ℕ) (rest : List Part) (left bitmap : ℕ) (entries : List (Option Datum)) (skipped : List Skipped) (vs : List ℕ) : Type 0 where
+pub record EachUpTo (l : LooseCoding) (T : Entries → List Chunk → Type 0) (us : List ℕ) (i : ℕ) (rest : List Part) (left bitmap : ℕ) (entries : List (Option Datum)) (skipped : List SkippedAt) (vs : List ℕ) : Type 0 where
   pub of_profile : AreOfProfile (fields_of rest)
   pub width : left ≡ bitmap_length (fields_of rest)
   pub few : left ≤ 64
-  pub onward : Onward l.coding.ruling.fielding (LooseEach l (fields_of rest) (bits left bitmap)) vs (put entries skipped) T us
+  pub onward : Onward l.coding.ruling.fielding (LooseEach l i (fields_of rest) (bits left bitmap)) vs (put entries skipped) T us
 
-pub record EachNext (l : LooseCoding) (T : Entries → List Chunk → Type 0) (us : List ℕ) (p : Part) (rest : List Part) (after bitmap : ℕ) (present : Bool) (entries : List (Option Datum)) (skipped : List Skipped) (vs : List ℕ) : Type 0 where
+pub record EachNext (l : LooseCoding) (T : Entries → List Chunk → Type 0) (us : List ℕ) (i next : ℕ) (p : Part) (rest : List Part) (after bitmap : ℕ) (present : Bool) (entries : List (Option Datum)) (skipped : List SkippedAt) (vs : List ℕ) : Type 0 where
   pub of_profile : InProfile p.shape
   pub good : IsGoodDemand p.demand p.shape
-  pub none : NoneOn l.coding.ruling.fielding (LooseEntry l p.demand p.shape present) vs T us
-  pub more : (e : Option Datum) (now : List Skipped) (r : List ℕ) → Spells l.coding.ruling.fielding (ReadingAfter skipped (LooseEntry l p.demand p.shape present)) (e, now) vs r → EachUpTo l T us rest after bitmap (entries ++ e ∷ []) now r
+  pub none : NoneOn l.coding.ruling.fielding (LooseEntry l i p.demand p.shape present) vs T us
+  pub more : (e : Option Datum) (now : List SkippedAt) (r : List ℕ) → Spells l.coding.ruling.fielding (ReadingAfter skipped (LooseEntry l i p.demand p.shape present)) (e, now) vs r → EachUpTo l T us next rest after bitmap (entries ++ e ∷ []) now r
 
-pub record OpenUpTo (l : LooseCoding) (T : Entries → List Chunk → Type 0) (us : List ℕ) (place : ℕ) (rest : List Part) (present : List ℕ) (entries : List (Option Datum)) (skipped : List Skipped) (vs : List ℕ) : Type 0 where
+pub record OpenUpTo (l : LooseCoding) (T : Entries → List Chunk → Type 0) (us : List ℕ) (place : ℕ) (rest : List Part) (present : List ℕ) (entries : List (Option Datum)) (skipped : List SkippedAt) (vs : List ℕ) : Type 0 where
   pub of_profile : AreOfProfile (fields_of rest)
   pub onward : Onward l.coding.ruling.fielding (LooseOpen l place (fields_of rest) present) vs (put entries skipped) T us
 
 -- none was read
-pub each_starts : (l : LooseCoding) (es : List (Option Datum)) (ss : List Skipped) (all : List Part) (left bitmap : ℕ) (us : List ℕ) → AreOfProfile (fields_of all) → left ≡ bitmap_length (fields_of all) → left ≤ 64
-    → EachUpTo l (EntriesAfter es ss (LooseEach l (fields_of all) (bits left bitmap))) us all left bitmap es ss us
-each_starts l es ss all left bitmap us good e f = record { of_profile = good; width = e; few = f; onward = mapped l.coding.ruling.fielding (put es ss) (LooseEach l (fields_of all) (bits left bitmap)) us }
+pub each_starts : (l : LooseCoding) (es : List (Option Datum)) (ss : List SkippedAt) (all : List Part) (left bitmap : ℕ) (us : List ℕ) → AreOfProfile (fields_of all) → left ≡ bitmap_length (fields_of all) → left ≤ 64
+    → EachUpTo l (EntriesAfter es ss (LooseEach l 0 (fields_of all) (bits left bitmap))) us 0 all left bitmap es ss us
+each_starts l es ss all left bitmap us good e f = record { of_profile = good; width = e; few = f; onward = mapped l.coding.ruling.fielding (put es ss) (LooseEach l 0 (fields_of all) (bits left bitmap)) us }
 
-pub open_starts : (l : LooseCoding) (es : List (Option Datum)) (ss : List Skipped) (all : List Part) (place : ℕ) (present us : List ℕ) → AreOfProfile (fields_of all)
+pub open_starts : (l : LooseCoding) (es : List (Option Datum)) (ss : List SkippedAt) (all : List Part) (place : ℕ) (present us : List ℕ) → AreOfProfile (fields_of all)
     → OpenUpTo l (EntriesAfter es ss (LooseOpen l place (fields_of all) present)) us place all present es ss us
 open_starts l es ss all place present us good = record { of_profile = good; onward = mapped l.coding.ruling.fielding (put es ss) (LooseOpen l place (fields_of all) present) us }
 
@@ -144,18 +156,18 @@ module _ (l : LooseCoding) (h : WayLaws l) where
   abbrev R : Fielding
   R = l.coding.ruling.fielding
 
-  module _ {T : List Skipped → List Chunk → Type 0} {us vs : List ℕ} {skipped : List Skipped} where
+  module _ {T : List SkippedAt → List Chunk → Type 0} {us vs : List ℕ} {skipped : List SkippedAt} where
     pub skips_absent : {place next : ℕ} {present after : List ℕ} → present ≡ 0 ∷ after → suc place ≡ next → SkippedUpTo l.coding T us place present skipped vs → SkippedUpTo l.coding T us next after skipped vs
     skips_absent {place} {next} {present} {after} e f o =
         let o' : SkippedUpTo l.coding T us place (0 ∷ after) skipped vs = subst (λ (bs : List ℕ). SkippedUpTo l.coding T us place bs skipped vs) e o in
         subst (λ (n : ℕ). SkippedUpTo l.coding T us n after skipped vs) f (record { onward = o'.onward })
 
-    pub skips_present : {place next : ℕ} {present after : List ℕ} {now : List Skipped} {r : List ℕ} → present ≡ 1 ∷ after → suc place ≡ next → Spells R (FieldAfter skipped (Unknown l.coding place)) now vs r → SkippedUpTo l.coding T us place present skipped vs → SkippedUpTo l.coding T us next after now r
+    pub skips_present : {place next : ℕ} {present after : List ℕ} {now : List SkippedAt} {r : List ℕ} → present ≡ 1 ∷ after → suc place ≡ next → Spells R (FieldAfter skipped (Unknown l.coding place)) now vs r → SkippedUpTo l.coding T us place present skipped vs → SkippedUpTo l.coding T us next after now r
     skips_present {place} {next} {present} {after} {now} {r} e f k o =
         let o' : SkippedUpTo l.coding T us place (1 ∷ after) skipped vs = subst (λ (bs : List ℕ). SkippedUpTo l.coding T us place bs skipped vs) e o in
         let m = map_source k in
-        let two = on (second {M = λ _. AllUnknown l.coding (suc place) after} (unknown_way l h place) m.1) (mapped R (λ (p : Skipped × List Skipped). p.0 ∷ p.1) (Then (Unknown l.coding place) (λ _. AllUnknown l.coding (suc place) after)) vs) in
-        let g : SkippedUpTo l.coding T us (suc place) after now r = record { onward = seen_as (λ s. sym (append_assoc skipped (m.0 ∷ []) s) ∙ ap (λ (x : List Skipped). x ++ s) (sym m.2)) (on two o'.onward) } in
+        let two = on (second {M = λ _. AllUnknown l.coding (suc place) after} (unknown_way l h place) m.1) (mapped R (λ (p : SkippedAt × List SkippedAt). p.0 ∷ p.1) (Then (Unknown l.coding place) (λ _. AllUnknown l.coding (suc place) after)) vs) in
+        let g : SkippedUpTo l.coding T us (suc place) after now r = record { onward = seen_as (λ s. sym (append_assoc skipped (m.0 ∷ []) s) ∙ ap (λ (x : List SkippedAt). x ++ s) (sym m.2)) (on two o'.onward) } in
         subst (λ (n : ℕ). SkippedUpTo l.coding T us n after now r) f g
 
     pub skips_none : {place : ℕ} {present after : List ℕ} → present ≡ 1 ∷ after → SkippedUpTo l.coding T us place present skipped vs → NoneOn R (Unknown l.coding place) vs T us
@@ -166,16 +178,16 @@ module _ (l : LooseCoding) (h : WayLaws l) where
     pub skips_end : {place : ℕ} {present : List ℕ} → present ≡ [] → SkippedUpTo l.coding T us place present skipped vs → Spells R T skipped us vs
     skips_end {place} {present} e o =
         let o' : SkippedUpTo l.coding T us place [] skipped vs = subst (λ (bs : List ℕ). SkippedUpTo l.coding T us place bs skipped vs) e o in
-        subst (λ (s : List Skipped). Spells R T s us vs) (append-nil skipped) (o'.onward.done [] vs (nothing_spells R [] vs))
+        subst (λ (s : List SkippedAt). Spells R T s us vs) (append-nil skipped) (o'.onward.done [] vs (nothing_spells R [] vs))
 
   -- ---- one entry
 
   -- an entry that was read, and those after it
-  pub record Step (E : Option Datum × List Skipped → List Chunk → Type 0) (M W : Entries → List Chunk → Type 0) (vs : List ℕ) : Type 0 where
+  pub record Step (E : Option Datum × List SkippedAt → List Chunk → Type 0) (M W : Entries → List Chunk → Type 0) (vs : List ℕ) : Type 0 where
     pub none : NoneOn R E vs W vs
-    pub more : (e : Option Datum) (s : List Skipped) (r : List ℕ) → Spells R E (e, s) vs r → Onward R M r (λ p. (e ∷ p.0, s ++ p.1)) W vs
+    pub more : (e : Option Datum) (s : List SkippedAt) (r : List ℕ) → Spells R E (e, s) vs r → Onward R M r (λ p. (e ∷ p.0, s ++ p.1)) W vs
 
-  abbrev some_of : Reading → Option Datum × List Skipped
+  abbrev some_of : Reading → Option Datum × List SkippedAt
   some_of r = (Some r.0, r.1)
 
   pub came : (L : Reading → List Chunk → Type 0) (M : Entries → List Chunk → Type 0) (vs : List ℕ) → OneWay R L → Step (Map some_of L) M (Map entry_read (Then L (λ _. M))) vs
@@ -183,7 +195,7 @@ module _ (l : LooseCoding) (h : WayLaws l) where
     none = λ further n. none_mapped (then_none_first (unmapped n));
     more = λ e s r k.
         let m = map_source k in
-        seen_as (λ p. ap (λ (x : Option Datum × List Skipped). (x.0 ∷ p.0, x.1 ++ p.1)) (sym m.2)) (on (second {M = λ _. M} way m.1) (mapped R entry_read (Then L (λ _. M)) vs));
+        seen_as (λ p. ap (λ (x : Option Datum × List SkippedAt). (x.0 ∷ p.0, x.1 ++ p.1)) (sym m.2)) (on (second {M = λ _. M} way m.1) (mapped R entry_read (Then L (λ _. M)) vs));
   }
 
   pub left_out : (a : Option Datum) (M : Entries → List Chunk → Type 0) (vs : List ℕ) → Step (Nothing (a, [])) M (Map (entry_left a) M) vs
@@ -192,45 +204,45 @@ module _ (l : LooseCoding) (h : WayLaws l) where
     more = λ e s r k.
         let same : vs ≡ r = k.split ∙ ap (λ (cs : List Chunk). flat R.spelled cs ++ r) k.spelt.empty in
         let o : Onward R M r (entry_left a) (Map (entry_left a) M) vs = subst (λ (t : List ℕ). Onward R M t (entry_left a) (Map (entry_left a) M) vs) same (mapped R (entry_left a) M vs) in
-        seen_as (λ p. ap (λ (x : Option Datum × List Skipped). (x.0 ∷ p.0, x.1 ++ p.1)) (sym k.spelt.same)) o;
+        seen_as (λ p. ap (λ (x : Option Datum × List SkippedAt). (x.0 ∷ p.0, x.1 ++ p.1)) (sym k.spelt.same)) o;
   }
 
   -- the component of a root
-  pub root_step : (name : List ℕ) (d : Demand) (t : Shape) (fs : Fields) (present : Bool) (bs after vs : List ℕ) → InProfile t
+  pub root_step : (i : ℕ) (name : List ℕ) (d : Demand) (t : Shape) (fs : Fields) (present : Bool) (bs after vs : List ℕ) → InProfile t
       → (has_presence_bit d ≡ false → (present ≡ true) × (bs ≡ after)) → (has_presence_bit d ≡ true → bs ≡ bit_of present ∷ after)
-      → Step (LooseEntry l d t present) (LooseEach l fs after) (LooseEach l (field name d t fs) bs) vs
-  root_step name must t fs true bs after vs good f g = subst (λ (x : List ℕ). Step (LooseEntry l must t true) (LooseEach l fs after) (LooseEach l (field name must t fs) x) vs) (sym (f refl).1) (came (Loose l t) (LooseEach l fs after) vs (loose_way l h t good))
-  root_step name must t fs false bs after vs good f g = absurd (true≢false (sym (f refl).0))
-  root_step name optional t fs true bs after vs good f g = subst (λ (x : List ℕ). Step (LooseEntry l optional t true) (LooseEach l fs after) (LooseEach l (field name optional t fs) x) vs) (sym (g refl)) (came (Loose l t) (LooseEach l fs after) vs (loose_way l h t good))
-  root_step name optional t fs false bs after vs good f g = subst (λ (x : List ℕ). Step (LooseEntry l optional t false) (LooseEach l fs after) (LooseEach l (field name optional t fs) x) vs) (sym (g refl)) (left_out None (LooseEach l fs after) vs)
-  root_step name (default d) t fs true bs after vs good f g = subst (λ (x : List ℕ). Step (LooseEntry l (default d) t true) (LooseEach l fs after) (LooseEach l (field name (default d) t fs) x) vs) (sym (g refl)) (came (Map nothing_skipped (Spelt l.coding.code (Some d) t)) (LooseEach l fs after) vs (map_way (spelt_way l.coding h.laws (Some d) t good)))
-  root_step name (default d) t fs false bs after vs good f g = subst (λ (x : List ℕ). Step (LooseEntry l (default d) t false) (LooseEach l fs after) (LooseEach l (field name (default d) t fs) x) vs) (sym (g refl)) (left_out (Some d) (LooseEach l fs after) vs)
+      → Step (LooseEntry l i d t present) (LooseEach l (suc i) fs after) (LooseEach l i (field name d t fs) bs) vs
+  root_step i name must t fs true bs after vs good f g = subst (λ (x : List ℕ). Step (LooseEntry l i must t true) (LooseEach l (suc i) fs after) (LooseEach l i (field name must t fs) x) vs) (sym (f refl).1) (came (Inside (step.Component i) (Loose l t)) (LooseEach l (suc i) fs after) vs (map_way (loose_way l h t good)))
+  root_step i name must t fs false bs after vs good f g = absurd (true≢false (sym (f refl).0))
+  root_step i name optional t fs true bs after vs good f g = subst (λ (x : List ℕ). Step (LooseEntry l i optional t true) (LooseEach l (suc i) fs after) (LooseEach l i (field name optional t fs) x) vs) (sym (g refl)) (came (Inside (step.Component i) (Loose l t)) (LooseEach l (suc i) fs after) vs (map_way (loose_way l h t good)))
+  root_step i name optional t fs false bs after vs good f g = subst (λ (x : List ℕ). Step (LooseEntry l i optional t false) (LooseEach l (suc i) fs after) (LooseEach l i (field name optional t fs) x) vs) (sym (g refl)) (left_out None (LooseEach l (suc i) fs after) vs)
+  root_step i name (default d) t fs true bs after vs good f g = subst (λ (x : List ℕ). Step (LooseEntry l i (default d) t true) (LooseEach l (suc i) fs after) (LooseEach l i (field name (default d) t fs) x) vs) (sym (g refl)) (came (Map nothing_skipped (Spelt l.coding.code (Some d) t)) (LooseEach l (suc i) fs after) vs (map_way (spelt_way l.coding h.laws (Some d) t good)))
+  root_step i name (default d) t fs false bs after vs good f g = subst (λ (x : List ℕ). Step (LooseEntry l i (default d) t false) (LooseEach l (suc i) fs after) (LooseEach l i (field name (default d) t fs) x) vs) (sym (g refl)) (left_out (Some d) (LooseEach l (suc i) fs after) vs)
 
   -- ---- entries one after the other
 
   -- one more
-  put_more : {M W T : Entries → List Chunk → Type 0} {us vs r : List ℕ} (es : List (Option Datum)) (ss : List Skipped) (e : Option Datum) (s now : List Skipped) → now ≡ ss ++ s → Onward R M r (λ p. (e ∷ p.0, s ++ p.1)) W vs → Onward R W vs (put es ss) T us → Onward R M r (put (es ++ e ∷ []) now) T us
-  put_more es ss e s now same a b = seen_as (λ p i. (sym (append_assoc es (e ∷ []) p.0) i, (sym (append_assoc ss s p.1) ∙ ap (λ (x : List Skipped). x ++ p.1) (sym same)) i)) (on a b)
+  put_more : {M W T : Entries → List Chunk → Type 0} {us vs r : List ℕ} (es : List (Option Datum)) (ss : List SkippedAt) (e : Option Datum) (s now : List SkippedAt) → now ≡ ss ++ s → Onward R M r (λ p. (e ∷ p.0, s ++ p.1)) W vs → Onward R W vs (put es ss) T us → Onward R M r (put (es ++ e ∷ []) now) T us
+  put_more es ss e s now same a b = seen_as (λ p i. (sym (append_assoc es (e ∷ []) p.0) i, (sym (append_assoc ss s p.1) ∙ ap (λ (x : List SkippedAt). x ++ p.1) (sym same)) i)) (on a b)
 
-  module _ {T : Entries → List Chunk → Type 0} {us : List ℕ} {p : Part} {rest : List Part} {left bitmap : ℕ} {entries : List (Option Datum)} {skipped : List Skipped} {vs : List ℕ} (k : EachUpTo l T us (p ∷ rest) left bitmap entries skipped vs) where
+  module _ {T : Entries → List Chunk → Type 0} {us : List ℕ} {i next : ℕ} {p : Part} {rest : List Part} {left bitmap : ℕ} {entries : List (Option Datum)} {skipped : List SkippedAt} {vs : List ℕ} (k : EachUpTo l T us i (p ∷ rest) left bitmap entries skipped vs) (further_on : suc i ≡ next) where
     -- a presence bit is left for it
     pub bit_there : has_presence_bit p.demand ≡ true → 0 < left
     bit_there e = omega (arith, k.width, width_more p.name p.demand p.shape (fields_of rest) e)
 
     pub each_next : (present : Bool) (after : ℕ) → (has_presence_bit p.demand ≡ false → (present ≡ true) × (after ≡ left))
-        → (has_presence_bit p.demand ≡ true → (after + 1 ≡ left) × (bit_of present ≡ bitmap / 2 ^ after % 2)) → EachNext l T us p rest after bitmap present entries skipped vs
+        → (has_presence_bit p.demand ≡ true → (after + 1 ≡ left) × (bit_of present ≡ bitmap / 2 ^ after % 2)) → EachNext l T us i next p rest after bitmap present entries skipped vs
     each_next present after f g =
-        let step = root_step p.name p.demand p.shape (fields_of rest) present (bits left bitmap) (bits after bitmap) vs k.of_profile.0
+        let one = root_step i p.name p.demand p.shape (fields_of rest) present (bits left bitmap) (bits after bitmap) vs k.of_profile.0
         (λ e. ((f e).0, ap (λ (n : ℕ). bits n bitmap) (sym (f e).1))) (λ e. bit_split left after bitmap (bit_of present) (g e).0 (g e).1) in
         record {
           of_profile = k.of_profile.0;
           good = k.of_profile.1;
-          none = λ further n. k.onward.none further (step.none further n);
+          none = λ further n. k.onward.none further (one.none further n);
           more = λ e now r t. (let w = took t in record {
             of_profile = k.of_profile.2;
             width = width_is (has_presence_bit p.demand) refl;
             few = few_is (has_presence_bit p.demand) refl;
-            onward = put_more entries skipped e w.skipped now w.same (step.more e w.skipped r w.spelt) k.onward;
+            onward = subst (λ (n : ℕ). Onward R (LooseEach l n (fields_of rest) (bits after bitmap)) r (put (entries ++ e ∷ []) now) T us) further_on (put_more entries skipped e w.skipped now w.same (one.more e w.skipped r w.spelt) k.onward);
           });
         }
       where
@@ -243,9 +255,9 @@ module _ (l : LooseCoding) (h : WayLaws l) where
         few_is true e = omega (arith, (g e).0, k.few)
 
   -- none is left
-  pub each_ends : {T : Entries → List Chunk → Type 0} {us : List ℕ} {rest : List Part} {left bitmap : ℕ} {entries : List (Option Datum)} {skipped : List Skipped} {vs : List ℕ} → EachUpTo l T us rest left bitmap entries skipped vs → rest ≡ [] → Spells R T (entries, skipped) us vs
-  each_ends {T} {us} {rest} {left} {bitmap} {entries} {skipped} {vs} k e =
-      let o : Onward R (LooseEach l no_fields (bits left bitmap)) vs (put entries skipped) T us = subst (λ (ps : List Part). Onward R (LooseEach l (fields_of ps) (bits left bitmap)) vs (put entries skipped) T us) e k.onward in
+  pub each_ends : {T : Entries → List Chunk → Type 0} {us : List ℕ} {i : ℕ} {rest : List Part} {left bitmap : ℕ} {entries : List (Option Datum)} {skipped : List SkippedAt} {vs : List ℕ} → EachUpTo l T us i rest left bitmap entries skipped vs → rest ≡ [] → Spells R T (entries, skipped) us vs
+  each_ends {T} {us} {i} {rest} {left} {bitmap} {entries} {skipped} {vs} k e =
+      let o : Onward R (LooseEach l i no_fields (bits left bitmap)) vs (put entries skipped) T us = subst (λ (ps : List Part). Onward R (LooseEach l i (fields_of ps) (bits left bitmap)) vs (put entries skipped) T us) e k.onward in
       let read : Spells R T (entries ++ [], skipped ++ []) us vs = o.done ([], []) vs (nothing_spells R ([], []) vs) in
       subst (λ (p : Entries). Spells R T p us vs) (λ i. (append-nil entries i, append-nil skipped i)) read
 
@@ -253,7 +265,7 @@ module _ (l : LooseCoding) (h : WayLaws l) where
 
   -- without presence bits all are absent
   all_absent : (place : ℕ) (fs : Fields) (p : Entries) (cs : List Chunk) → LooseOpen l place fs [] p cs → (p ≡ (absent_entries fs, [])) × (cs ≡ [])
-  all_absent place no_fields p cs k = (k.seen ∙ ap (λ (s : List Skipped). ([], s)) k.spelt.same, k.spelt.empty)
+  all_absent place no_fields p cs k = (k.seen ∙ ap (λ (s : List SkippedAt). ([], s)) k.spelt.same, k.spelt.empty)
   all_absent place (field name d t fs) p cs k = (k.same, k.empty)
 
   absent_all : (place : ℕ) (fs : Fields) → LooseOpen l place fs [] (absent_entries fs, []) []
@@ -266,7 +278,7 @@ module _ (l : LooseCoding) (h : WayLaws l) where
     none = λ further n. absurd (n (absent_entries fs, []) (vs ++ further) (record { chunks = []; spelt = absent_all (suc place) fs; contents = tt; split = refl }));
   }
 
-  module _ {T : Entries → List Chunk → Type 0} {us : List ℕ} {place next : ℕ} {p : Part} {rest : List Part} {present after : List ℕ} {entries : List (Option Datum)} {skipped : List Skipped} {vs : List ℕ} (k : OpenUpTo l T us place (p ∷ rest) present entries skipped vs) (e : suc place ≡ next) where
+  module _ {T : Entries → List Chunk → Type 0} {us : List ℕ} {place next : ℕ} {p : Part} {rest : List Part} {present after : List ℕ} {entries : List (Option Datum)} {skipped : List SkippedAt} {vs : List ℕ} (k : OpenUpTo l T us place (p ∷ rest) present entries skipped vs) (e : suc place ≡ next) where
     -- the addition is absent
     pub open_absent : ((present ≡ []) × (after ≡ [])) ⊎ (present ≡ 0 ∷ after) → OpenUpTo l T us next rest after (entries ++ None ∷ []) skipped vs
     open_absent (inl q) =
@@ -283,26 +295,26 @@ module _ (l : LooseCoding) (h : WayLaws l) where
       there : Onward R (LooseOpen l place (fields_of (p ∷ rest)) (1 ∷ after)) vs (put entries skipped) T us
       there = subst (λ (bs : List ℕ). Onward R (LooseOpen l place (fields_of (p ∷ rest)) bs) vs (put entries skipped) T us) q k.onward
 
-      known : OneWay R (Known l.coding (Loose l p.shape))
-      known = known_way l h (loose_way l h p.shape k.of_profile.0)
+      known : OneWay R (Inside (step.Addition place) (Known l.coding (Loose l p.shape)))
+      known = map_way (known_way l h (loose_way l h p.shape k.of_profile.0))
 
       -- it is there
-      pub open_present : (v : Datum) (now : List Skipped) (r : List ℕ) → Spells R (ReadingAfter skipped (Known l.coding (Loose l p.shape))) (v, now) vs r → OpenUpTo l T us next rest after (entries ++ Some v ∷ []) now r
+      pub open_present : (v : Datum) (now : List SkippedAt) (r : List ℕ) → Spells R (ReadingAfter skipped (Inside (step.Addition place) (Known l.coding (Loose l p.shape)))) (v, now) vs r → OpenUpTo l T us next rest after (entries ++ Some v ∷ []) now r
       open_present v now r t =
           let w = took t in
-          let s = came (Known l.coding (Loose l p.shape)) (LooseOpen l (suc place) (fields_of rest) after) vs known in
+          let s = came (Inside (step.Addition place) (Known l.coding (Loose l p.shape))) (LooseOpen l (suc place) (fields_of rest) after) vs known in
           let a = put_more entries skipped (Some v) w.skipped now w.same (s.more (Some v) w.skipped r (map_spells {f = some_of} w.spelt)) there in
           record { of_profile = k.of_profile.2; onward = subst (λ (n : ℕ). Onward R (LooseOpen l n (fields_of rest) after) r (put (entries ++ Some v ∷ []) now) T us) e a }
 
-      pub open_none : NoneOn R (Known l.coding (Loose l p.shape)) vs T us
+      pub open_none : NoneOn R (Inside (step.Addition place) (Known l.coding (Loose l p.shape))) vs T us
       open_none further n = there.none further (none_mapped (then_none_first n))
 
   -- none is left of the type: the others are skipped
-  module _ {T : Entries → List Chunk → Type 0} {us : List ℕ} {place : ℕ} {rest : List Part} {present : List ℕ} {entries : List (Option Datum)} {skipped : List Skipped} {vs : List ℕ} (k : OpenUpTo l T us place rest present entries skipped vs) (e : rest ≡ []) where
+  module _ {T : Entries → List Chunk → Type 0} {us : List ℕ} {place : ℕ} {rest : List Part} {present : List ℕ} {entries : List (Option Datum)} {skipped : List SkippedAt} {vs : List ℕ} (k : OpenUpTo l T us place rest present entries skipped vs) (e : rest ≡ []) where
     others : Onward R (AllUnknown l.coding place present) vs (λ s. put entries skipped ([], s)) T us
-    others = on (mapped R (λ (s : List Skipped). ([], s)) (AllUnknown l.coding place present) vs) (subst (λ (ps : List Part). Onward R (LooseOpen l place (fields_of ps) present) vs (put entries skipped) T us) e k.onward)
+    others = on (mapped R (λ (s : List SkippedAt). ([], s)) (AllUnknown l.coding place present) vs) (subst (λ (ps : List Part). Onward R (LooseOpen l place (fields_of ps) present) vs (put entries skipped) T us) e k.onward)
 
-    pub open_ends : (now : List Skipped) (r : List ℕ) → Spells R (FieldsAfter skipped (AllUnknown l.coding place present)) now vs r → Spells R T (entries, now) us r
+    pub open_ends : (now : List SkippedAt) (r : List ℕ) → Spells R (FieldsAfter skipped (AllUnknown l.coding place present)) now vs r → Spells R T (entries, now) us r
     open_ends now r t =
         let m = map_source t in
         let read : Spells R T (entries ++ [], skipped ++ m.0) us r = others.done m.0 r m.1 in

@@ -1,6 +1,6 @@
 use Rattle.std.proofs.Common.{true, false, List, subst}
-use Rattle.asn_newer.specs.Skipped.{Skipped, Reading}
-use Rattle.asn_newer.specs.Loose.{IsLoose, Complete, Loose}
+use Rattle.asn_newer.specs.Skipped.{SkippedAt, Reading}
+use Rattle.asn_newer.specs.Loose.{IsLooseAt, Complete, Loose}
 use Rattle.asn_newer.specs.Versions.{received}
 use Rattle.asn_newer.proofs.Law.Flipped.{flipped, skips_nothing}
 use Rattle.asn_newer.proofs.Law.Itself.{same_version, itself}
@@ -23,7 +23,7 @@ returns-clause-older_reads g c old new v o p q w e = message_read g.R.OtherVersi
 pub returns-clause-newer_reads : goal.returns-clause-newer_reads
 returns-clause-newer_reads g c old new v o p q w e =
     let l = g.R.OtherVersions.loose in
-    subst (λ (s : List Skipped). IsLoose l new (received l old new v).0 s o) (skips_nothing l true old new v w) (message_read l c.keep_version_laws.ensures.parts false true old new v o p w e)
+    subst (λ (s : List SkippedAt). IsLooseAt l new (received l old new v).0 s o) (skips_nothing l true old new v w) (message_read l c.keep_version_laws.ensures.parts false true old new v o p w e)
 
 pub returns-clause-reads_fit : goal.returns-clause-reads_fit
 returns-clause-reads_fit g c = reads_fit g.R.OtherVersions.loose c.keep_version_laws.ensures.parts.laws

@@ -1,7 +1,7 @@
 use Rattle.std.proofs.Common.{◌≡◌, ◌+◌, suc, arith}
 use Rattle.std.proofs.lemmas.Result.{err_from_is_err_and}
 use Rattle.asn_newer.specs.Bitmaps.{bits_left}
-use Rattle.asn_newer.specs.Reading.{skipped_seen}
+use Rattle.asn_newer.specs.Reading.{skipped_at_seen}
 use Rattle.asn_newer.specs.Walking.{loose_by}
 use Rattle.asn_newer.proofs.Walk.Following.{skips_start, skips_absent, skips_present, skips_none, skips_end, bit_set, unmapped}
 use Rattle.asn_newer.proofs.Walk.FieldsSkipped.{one_on, bit_absent, none_is_left}
@@ -11,7 +11,7 @@ use Rattle.asn_newer.proofs.skipping.skip_fields.Goals as goal
 
 pub loop-next-init : goal.loop-next-init
 loop-next-init g c =
-    (skips_start g.R.ReadLeaves.rules (skipped_seen c.args.skipped.now.items) c.args.place (bits_left c.args.presence) (g.R.ReadLeaves.rules.to_units c.args.units.now), omega arith, c.requires.few, c.requires.at_unit)
+    (skips_start g.R.ReadLeaves.rules (skipped_at_seen c.args.skipped.now.items) c.args.place (bits_left c.args.presence) (g.R.ReadLeaves.rules.to_units c.args.units.now), omega arith, c.requires.few, c.requires.at_unit)
 
 pub returns-in_err-skip_field-clause-stop : goal.returns-in_err-skip_field-clause-stop
 returns-in_err-skip_field-clause-stop g c =

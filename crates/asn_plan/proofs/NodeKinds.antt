@@ -6,7 +6,7 @@ use Rattle.asn_values.specs.Shape.{Shape, Fields, MoreFields, Alternatives, More
 use Rattle.asn_values.specs.View.{shape_of, size_range_of}
 use Rattle.asn_rules.specs.Listed.{bitmap_length}
 use Rattle.asn_walk.specs.Coding.{added, added_alternatives}
-use Rattle.asn_walk.specs.Integers.{between}
+use Rattle.asn_plan.specs.Ranged.{ranged}
 use Rattle.asn_plan.specs.declared.plan.AlternativeRows.{AlternativeRows}
 use Rattle.asn_plan.specs.declared.plan.Between.{Between}
 use Rattle.asn_plan.specs.declared.plan.ComponentRows.{ComponentRows}
@@ -16,7 +16,7 @@ use Rattle.asn_plan.specs.declared.plan.Leaf.{Leaf}
 use Rattle.asn_plan.specs.declared.plan.Node.{Node}
 use Rattle.asn_plan.specs.Plans.{IsPlan, ArePlans, ArePlansOfMore, ArePlansOfEach, ArePlansOfOthers, row}
 
-pub number_is : (ns : List Node) (t : Shape) (b : Between) → IsPlan ns t (kind.Number b) → t ≡ between b.low b.high
+pub number_is : (ns : List Node) (t : Shape) (b : Between) → IsPlan ns t (kind.Number b) → t ≡ ranged b.range
 number_is ns (sequence root more) b p = absurd p
 number_is ns (sequence_of u s) b p = absurd p
 number_is ns (choice root more) b p = absurd p

@@ -138,14 +138,14 @@ fn show_of<'a, R: BufRead>(
     lines: &mut R,
 ) -> Result<u8, Stop<'a>> {
     let Some(module) = module_of(rt.alloc(), text)? else {
-        return Ok(run_on(rt, job, text));
+        return run_on(rt, job, text);
     };
     let Some(name) = &look.type_name else {
         return show_names(rt, &module);
     };
     let name = name.as_str();
     let Some(ty) = module.type_named(name) else {
-        return Ok(run_on(rt, job, text));
+        return run_on(rt, job, text);
     };
     match look.what {
         Looking::Fields => {

@@ -238,7 +238,7 @@ general_last_refused {A} {R} L {S} {n} {k} ok i h g =
     subst (λ (l : List ℕ). Refused R (General L S) l k) (sym t.2) (carries_refused (general_last L S n ok i t.1) g)
 
 -- after a fragment something stands
-rest_follows : {A : Type 0} {R : Fielding} {L : A → List Chunk → Type 0} {S : ℕ → Type 0} {m : ℕ} {us r : List ℕ} → Inhabited L → Spells R (Header S) (fragment m) us r → Follows (Row L (16384 * m)) (λ _. General L (Left S m))
+pub rest_follows : {A : Type 0} {R : Fielding} {L : A → List Chunk → Type 0} {S : ℕ → Type 0} {m : ℕ} {us r : List ℕ} → Inhabited L → Spells R (Header S) (fragment m) us r → Follows (Row L (16384 * m)) (λ _. General L (Left S m))
 rest_follows {A} {R} {L} {S} {m} i h = rests (header_tells h.spelt)
   where
     rests : Blocks S m → Follows (Row L (16384 * m)) (λ _. General L (Left S m))

@@ -16,6 +16,7 @@ use Rattle.asn_rules.specs.General.{after_first}
 use Rattle.asn_rules.specs.Live.{Fielding}
 use Rattle.asn_rules.specs.Languages.{Spells, Inhabited, Then, Map, prepended}
 use Rattle.asn_rules.proofs.Languages.Leads.{LeadsStops, Leads, leads_here, leads_on, leads_map, leads_second, stops_first, stops_on}
+use Rattle.asn_rules.proofs.Languages.Standing.{StandsIn, stands_here, stands_on, stands_map, stands_first, stands_second}
 use Rattle.asn_rules.proofs.Components.ListedReading.{leads_entry, nothing_read}
 use Rattle.asn_rules.proofs.Languages.Parts.{map_inhabited, map_lawful, map_source, map_spells, nothing_inhabited}
 use Rattle.asn_rules.proofs.Languages.Then.{Follows, then_inhabited}
@@ -75,6 +76,8 @@ pub record AddedUpTo (c : Coding) (before : List (Option Datum)) (all : Fields) 
   pub after : entries ≡ before ++ read
   pub leads : Leads c.ruling.fielding (OpenListed c (fields_of rest) (bits left bitmap)) vs (λ es. read ++ es)
       (OpenListed c all (bits count bitmap)) us
+  pub stands : StandsIn c.ruling.fielding (OpenListed c (fields_of rest) (bits left bitmap)) vs
+      (OpenListed c all (bits count bitmap)) us
 
 -- none was read
 pub added_starts : (c : Coding) (before : List (Option Datum)) (fields : List Field) (count bitmap : ℕ) (us : List ℕ)
@@ -87,6 +90,7 @@ added_starts c before fields count bitmap us good e few = record {
   read = [];
   after = sym (append-nil before);
   leads = leads_here c.ruling.fielding (OpenListed c (fields_seen fields) (bits count bitmap)) us;
+  stands = stands_here c.ruling.fielding (OpenListed c (fields_seen fields) (bits count bitmap)) us;
 }
 
 module _ (c : Coding) (laws : Laws c) (fields : List Field) (good : AreOfProfile (fields_seen fields)) where
@@ -137,6 +141,17 @@ module _ (c : Coding) (laws : Laws c) {before : List (Option Datum)} {all : Fiel
           (λ es. h.read ++ es) (OpenListed c all (bits count bitmap)) us
       present_leads = let f = next_bit left after bitmap 1 d b in rw f at h.leads
 
+      present_stands : StandsIn c.ruling.fielding (Present c p.shape (OpenListed c (fields_of rest) (bits after bitmap))) vs
+          (OpenListed c all (bits count bitmap)) us
+      present_stands = let f = next_bit left after bitmap 1 d b in rw f at h.stands
+
+      -- its open field stands there
+      pub addition_stands : StandsIn c.ruling.fielding (OpenOf c p.shape) vs (OpenListed c all (bits count bitmap)) us
+      addition_stands =
+          stands_on (stands_map c.ruling.fielding Some (OpenOf c p.shape) vs)
+          (stands_on (stands_first c.ruling.fielding vs (record { follow = λ v cs g. rest_inhabited }))
+          (stands_on (stands_map c.ruling.fielding prepended (Then (Map Some (OpenOf c p.shape)) (λ _. OpenListed c (fields_of rest) (bits after bitmap))) vs) present_stands))
+
       -- within its open field
       pub addition_stops : LeadsStops c.ruling.fielding (OpenOf c p.shape) vs (OpenListed c all (bits count bitmap)) us
       addition_stops =
@@ -158,6 +173,10 @@ module _ (c : Coding) (laws : Laws c) {before : List (Option Datum)} {all : Fiel
             (leads_on (leads_second {M = λ _. OpenListed c (fields_of rest) (bits after bitmap)} (fields_part_of c laws) (map_lawful some_same (open_lawful c laws p.shape h.of_profile.0)) (map_spells {f = Some} g))
             (leads_map c.ruling.fielding prepended (Then (Map Some (OpenOf c p.shape)) (λ _. OpenListed c (fields_of rest) (bits after bitmap))) vs))
             present_leads;
+        stands =
+            stands_on (stands_on (stands_second {M = λ _. OpenListed c (fields_of rest) (bits after bitmap)} (map_spells {f = Some} g))
+            (stands_map c.ruling.fielding prepended (Then (Map Some (OpenOf c p.shape)) (λ _. OpenListed c (fields_of rest) (bits after bitmap))) vs))
+            present_stands;
       }
 
     -- it is absent
@@ -166,6 +185,7 @@ module _ (c : Coding) (laws : Laws c) {before : List (Option Datum)} {all : Fiel
     addition_absent b =
         let f = next_bit left after bitmap 0 d b in
         let l : Leads c.ruling.fielding (Map (λ es. None ∷ es) (OpenListed c (fields_of rest) (bits after bitmap))) vs (λ es. h.read ++ es) (OpenListed c all (bits count bitmap)) us = rw f at h.leads in
+        let there : StandsIn c.ruling.fielding (Map (λ es. None ∷ es) (OpenListed c (fields_of rest) (bits after bitmap))) vs (OpenListed c all (bits count bitmap)) us = rw f at h.stands in
         record {
           of_profile = h.of_profile.2;
           width = others;
@@ -173,6 +193,7 @@ module _ (c : Coding) (laws : Laws c) {before : List (Option Datum)} {all : Fiel
           read = h.read ++ None ∷ [];
           after = ap (λ (es : List (Option Datum)). es ++ None ∷ []) h.after ∙ append_assoc before h.read (None ∷ []);
           leads = leads_entry h.read None (leads_map c.ruling.fielding (λ es. None ∷ es) (OpenListed c (fields_of rest) (bits after bitmap)) vs) l;
+          stands = stands_on (stands_map c.ruling.fielding (λ es. None ∷ es) (OpenListed c (fields_of rest) (bits after bitmap)) vs) there;
         }
 
 -- no addition is left: all entries are read

@@ -1,13 +1,13 @@
 -- Spellings that stand in others, after chunks that are read: where units end in a sealed field of the one, they end in
 -- that field of the other, and what is kept of it is the same.
-use Rattle.std.proofs.Common.{◌≡◌, ◌⊎◌, inl, inr, ℕ, zero, suc, ◌+◌, ◌*◌, List, [], ◌∷◌, ◌++◌, sym, ap, ◌∙◌, refl, subst, append_assoc, arith}
+use Rattle.std.proofs.Common.{◌≡◌, inl, inr, ℕ, zero, suc, ◌+◌, ◌*◌, List, [], ◌∷◌, ◌++◌, sym, ap, ◌∙◌, refl, subst, append_assoc, arith}
 use Rattle.std.proofs.lemmas.List.{append-nil}
 use Rattle.asn_rules.specs.Begun.{AllPlain}
-use Rattle.asn_rules.specs.Chunks.{Kind, Chunk, one, sealed, ones, flat, field_units}
+use Rattle.asn_rules.specs.Chunks.{Chunk, one, sealed, ones, flat, field_units}
 use Rattle.asn_rules.specs.Forks.{Same}
 use Rattle.asn_rules.specs.General.{Length, last, fragment, Left, Header, together, after_first, Body, General}
 use Rattle.asn_rules.specs.Kept.{EndsIn}
-use Rattle.asn_rules.specs.Languages.{AllContents, IsFront, Spells, IsLive, Short, Inhabited, Then, Map, Row, prepended}
+use Rattle.asn_rules.specs.Languages.{AllContents, IsFront, Spells, IsLive, Inhabited, Then, Map, Row, prepended}
 use Rattle.asn_rules.specs.Live.{Fielding}
 use Rattle.asn_rules.specs.Padding.{first_of, Fills, Padded}
 use Rattle.asn_rules.proofs.Live.Chunks.{FieldsPart, contents-append}

@@ -33,7 +33,7 @@ abbrev Present : Coding → Shape → (List (Option Datum) → List Chunk → Ty
 Present c t M = Map prepended (Then (Map Some (OpenOf c t)) (λ _. M))
 
 -- whatever the bits are, additions have entries
-open_listed_inhabited : (c : Coding) (laws : Laws c) (fs : Fields) (bs : List ℕ) → AreOfProfile fs
+pub open_listed_inhabited : (c : Coding) (laws : Laws c) (fs : Fields) (bs : List ℕ) → AreOfProfile fs
     → length bs ≡ length (demands fs) → Inhabited (OpenListed c fs bs)
 open_listed_inhabited c laws no_fields bs good l = nothing_inhabited []
 open_listed_inhabited c laws (field name demand t fs) [] good l = absurd (omega arith)
@@ -52,6 +52,17 @@ module _ (c : Coding) (laws : Laws c) (fs : Fields) (good : AreOfProfile fs) whe
   -- some addition is spelt
   pub some_additions : 0 < length (demands fs) → Inhabited (AdditionsOf c fs)
   some_additions some = map_inhabited (then_inhabited (record { value = 1; chunks = _; spelt = record { fits = (omega arith, omega (arith, some, lt-two_pow (length (demands fs)))); same = refl } }) bitmap_follows)
+
+  -- the bitmap stands in front, and after it the open fields
+  pub bitmap_stands : (us : List ℕ)
+      → StandsIn c.ruling.fielding (AdditionBitmapOf c (length (demands fs))) us (AdditionsOf c fs) us
+  bitmap_stands us = stands_on (stands_first c.ruling.fielding us bitmap_follows) (stands_map c.ruling.fielding after_first (Then (AdditionBitmapOf c (length (demands fs))) (λ b. OpenListed c fs (bits (length (demands fs)) b))) us)
+
+  pub open_stands : (b : ℕ) (us r : List ℕ) → Spells c.ruling.fielding (AdditionBitmapOf c (length (demands fs))) b us r
+      → StandsIn c.ruling.fielding (OpenListed c fs (bits (length (demands fs)) b)) r (AdditionsOf c fs) us
+  open_stands b us r h =
+      stands_on (stands_second {M = λ b. OpenListed c fs (bits (length (demands fs)) b)} h)
+      (stands_map c.ruling.fielding after_first (Then (AdditionBitmapOf c (length (demands fs))) (λ b. OpenListed c fs (bits (length (demands fs)) b))) us)
 
   -- within the bitmap
   bitmap_stops : (us : List ℕ)

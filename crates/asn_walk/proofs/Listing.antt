@@ -18,13 +18,13 @@ use Rattle.asn_rules.proofs.Live.Chunks.{FieldsPart}
 use Rattle.asn_rules.proofs.Languages.Leads.{LeadsStops, Leads, leads_here, leads_on, leads_map, leads_second, leads_same, stops_on, stops_first, stops_by}
 use Rattle.asn_rules.proofs.Languages.Exits.{leads_last, leads_rest, stops_length, stops_fragment, stops_next}
 use Rattle.asn_rules.proofs.Languages.Forks.{same_flip, same_spells}
-use Rattle.asn_rules.proofs.Languages.Standing.{StandsIn, stands_here, stands_on, stands_same, stands_end, stands_next, stands_last, stands_fragment, stands_rest}
+use Rattle.asn_rules.proofs.Languages.Standing.{StandsIn, stands_here, stands_on, stands_map, stands_same, stands_first, stands_second, stands_end, stands_next, stands_last, stands_fragment, stands_rest}
 use Rattle.asn_rules.proofs.Numbers.General.{general_inhabited, general_last_only, general_rest_only}
 use Rattle.asn_rules.proofs.Numbers.Headers.{header_tells}
 use Rattle.asn_rules.proofs.Languages.Parts.{map_source, map_spells, nothing_inhabited, nothing_spells}
 use Rattle.asn_rules.proofs.Numbers.Ranges.{general_left}
 use Rattle.asn_rules.proofs.Languages.Rows.{row_inhabited, row_lawful, row_starts, row_spells, row_one}
-use Rattle.asn_rules.proofs.Languages.Then.{Follows, one_front}
+use Rattle.asn_rules.proofs.Languages.Then.{Follows, one_front, then_splits}
 use Rattle.asn_walk.specs.Ahead.{Ahead, items, lengths, end, Remaining, SomeAhead, Advances, Next, StopsNext}
 use Rattle.asn_walk.specs.Coding.{Coding, ListingOf}
 use Rattle.asn_walk.specs.Laws.{Laws, IsSizeOfProfile}
@@ -67,7 +67,7 @@ appends_stops_next {L = L} i m k part law some e f = stops_next L i m k part law
 -- ---- what stands in front of the items
 
 -- some list is ahead
-ahead_inhabited : {A : Type 0} (L : A → List Chunk → Type 0) (a : Ahead) → Inhabited L → SomeAhead a
+pub ahead_inhabited : {A : Type 0} (L : A → List Chunk → Type 0) (a : Ahead) → Inhabited L → SomeAhead a
     → Inhabited (Remaining L a)
 ahead_inhabited L (items n) i h = row_inhabited i n
 ahead_inhabited L (lengths is so_far closed) i h = general_inhabited i h.0 h.1
@@ -92,6 +92,11 @@ pub start_leads : {A : Type 0} (c : Coding) (laws : Laws c) (L : A → List Chun
 start_leads {A} c laws L s {ahead} {us} good h =
     leads_on (leads_second {M = λ a. Remaining L a} (fields_part_of c laws) (laws.list_start s good) h) (leads_map c.ruling.fielding after_first (Then (c.list_start s) (λ a. Remaining L a)) us)
 
+-- what stands before the items stands in front
+pub start_stands : {A : Type 0} (c : Coding) (laws : Laws c) (L : A → List Chunk → Type 0) (s : SizeRange) (us : List ℕ)
+    → IsSizeOfProfile s → Inhabited L → StandsIn c.ruling.fielding (c.list_start s) us (ListingOf c s L) us
+start_stands c laws L s us good i = stands_on (stands_first c.ruling.fielding us (front_follows c laws L s good i)) (stands_map c.ruling.fielding after_first (Then (c.list_start s) (λ a. Remaining L a)) us)
+
 -- after the items vs: a list of what is ahead, put after them, is the whole list, and stands there; and each whole list
 -- that the units begin with is such a one
 pub record Going {A : Type 0} (c : Coding) (L : A → List Chunk → Type 0) (T : List A → List Chunk → Type 0) (us : List ℕ) (ahead : Ahead) (vs : List A) (rest : List ℕ) : Type 0 where
@@ -105,6 +110,21 @@ pub record FragmentsUpTo {A : Type 0} (c : Coding) (L : A → List Chunk → Typ
   pub read : List A
   pub after : elements ≡ before ++ read
   pub going : Going c L T us ahead read rest
+
+-- after what stands before the items
+pub going_starts : {A : Type 0} (c : Coding) (laws : Laws c) (L : A → List Chunk → Type 0) (s : SizeRange)
+    (ahead : Ahead) (us rest : List ℕ) → IsSizeOfProfile s → Spells c.ruling.fielding (c.list_start s) ahead us rest
+    → Going c L (ListingOf c s L) us ahead [] rest
+going_starts c laws L s ahead us rest good h = record {
+  leads = start_leads c laws L s good h;
+  stands = stands_on (stands_second {M = λ a. Remaining L a} h) (stands_map c.ruling.fielding after_first (Then (c.list_start s) (λ a. Remaining L a)) us);
+  only = λ ws t k.
+      let w = map_source k in
+      let b = then_splits w.1 in
+      let o = one_front (fields_part_of c laws) (laws.list_start s good) b.earlier h in
+      let later : Spells c.ruling.fielding (Remaining L ahead) w.0.1 b.rest t = subst (λ a. Spells c.ruling.fielding (Remaining L a) w.0.1 b.rest t) o.0 b.later in
+      (w.0.1, w.2, subst (λ (l : List ℕ). Spells c.ruling.fielding (Remaining L ahead) w.0.1 l t) o.1 later);
+}
 
 -- none was read
 pub fragments_start : {A : Type 0} (c : Coding) (L : A → List Chunk → Type 0) (us : List ℕ) (before : List A)
@@ -153,7 +173,7 @@ going_row_stops {A} c laws {L} {T} {us} {rest} {r} {ahead} {new} {vs} {k} i h g 
         e.read
 
 -- what is left after a fragment
-left_ahead : {A : Type 0} (c : Coding) (L : A → List Chunk → Type 0) (is : List (ℕ × Option ℕ)) (so_far k m : ℕ)
+pub left_ahead : {A : Type 0} (c : Coding) (L : A → List Chunk → Type 0) (is : List (ℕ × Option ℕ)) (so_far k m : ℕ)
     (closed : Bool) {us r : List ℕ} → Spells c.ruling.fielding (Header (At (Spanned is) so_far closed)) (fragment m) us r
     → k ≡ 16384 * m
     → Same (General L (Left (At (Spanned is) so_far closed) m)) (Remaining L (lengths is (so_far + k) (nat_lt m 4)))
@@ -355,6 +375,12 @@ list_size t s good = record {
   small = left_false (large_size (Some s)) (somewhere size_too_large t) (good SizeTooLarge);
   useful = left_false (is_every_length (Some s)) (somewhere useless_mark t) (good UselessMark);
 }
+
+-- a list stands in the SEQUENCE OF
+pub list_stands : (c : Coding) (laws : Laws c) (t : Shape) (s : SizeRange) (us : List ℕ) → InProfile (sequence_of t s)
+    → StandsIn c.ruling.fielding (ListingOf c s (Spelt c.code None t)) us (Spelt c.code None (sequence_of t s)) us
+list_stands c laws t s us good =
+    stands_on (stands_map c.ruling.fielding (λ vs. elements (elements_of vs)) (ListingOf c s (Spelt c.code None t)) us) (stands_same c.ruling.fielding us (laws.lists t s good))
 
 -- SEQUENCE OF
 pub list_leads : (c : Coding) (laws : Laws c) (t : Shape) (s : SizeRange) (us : List ℕ) → InProfile (sequence_of t s)

@@ -2,9 +2,11 @@ pub mod AddedRead
 pub mod Bits
 pub mod ChosenRead
 pub mod CompleteRead
+pub mod FieldsKept
 pub mod FieldsRead
 pub mod Goings
 pub mod ItemsRead
+pub mod Kept
 pub mod Leaves
 pub mod Levels
 pub mod ListsRead

@@ -7,7 +7,7 @@ use Rattle.asn_rules.specs.Chunks.{Chunk, one, sealed, ones, flat, field_units}
 use Rattle.asn_rules.specs.Forks.{Same}
 use Rattle.asn_rules.specs.General.{Length, last, fragment, Left, Header, together, after_first, Body, General}
 use Rattle.asn_rules.specs.Kept.{EndsIn}
-use Rattle.asn_rules.specs.Languages.{AllContents, IsFront, Spells, IsLive, Inhabited, Then, Map, Row, prepended}
+use Rattle.asn_rules.specs.Languages.{AllContents, IsFront, Spells, IsLive, Inhabited, Then, Map, Nothing, Row, prepended}
 use Rattle.asn_rules.specs.Live.{Fielding}
 use Rattle.asn_rules.specs.Padding.{first_of, Fills, Padded}
 use Rattle.asn_rules.proofs.Live.Chunks.{FieldsPart, contents-append}
@@ -15,7 +15,7 @@ use Rattle.asn_rules.proofs.Live.Flat.{flat-append}
 use Rattle.asn_rules.proofs.Languages.Then.{Follows, then_splits}
 use Rattle.asn_rules.proofs.Languages.Parts.{map_source}
 use Rattle.asn_rules.proofs.Languages.Rows.{row_inhabited}
-use Rattle.asn_rules.proofs.Numbers.General.{general_once, rest_follows}
+use Rattle.asn_rules.proofs.Numbers.General.{general_once, general_follows, rest_follows}
 use Rattle.asn_rules.proofs.Sealed.Padding.{fills_follow}
 
 -- ---- where units end
@@ -130,6 +130,15 @@ stands_second {a = a} h = record {
   within = λ b cs k. ((a, b), [], record { first = h.chunks; second = cs; spelt = h.spelt; follows = k; whole = ap (λ (l : List Chunk). h.chunks ++ l) (append-nil cs) });
 }
 
+-- nothing, after a whole spelling
+pub stands_end : {A B : Type 0} {R : Fielding} {L : A → List Chunk → Type 0} {b : B} {v : A} {us r : List ℕ} → Spells R L v us r → StandsIn R (Nothing b) r L us
+stands_end {L = L} {v = v} h = record {
+  front = h.chunks;
+  contents = h.contents;
+  split = h.split;
+  within = λ x cs k. (v, [], subst (λ (l : List Chunk). L v l) (sym (ap (λ (c : List Chunk). h.chunks ++ (c ++ [])) k.empty ∙ append-nil h.chunks)) h.spelt);
+}
+
 -- ---- rows
 
 -- after i values those that are left
@@ -154,6 +163,11 @@ stands_next {R = R} L i m k {r = r} some e h =
 stands_body : {A : Type 0} {R : Fielding} (L : A → List Chunk → Type 0) {S : ℕ → Type 0} {l : Length} {us r : List ℕ} → Spells R (Header S) l us r → StandsIn R (Body L (General L) S l) r (General L S) us
 stands_body {R = R} L {S} {us = us} h =
     stands_on (stands_on (stands_second {M = Body L (General L) S} h) (stands_map R after_first (Then (Header S) (Body L (General L) S)) us)) (stands_same R us (general_once L S))
+
+-- a length
+pub stands_length : {A : Type 0} {L : A → List Chunk → Type 0} {S : ℕ → Type 0} (R : Fielding) (us : List ℕ) → Inhabited L → StandsIn R (Header S) us (General L S) us
+stands_length {L = L} {S = S} R us i =
+    stands_on (stands_on (stands_first R us (general_follows S i)) (stands_map R after_first (Then (Header S) (Body L (General L) S)) us)) (stands_same R us (general_once L S))
 
 -- the items after the last length
 pub stands_last : {A : Type 0} {R : Fielding} (L : A → List Chunk → Type 0) {S : ℕ → Type 0} {n : ℕ} {us r : List ℕ} → Spells R (Header S) (last n) us r → StandsIn R (Row L n) r (General L S) us

@@ -8,7 +8,7 @@ use Rattle.asn_rules.proofs.Live.Chunks.{FieldsPart}
 use Rattle.asn_rules.proofs.Languages.Forks.{map_map, map_lawful_on, same_flip, same_short, same_refused, carries_left, carries_whole, same_inhabited}
 use Rattle.asn_rules.proofs.Languages.Parts.{map_inhabited, map_source, map_spells, map_short, map_refused}
 use Rattle.asn_rules.proofs.Languages.Rows.{row_lawful, row_inhabited}
-use Rattle.asn_rules.proofs.Languages.Then.{Follows, then_lawful, then_spells, then_inhabited, then_short_first, then_short_second, then_refused_first, then_refused_second}
+use Rattle.asn_rules.proofs.Languages.Then.{Follows, then_lawful, then_spells, then_splits, then_inhabited, then_short_first, then_short_second, then_refused_first, then_refused_second}
 use Rattle.asn_rules.specs.Chunks.{Chunk, ones}
 use Rattle.asn_rules.specs.Forks.{Same}
 use Rattle.asn_rules.specs.General.{Length, last, fragment, Left, Blocks, Header, together, after_first, Body, Once, Within, General}
@@ -288,3 +288,12 @@ general_rest_only {A} {R} L {S} {m} {vs} {ws} {us} {r} {x} {s} ok i law h f g =
     let u = taken f in
     let split : us ≡ (t.0 ++ u.0) ++ x = t.2 ∙ ap (λ (l : List ℕ). t.0 ++ l) u.2 ∙ sym (append_assoc t.0 u.0 x) in
     map_source ((general_blocks L S m ok i law t.1 u.1).read ws x s (subst (λ (l : List ℕ). Spells R (General L S) ws l s) split g))
+
+-- of a fragment these are the first
+pub general_row_only : {A : Type 0} {R : Fielding} (L : A → List Chunk → Type 0) {S : ℕ → Type 0} {m : ℕ} {ws : List A} {us r s : List ℕ} → FieldsPart R → Inhabited L → Spells R (Header S) (fragment m) us r → Spells R (General L S) ws us s
+    → (vs : List A) × (xs : List A) × (x : List ℕ) × Spells R (Row L (16384 * m)) vs r x × (ws ≡ vs ++ xs)
+general_row_only {A} {R} L {S} {m} {ws} {us} {r} {s} ok i h g =
+    let t = taken h in
+    let w = map_source ((general_fragment L S m ok i t.1).read ws r s (subst (λ (l : List ℕ). Spells R (General L S) ws l s) t.2 g)) in
+    let b = then_splits w.1 in
+    (w.0.0, w.0.1, b.rest, b.earlier, w.2)

@@ -34,7 +34,7 @@ use Rattle.asn_walk_feed.specs.Feeding.{FeedLaws}
 use Rattle.asn_walk_feed.specs.Keeping.{kept_in, KeepLaws}
 use Rattle.asn_walk_feed.specs.OpenFields.{FieldLaws}
 use Rattle.asn_walk_feed.specs.Strings.{StringLaws}
-use Rattle.asn_walk_feed.proofs.Kept.{kept_of}
+use Rattle.asn_walk_feed.proofs.KeptRead.{kept_of}
 use Rattle.asn_resuming.proofs.Counts.{count_of_seen}
 use Rattle.asn_resuming.proofs.NextOctets.{reached_none}
 

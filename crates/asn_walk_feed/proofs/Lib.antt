@@ -6,6 +6,7 @@ pub mod FieldsKept
 pub mod FieldsRead
 pub mod Goings
 pub mod ItemsRead
+pub mod KeptNodes
 pub mod KeptRead
 pub mod Leaves
 pub mod Levels

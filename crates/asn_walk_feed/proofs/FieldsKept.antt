@@ -76,27 +76,24 @@ row_begins {A} L ok law (suc i) m (suc k) e row ys us q s f h =
     (later.0, y.2 ∙ (λ j. o.0 j ∷ later.1 j) ∙ ap (λ (l : List A). l ++ later.0) (sym x.2))
 
 module _ {A : Type 0} (c : Coding) (laws : Laws c) (L : A → List Chunk → Type 0) (some : Inhabited L) (law : Lawful L) {T : List A → List Chunk → Type 0} where
-  abbrev R : Fielding
-  R = c.ruling.fielding
-
-  told_at : (n : ℕ) (ahead : Ahead) (es : List A) (us come : List ℕ) → Stands c L T n ahead es us come → (ws : List A) (s : List ℕ) → Spells R T ws us s → (zs : List A) × (ws ≡ es ++ zs)
+  told_at : (n : ℕ) (ahead : Ahead) (es : List A) (us come : List ℕ) → Stands c L T n ahead es us come → (ws : List A) (s : List ℕ) → Spells c.ruling.fielding T ws us s → (zs : List A) × (ws ≡ es ++ zs)
   told_at zero ahead es us come h ws s k = (let o = h.only ws s k in (o.0, o.1))
   told_at (suc n) ahead es us come h ws s k =
       let o = h.going.only ws s k in
       let z = go h.was h.next.advances o.0 o.2 in
       (z.0, o.1 ∙ ap (λ (l : List A). h.before ++ l) z.1 ∙ sym (append_assoc h.before h.so_far.row z.0) ∙ ap (λ (l : List A). l ++ z.0) (sym h.so_far.same))
     where
-      in_row : (ys : List A) (q : List ℕ) → Spells R (Row L h.count) ys h.first q → (zs : List A) × (ys ≡ h.so_far.row ++ zs)
+      in_row : (ys : List A) (q : List ℕ) → Spells c.ruling.fielding (Row L h.count) ys h.first q → (zs : List A) × (ys ≡ h.so_far.row ++ zs)
       in_row ys q x = row_begins L (fields_part_of c laws) law h.done (suc n) h.count h.sum h.so_far.row ys h.first come q h.so_far.spelt x
 
-      go : (a : Ahead) → Advances R a (Some h.count) ahead h.rest h.first → (ys : List A) → Spells R (Remaining L a) ys h.rest s → (zs : List A) × (ys ≡ h.so_far.row ++ zs)
+      go : (a : Ahead) → Advances c.ruling.fielding a (Some h.count) ahead h.rest h.first → (ys : List A) → Spells c.ruling.fielding (Remaining L a) ys h.rest s → (zs : List A) × (ys ≡ h.so_far.row ++ zs)
       go end e ys x = absurd e
-      go (items k) e ys x = (let y : Spells R (Row L h.count) ys h.first s = rw (e.0, e.2) x in in_row ys s y)
+      go (items k) e ys x = (let y : Spells c.ruling.fielding (Row L h.count) ys h.first s = rw (e.0, e.2) x in in_row ys s y)
       go (lengths is so_far closed) e ys x = ⊎_elim
           (λ y. in_row ys s (general_last_only L (fields_part_of c laws) some y.0 x))
           (λ y.
             (let p = general_row_only L (fields_part_of c laws) some y.1 x in
-            let first : Spells R (Row L h.count) p.0 h.first p.2 = subst (λ (j : ℕ). Spells R (Row L j) p.0 h.first p.2) (sym y.2) p.3 in
+            let first : Spells c.ruling.fielding (Row L h.count) p.0 h.first p.2 = subst (λ (j : ℕ). Spells c.ruling.fielding (Row L j) p.0 h.first p.2) (sym y.2) p.3 in
             let z = in_row p.0 p.2 first in
             (z.0 ++ p.1, p.4 ∙ ap (λ (l : List A). l ++ p.1) z.1 ∙ append_assoc h.so_far.row z.0 p.1)))
           e.read

@@ -112,8 +112,8 @@ module _ {F : Type 0} (c : Coding) (laws : Laws c) (feeds : FeedLaws c) (fc : Fi
       w.begins
 
   -- a simple type that is no sealed field
-  waits_simple : {e : Option Datum} {b us : List ℕ} (t : Shape) → AllPlain (Spelt c.code e t) → Inhabited (Spelt c.code e t) → Waits c (Spelt c.code e t) b us → Opens R (Spelt c.code e t) us []
-  waits_simple {e} {us = us} t a i w = waits_in a (stands_same R us (record { to = λ v cs h. h; from = λ v cs h. h })) i w
+  waits_simple : (e : Option Datum) {b us : List ℕ} (t : Shape) → AllPlain (Spelt c.code e t) → Inhabited (Spelt c.code e t) → Waits c (Spelt c.code e t) b us → Opens R (Spelt c.code e t) us []
+  waits_simple e {us = us} t a i w = waits_in a (stands_same R us (record { to = λ v cs h. h; from = λ v cs h. h })) i w
 
   -- its items have come so far
   string_live : (t : Shape) (us : List ℕ) → InProfile t → IsString t → Short R (OctetsOf (fc.string t)) us → IsLive R (V t) us
@@ -156,7 +156,7 @@ module _ {F : Type 0} (c : Coding) (laws : Laws c) (feeds : FeedLaws c) (fc : Fi
     length_kept a come i (inl e) = subst (λ (l : List ℕ). Opens R (Remaining (V t) a) l []) (sym e) (opens_none (ahead_inhabited (V t) a element i))
     length_kept (items n) come i (inr x) = absurd (x.none (Some n, end) come (nothing_spells R (Some n, end) come))
     length_kept end come i (inr x) = absurd (x.none (None, end) come (record { chunks = []; spelt = record { same = refl; empty = refl }; contents = tt; split = refl }))
-    length_kept (lengths is so_far closed) come i (inr x) = opens_in ok (stands_length R come element) (opens_plain (header_plain (At (Spanned is) so_far closed)) (map_dead x.live))
+    length_kept (lengths is so_far was_last) come i (inr x) = opens_in ok (stands_length R come element) (opens_plain (header_plain (At (Spanned is) so_far was_last)) (map_dead x.live))
 
     in_list : {os : List ℕ} → Opens R L us os → Opens R (V (sequence_of t s)) us os
     in_list x = opens_in ok (list_stands c laws t s us good) x
@@ -322,45 +322,45 @@ module _ {F : Type 0} (c : Coding) (laws : Laws c) (feeds : FeedLaws c) (fc : Fi
       abbrev N : ℕ
       N = addition_count more
 
-      abbrev left : ℕ
-      left = q.presence.left
+      abbrev many : ℕ
+      many = q.presence.left
 
-      abbrev bitmap : ℕ
-      bitmap = q.presence.bitmap
+      abbrev bits_of : ℕ
+      bits_of = q.presence.bitmap
 
-      abbrev all : List (Option Datum) → List Chunk → Type 0
-      all = OpenListed c (more_fields more) (bits N bitmap)
+      abbrev fields_open : List (Option Datum) → List Chunk → Type 0
+      fields_open = OpenListed c (more_fields more) (bits N bits_of)
 
       abbrev UpTo : List Part → ℕ → Type 0
-      UpTo rest n = AddedUpTo c h.before (more_fields more) (h.between ++ []) N bitmap rest n (entries_seen q.entries.items) ((h.come ++ []) ++ [])
+      UpTo rest n = AddedUpTo c h.before (more_fields more) (h.between ++ []) N bits_of rest n (entries_seen q.entries.items) ((h.come ++ []) ++ [])
 
-      in_additions : {A : Type 0} {M : A → List Chunk → Type 0} {os : List ℕ} → StandsIn R M ((h.come ++ []) ++ []) all (h.between ++ []) → Opens R M h.come os → Opens R (V (sequence root more)) us os
+      in_additions : {A : Type 0} {M : A → List Chunk → Type 0} {os : List ℕ} → StandsIn R M ((h.come ++ []) ++ []) fields_open (h.between ++ []) → Opens R M h.come os → Opens R (V (sequence root more)) us os
       in_additions {A} {M} s x =
           let r = h.root_read in
-          let one : StandsIn R M h.come all (h.between ++ []) = subst (λ (l : List ℕ). StandsIn R M l all (h.between ++ [])) (append-nil (h.come ++ []) ∙ append-nil h.come) s in
-          let two : StandsIn R M h.come all h.between = subst (λ (l : List ℕ). StandsIn R M h.come all l) (append-nil h.between) one in
+          let one : StandsIn R M h.come fields_open (h.between ++ []) = subst (λ (l : List ℕ). StandsIn R M l fields_open (h.between ++ [])) (append-nil (h.come ++ []) ∙ append-nil h.come) s in
+          let two : StandsIn R M h.come fields_open h.between = subst (λ (l : List ℕ). StandsIn R M h.come fields_open l) (append-nil h.between) one in
           let added_ones : StandsIn R (AdditionsOf c (more_fields more)) h.rest (V (sequence root more)) us = added_stands c laws root more good (true, r.bitmap) us r.between r.preamble h.before h.rest r.components in
-          opens_in ok (stands_on (stands_on two (open_stands c laws (more_fields more) (additions_good root more good) bitmap h.rest h.between h.bitmap)) added_ones) x
+          opens_in ok (stands_on (stands_on two (open_stands c laws (more_fields more) (additions_good root more good) bits_of h.rest h.between h.bitmap)) added_ones) x
 
-      -- nothing has come of those that are left
+      -- nothing has come of those that are many
       none_added : (rest : List Part) (n : ℕ) → UpTo rest n → (fs ≡ []) × (h.come ≡ []) → Opens R (V (sequence root more)) us (octets_of fs)
       none_added rest n st w =
-          let i : Inhabited (OpenListed c (fields_of rest) (bits n bitmap)) = open_listed_inhabited c laws (fields_of rest) (bits n bitmap) st.of_profile (length-digits 2 n bitmap ∙ st.width ∙ sym (length-demands rest)) in
-          rw w.0 (in_additions st.stands (subst (λ (l : List ℕ). Opens R (OpenListed c (fields_of rest) (bits n bitmap)) l []) (sym w.1) (opens_none i)))
+          let i : Inhabited (OpenListed c (fields_of rest) (bits n bits_of)) = open_listed_inhabited c laws (fields_of rest) (bits n bits_of) st.of_profile (length-digits 2 n bits_of ∙ st.width ∙ sym (length-demands rest)) in
+          rw w.0 (in_additions st.stands (subst (λ (l : List ℕ). Opens R (OpenListed c (fields_of rest) (bits n bits_of)) l []) (sym w.1) (opens_none i)))
 
       additions_kept : Opens R (V (sequence root more)) us (octets_of fs)
-      additions_kept = go left refl (drop (N - left) (parts_in (more_fields more))) (h.stands [])
+      additions_kept = go many refl (drop (N - many) (parts_in (more_fields more))) (h.stands [])
         where
-          by_bit : (n : ℕ) (p : Part) (ps : List Part) (st : UpTo (p ∷ ps) (suc n)) (b : Bool) → bit_of b ≡ bitmap / 2 ^ n % 2 → AdditionTook c fc ahead between fs b h.come → Opens R (V (sequence root more)) us (octets_of fs)
+          by_bit : (n : ℕ) (p : Part) (ps : List Part) (st : UpTo (p ∷ ps) (suc n)) (b : Bool) → bit_of b ≡ bits_of / 2 ^ n % 2 → AdditionTook c fc ahead between fs b h.come → Opens R (V (sequence root more)) us (octets_of fs)
           by_bit n p ps st false e k = none_added (p ∷ ps) (suc n) st k
           by_bit n p ps st true e k = in_additions (addition_stands c laws st n (omega arith) e) (open_kept fs p.shape h.come st.of_profile.0 k)
 
-          go : (n : ℕ) → left ≡ n → (rest : List Part) → UpTo rest left → Opens R (V (sequence root more)) us (octets_of fs)
-          go zero e rest st = none_added rest left st (rw e at h.inner)
+          go : (n : ℕ) → many ≡ n → (rest : List Part) → UpTo rest many → Opens R (V (sequence root more)) us (octets_of fs)
+          go zero e rest st = none_added rest many st (rw e at h.inner)
           go (suc n) e [] st = absurd (omega (arith, e, st.width))
           go (suc n) e (p ∷ ps) st =
-              let next : (x : Bool) → bit_of x ≡ bitmap / 2 ^ n % 2 → AdditionTook c fc ahead between fs x h.come = subst (λ (k : ℕ). NextAdditionTook c fc ahead between fs k bitmap h.come) e h.inner in
-              let x = a_bit (bitmap / 2 ^ n % 2) (omega arith) in
+              let next : (x : Bool) → bit_of x ≡ bits_of / 2 ^ n % 2 → AdditionTook c fc ahead between fs x h.come = subst (λ (k : ℕ). NextAdditionTook c fc ahead between fs k bits_of h.come) e h.inner in
+              let x = a_bit (bits_of / 2 ^ n % 2) (omega arith) in
               by_bit n p ps (subst (λ (k : ℕ). UpTo (p ∷ ps) k) e st) x.0 x.1 (next x.0 x.1)
 
   -- ---- CHOICE
@@ -396,10 +396,10 @@ module _ {F : Type 0} (c : Coding) (laws : Laws c) (feeds : FeedLaws c) (fc : Fi
 
   kept : (fs : List (Frame F)) → Again fs
   kept [] t us good h = subst (λ (l : List ℕ). Opens R (V t) l []) (sym h) (opens_none (some t good))
-  kept (frame.Start b ∷ []) boolean us good h = waits_simple boolean (keep.unsealed boolean good tt) (some boolean good) h
-  kept (frame.Start b ∷ []) null us good h = waits_simple null (keep.unsealed null good tt) (some null good) h
-  kept (frame.Start b ∷ []) (integer r) us good h = waits_simple (integer r) (keep.unsealed (integer r) good tt) (some (integer r) good) h
-  kept (frame.Start b ∷ []) (enumerated root more) us good h = waits_simple (enumerated root more) (keep.unsealed (enumerated root more) good tt) (some (enumerated root more) good) h
+  kept (frame.Start b ∷ []) boolean us good h = waits_simple None boolean (keep.unsealed boolean good tt) (some boolean good) h
+  kept (frame.Start b ∷ []) null us good h = waits_simple None null (keep.unsealed null good tt) (some null good) h
+  kept (frame.Start b ∷ []) (integer r) us good h = waits_simple None (integer r) (keep.unsealed (integer r) good tt) (some (integer r) good) h
+  kept (frame.Start b ∷ []) (enumerated root more) us good h = waits_simple None (enumerated root more) (keep.unsealed (enumerated root more) good tt) (some (enumerated root more) good) h
   kept (frame.Start b ∷ []) (bit_string s) us good h = string_starts (bit_string s) b us good tt (keep.unsealed (bit_string s) good tt) h
   kept (frame.Start b ∷ []) (octet_string s) us good h = string_starts (octet_string s) b us good tt (keep.unsealed (octet_string s) good tt) h
   kept (frame.Start b ∷ []) (restricted k s) us good h = string_starts (restricted k s) b us good tt (keep.unsealed (restricted k s) good tt) h

@@ -11,12 +11,12 @@ use asn_values::AsnType;
 pub(crate) fn kept_in<'a, F>(ty: &AsnType, stack: &'a [Frame<F>]) -> &'a [u8]
     ensures { result.now ≡ kept_in (reverse stack.now) (shape_of ty.now) }
 {
-    let mut ty = ty;
-    let mut stack = stack;
-    while let Some((node, inner)) = stack.split_last() {
+    let mut part = ty;
+    let mut nodes = stack;
+    while let Some((node, inner)) = nodes.split_last() {
         match node {
             Frame::Octets(octets) => {
-                return match ty {
+                return match part {
                     AsnType::Utf8 => octets.elements.as_slice(),
                     _ => &[],
                 };
@@ -24,11 +24,11 @@ pub(crate) fn kept_in<'a, F>(ty: &AsnType, stack: &'a [Frame<F>]) -> &'a [u8]
             Frame::Additions(_) | Frame::Added(_) => return octets_of(inner),
             Frame::Start(_) | Frame::Bitmap(_) => return &[],
             Frame::Elements(_) | Frame::Components(_) | Frame::Chosen(_) => {
-                let Some(part) = part_of(ty, node, inner) else {
+                let Some(next) = part_of(part, node, inner) else {
                     return &[];
                 };
-                ty = part;
-                stack = inner;
+                part = next;
+                nodes = inner;
             }
         }
     }
@@ -55,10 +55,22 @@ fn part_of<'t, F>(ty: &'t AsnType, node: &Frame<F>, inner: &[Frame<F>]) -> Optio
     match (node, ty) {
         (Frame::Elements(_), AsnType::SeqOf(element, _)) => Some(element),
         (Frame::Components(read), AsnType::Seq { root, .. }) => {
-            Some(&root.as_slice().get(read.entries.len())?.ty)
+            let root = root.as_slice();
+            let index = read.entries.len();
+            if index < root.len() {
+                Some(&root[index].ty)
+            } else {
+                None
+            }
         }
         (Frame::Chosen(index), AsnType::Choice { root, .. }) => {
-            Some(&root.as_slice().get(*index)?.ty)
+            let root = root.as_slice();
+            let index = *index;
+            if index < root.len() {
+                Some(&root[index].ty)
+            } else {
+                None
+            }
         }
         _ => None,
     }

@@ -175,6 +175,8 @@ impl FeedLeaves for OerInPieces {
     fn keep_field_laws() {}
 
     fn keep_string_laws() {}
+
+    fn keep_kept_laws() {}
 }
 
 #[tactic(auto, unfolding(crate::specs::Walk::oer_coding))]

@@ -113,6 +113,10 @@ impl Rules for Oer {
         session.ticks()
     }
 
+    fn kept(session: &OerSession) -> &[u8] {
+        session.kept()
+    }
+
     fn finish(session: OerSession) -> Result<(), Truncated> {
         session.finish()
     }

@@ -5,6 +5,7 @@ ghost use Rattle.asn_values.specs.Shape.{Shape};
 ghost use Rattle.asn_values.specs.View.{shape_of};
 ghost use Rattle.asn_values.specs.contracts.checked.Checked as types;
 ghost use Rattle.asn_values.specs.contracts.value.Value as values;
+ghost use Rattle.asn_rules.specs.Kept.{Keeps};
 ghost use Rattle.asn_rules.specs.Sessions.{Past, waiting, Feeds, Finished};
 ghost use Rattle.asn_rules.specs.Ticks.{Counts, TicksOn};
 ghost use Rattle.asn_resuming.specs.declared.session.Resuming.{Resuming as TheResuming};
@@ -65,6 +66,13 @@ impl OerSession {
         ensures seen { Counts oer_ruling OerTook self.now result }
     {
         asn_resuming::ticks::<OerInPieces>(&self.inner)
+    }
+
+    /// The octets that it keeps. Takes no memory.
+    pub(crate) fn kept(&self) -> &[u8]
+        ensures { Keeps oer_ruling OerTook self.now result.now }
+    {
+        asn_resuming::kept::<OerInPieces>(&self.inner)
     }
 
     /// Ends the session. Takes no memory.

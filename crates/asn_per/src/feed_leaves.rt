@@ -105,6 +105,8 @@ impl FeedLeaves for PerInPieces {
     fn keep_field_laws() {}
 
     fn keep_string_laws() {}
+
+    fn keep_kept_laws() {}
 }
 
 /// Reads what stands before the items of a string or an open type field under the size. No item stands there.

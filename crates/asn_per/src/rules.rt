@@ -112,6 +112,10 @@ impl Rules for Per {
         session.ticks()
     }
 
+    fn kept(session: &PerSession) -> &[u8] {
+        session.kept()
+    }
+
     fn finish(session: PerSession) -> Result<(), Truncated> {
         session.finish()
     }

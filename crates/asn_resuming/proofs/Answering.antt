@@ -28,7 +28,13 @@ use Rattle.asn_resuming.specs.Reached.{Reached, GoesOn}
 use Rattle.asn_resuming.specs.Resumed.{Resumes}
 use Rattle.asn_resuming.specs.declared.session.Resuming.{Resuming}
 use Rattle.asn_resuming.specs.declared.session.State.TheVariants as state
+use Rattle.asn_rules.specs.Kept.{KeptOf, Kept}
 use Rattle.asn_rules.specs.Ticks.{Counted}
+use Rattle.asn_walk_feed.specs.Feeding.{FeedLaws}
+use Rattle.asn_walk_feed.specs.Keeping.{kept_in, KeepLaws}
+use Rattle.asn_walk_feed.specs.OpenFields.{FieldLaws}
+use Rattle.asn_walk_feed.specs.Strings.{StringLaws}
+use Rattle.asn_walk_feed.proofs.KeptRead.{kept_of}
 use Rattle.asn_resuming.proofs.Counts.{count_of_seen}
 use Rattle.asn_resuming.proofs.NextOctets.{reached_none}
 
@@ -199,3 +205,24 @@ counted_of c fc ahead between t q (stopped s feed.TooLong) n k l m = count_of_se
 counted_of c fc ahead between t q (stopped s feed.Memory) n k l m = tt
 counted_of c fc ahead between t q (stopped s feed.Spent) n k l m = tt
 counted_of c fc ahead between t q (over s) n k l m = tt
+
+-- it keeps the content so far of the sealed field that is open
+module _ {F : Type 0} (c : Coding) (laws : Laws c) (feeds : FeedLaws c) (fc : FieldCoding) (fields : FieldLaws c fc) (strings : StringLaws c fc) (keep : KeepLaws c fc) (ahead : F → Ahead) (between : F → Type 0) (t : Shape) (q : Resuming F) (os : List ℕ) where
+  pub waiting_keeps : q.state ≡ state.Waiting → os ≡ kept_in (nodes q.frames) (shape_of q.ty) → (past : Past) → Resumes c fc ahead between q t past → Kept c.ruling t past os
+  waiting_keeps e is (waiting s) k =
+      let here : KeptOf c.ruling t (c.ruling.units s) (kept_in (nodes q.frames) t) = kept_of c laws feeds fc fields strings keep ahead between (nodes q.frames) t (c.ruling.units s) k.of_profile k.goes_on.2.took in
+      let same : kept_in (nodes q.frames) t ≡ os = ap (λ (u : Shape). kept_in (nodes q.frames) u) (sym k.of_type) ∙ sym is in
+      subst (λ (l : List ℕ). KeptOf c.ruling t (c.ruling.units s) l) same here
+  waiting_keeps e is (stopped s fault) k = absurd (let clash : state.Waiting ≡ state.Stopped fault = sym e ∙ k.goes_on in cc)
+  waiting_keeps e is (over s) k = absurd (let clash : state.Waiting ≡ state.Over = sym e ∙ k.goes_on in cc)
+
+  -- and none at its end
+  pub stopped_keeps : (f : FeedFault) → q.state ≡ state.Stopped f → os ≡ [] → (past : Past) → Resumes c fc ahead between q t past → Kept c.ruling t past os
+  stopped_keeps f e is (waiting s) k = absurd (let clash : state.Stopped f ≡ state.Waiting = sym e ∙ k.goes_on.0 in cc)
+  stopped_keeps f e is (stopped s fault) k = is
+  stopped_keeps f e is (over s) k = is
+
+  pub over_keeps : q.state ≡ state.Over → os ≡ [] → (past : Past) → Resumes c fc ahead between q t past → Kept c.ruling t past os
+  over_keeps e is (waiting s) k = absurd (let clash : state.Over ≡ state.Waiting = sym e ∙ k.goes_on.0 in cc)
+  over_keeps e is (stopped s fault) k = is
+  over_keeps e is (over s) k = is

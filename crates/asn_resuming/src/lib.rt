@@ -6,4 +6,4 @@ mod reading;
 mod session;
 
 pub use reading::ReadsAtOnce;
-pub use session::{Resuming, feed, finish, open, ticks};
+pub use session::{Resuming, feed, finish, kept, open, ticks};

@@ -2,6 +2,7 @@
 ghost use Rattle.std.specs.Prelude.{◌≡◌, [], ℕ, List, IfOk};
 ghost use Rattle.asn_values.specs.Shape.{Shape};
 ghost use Rattle.asn_values.specs.View.{shape_of};
+ghost use Rattle.asn_rules.specs.Kept.{Keeps};
 ghost use Rattle.asn_rules.specs.Sessions.{Past, waiting, Feeds, Finished};
 ghost use Rattle.asn_rules.specs.Ticks.{Counts, TicksOn};
 ghost use Rattle.asn_walk_feed.specs.Counts.{count_of};
@@ -107,6 +108,7 @@ pub fn feed<R: ReadsAtOnce>(
         Ok(Step::More) => {
             session.end = Err(Truncated { taken: units });
             if octets == MAX_OCTETS {
+                session.frames = Frames::none(session.alloc);
                 session.state = State::Stopped(FeedFault::TooLong);
                 return Err(FeedFault::TooLong);
             }
@@ -117,6 +119,7 @@ pub fn feed<R: ReadsAtOnce>(
         Err(FeedFault::Refused { at, why }) => {
             let taken = at.saturating_sub(1);
             session.end = Err(Truncated { taken });
+            session.frames = Frames::none(session.alloc);
             session.state = State::Stopped(FeedFault::Refused { at, why });
             Err(FeedFault::Refused { at, why })
         }
@@ -134,6 +137,21 @@ pub fn ticks<R: FeedLeaves>(session: &Resuming<R::Fragments>) -> u64
     ensures seen { Counts R.rules.ruling (λ q. Resumes R.rules R.fields R.ahead R.is_between q) session.now result }
 {
     session.ticks.count()
+}
+
+/// The octets that the session keeps: see `asn_rules::Rules::kept`. Takes no memory.
+pub fn kept<R: FeedLeaves>(session: &Resuming<R::Fragments>) -> &[u8]
+    ensures { Keeps R.rules.ruling (λ q. Resumes R.rules R.fields R.ahead R.is_between q) session.now result.now }
+{
+    R::keep_laws();
+    R::keep_feed_laws();
+    R::keep_field_laws();
+    R::keep_string_laws();
+    R::keep_kept_laws();
+    match session.state {
+        State::Waiting => session.frames.kept(session.ty.get()),
+        State::Stopped(_) | State::Over => &[],
+    }
 }
 
 /// Ends a session: see `asn_rules::Rules::finish`. Takes no memory.

@@ -7,3 +7,4 @@ pub mod Spellings
 pub mod PlainUnits
 pub mod Leads
 pub mod Exits
+pub mod Standing

@@ -2,6 +2,7 @@
 ghost use Rattle.std.specs.Prelude.{◌≡◌, [], IfOk};
 ghost use Rattle.asn_values.specs.Shape.{Shape};
 ghost use Rattle.asn_values.specs.View.{shape_of};
+ghost use Rattle.asn_rules.specs.Kept.{Keeps};
 ghost use Rattle.asn_rules.specs.Sessions.{Past, waiting, Feeds, Finished};
 ghost use Rattle.asn_rules.specs.Ticks.{Counts, TicksOn};
 
@@ -47,6 +48,13 @@ impl<R: Rules> Session<R> {
         ensures seen { Counts R.ruling (λ q. R.took q.inner) self.now result }
     {
         R::ticks(&self.inner)
+    }
+
+    /// The octets that it keeps: see `Rules::kept`. Takes no memory.
+    pub fn kept(&self) -> &[u8]
+        ensures { Keeps R.ruling (λ q. R.took q.inner) self.now result.now }
+    {
+        R::kept(&self.inner)
     }
 
     /// Ends the session: whether the octets taken are a whole encoding. Takes no memory.

@@ -6,6 +6,7 @@ ghost use Rattle.asn_rules.specs.Answer.{Ruling, IsEncoding, max_octets};
 ghost use Rattle.asn_rules.specs.Codec.{NotEncoded, Decoded, DecodedFront};
 ghost use Rattle.asn_rules.specs.Delivered.{Encoded, NotDelivered};
 ghost use Rattle.asn_rules.specs.Held.{state_held};
+ghost use Rattle.asn_rules.specs.Kept.{Keeps};
 ghost use Rattle.asn_rules.specs.Laws.{RulesLaws};
 ghost use Rattle.asn_rules.specs.Measured.{IsLength, NotMeasured, Placed, NotPlaced};
 ghost use Rattle.asn_rules.specs.Reading.{RulesTell};
@@ -150,6 +151,12 @@ pub trait Rules {
     fn ticks(session: &Self::Session) -> u64
         ensures count { result ≡ ticked session.now }
         ensures seen { Counts ruling took session.now result };
+
+    /// The octets that the session keeps of those that it took: the content so far, in whole octets, of the open type field
+    /// or the UTF8String in which they end; none where they end in no such field, or where the session does not go on.
+    /// Takes no memory.
+    fn kept(session: &Self::Session) -> &[u8]
+        ensures { Keeps ruling took session.now result.now };
 
     /// Ends a session. Takes no memory.
     ///

@@ -16,6 +16,7 @@ use Rattle.asn_rules.specs.General.{after_first}
 use Rattle.asn_rules.specs.Live.{Fielding}
 use Rattle.asn_rules.specs.Languages.{Spells, Inhabited, Then, Map, prepended}
 use Rattle.asn_rules.proofs.Languages.Leads.{LeadsStops, Leads, leads_here, leads_on, leads_map, leads_second, stops_first, stops_on}
+use Rattle.asn_rules.proofs.Languages.Standing.{StandsIn, stands_here, stands_on, stands_map, stands_first, stands_second}
 use Rattle.asn_rules.proofs.Components.ListedReading.{leads_entry, nothing_read}
 use Rattle.asn_rules.proofs.Languages.Parts.{map_inhabited, map_lawful, map_source, map_spells, nothing_inhabited}
 use Rattle.asn_rules.proofs.Languages.Then.{Follows, then_inhabited}
@@ -32,7 +33,7 @@ abbrev Present : Coding → Shape → (List (Option Datum) → List Chunk → Ty
 Present c t M = Map prepended (Then (Map Some (OpenOf c t)) (λ _. M))
 
 -- whatever the bits are, additions have entries
-open_listed_inhabited : (c : Coding) (laws : Laws c) (fs : Fields) (bs : List ℕ) → AreOfProfile fs
+pub open_listed_inhabited : (c : Coding) (laws : Laws c) (fs : Fields) (bs : List ℕ) → AreOfProfile fs
     → length bs ≡ length (demands fs) → Inhabited (OpenListed c fs bs)
 open_listed_inhabited c laws no_fields bs good l = nothing_inhabited []
 open_listed_inhabited c laws (field name demand t fs) [] good l = absurd (omega arith)
@@ -51,6 +52,17 @@ module _ (c : Coding) (laws : Laws c) (fs : Fields) (good : AreOfProfile fs) whe
   -- some addition is spelt
   pub some_additions : 0 < length (demands fs) → Inhabited (AdditionsOf c fs)
   some_additions some = map_inhabited (then_inhabited (record { value = 1; chunks = _; spelt = record { fits = (omega arith, omega (arith, some, lt-two_pow (length (demands fs)))); same = refl } }) bitmap_follows)
+
+  -- the bitmap stands in front, and after it the open fields
+  pub bitmap_stands : (us : List ℕ)
+      → StandsIn c.ruling.fielding (AdditionBitmapOf c (length (demands fs))) us (AdditionsOf c fs) us
+  bitmap_stands us = stands_on (stands_first c.ruling.fielding us bitmap_follows) (stands_map c.ruling.fielding after_first (Then (AdditionBitmapOf c (length (demands fs))) (λ b. OpenListed c fs (bits (length (demands fs)) b))) us)
+
+  pub open_stands : (b : ℕ) (us r : List ℕ) → Spells c.ruling.fielding (AdditionBitmapOf c (length (demands fs))) b us r
+      → StandsIn c.ruling.fielding (OpenListed c fs (bits (length (demands fs)) b)) r (AdditionsOf c fs) us
+  open_stands b us r h =
+      stands_on (stands_second {M = λ b. OpenListed c fs (bits (length (demands fs)) b)} h)
+      (stands_map c.ruling.fielding after_first (Then (AdditionBitmapOf c (length (demands fs))) (λ b. OpenListed c fs (bits (length (demands fs)) b))) us)
 
   -- within the bitmap
   bitmap_stops : (us : List ℕ)
@@ -75,6 +87,8 @@ pub record AddedUpTo (c : Coding) (before : List (Option Datum)) (all : Fields) 
   pub after : entries ≡ before ++ read
   pub leads : Leads c.ruling.fielding (OpenListed c (fields_of rest) (bits left bitmap)) vs (λ es. read ++ es)
       (OpenListed c all (bits count bitmap)) us
+  pub stands : StandsIn c.ruling.fielding (OpenListed c (fields_of rest) (bits left bitmap)) vs
+      (OpenListed c all (bits count bitmap)) us
 
 -- none was read
 pub added_starts : (c : Coding) (before : List (Option Datum)) (fields : List Field) (count bitmap : ℕ) (us : List ℕ)
@@ -87,6 +101,7 @@ added_starts c before fields count bitmap us good e few = record {
   read = [];
   after = sym (append-nil before);
   leads = leads_here c.ruling.fielding (OpenListed c (fields_seen fields) (bits count bitmap)) us;
+  stands = stands_here c.ruling.fielding (OpenListed c (fields_seen fields) (bits count bitmap)) us;
 }
 
 module _ (c : Coding) (laws : Laws c) (fields : List Field) (good : AreOfProfile (fields_seen fields)) where
@@ -137,6 +152,17 @@ module _ (c : Coding) (laws : Laws c) {before : List (Option Datum)} {all : Fiel
           (λ es. h.read ++ es) (OpenListed c all (bits count bitmap)) us
       present_leads = let f = next_bit left after bitmap 1 d b in rw f at h.leads
 
+      present_stands : StandsIn c.ruling.fielding (Present c p.shape (OpenListed c (fields_of rest) (bits after bitmap))) vs
+          (OpenListed c all (bits count bitmap)) us
+      present_stands = let f = next_bit left after bitmap 1 d b in rw f at h.stands
+
+      -- its open field stands there
+      pub addition_stands : StandsIn c.ruling.fielding (OpenOf c p.shape) vs (OpenListed c all (bits count bitmap)) us
+      addition_stands =
+          stands_on (stands_map c.ruling.fielding Some (OpenOf c p.shape) vs)
+          (stands_on (stands_first c.ruling.fielding vs (record { follow = λ v cs g. rest_inhabited }))
+          (stands_on (stands_map c.ruling.fielding prepended (Then (Map Some (OpenOf c p.shape)) (λ _. OpenListed c (fields_of rest) (bits after bitmap))) vs) present_stands))
+
       -- within its open field
       pub addition_stops : LeadsStops c.ruling.fielding (OpenOf c p.shape) vs (OpenListed c all (bits count bitmap)) us
       addition_stops =
@@ -158,6 +184,10 @@ module _ (c : Coding) (laws : Laws c) {before : List (Option Datum)} {all : Fiel
             (leads_on (leads_second {M = λ _. OpenListed c (fields_of rest) (bits after bitmap)} (fields_part_of c laws) (map_lawful some_same (open_lawful c laws p.shape h.of_profile.0)) (map_spells {f = Some} g))
             (leads_map c.ruling.fielding prepended (Then (Map Some (OpenOf c p.shape)) (λ _. OpenListed c (fields_of rest) (bits after bitmap))) vs))
             present_leads;
+        stands =
+            stands_on (stands_on (stands_second {M = λ _. OpenListed c (fields_of rest) (bits after bitmap)} (map_spells {f = Some} g))
+            (stands_map c.ruling.fielding prepended (Then (Map Some (OpenOf c p.shape)) (λ _. OpenListed c (fields_of rest) (bits after bitmap))) vs))
+            present_stands;
       }
 
     -- it is absent
@@ -166,6 +196,7 @@ module _ (c : Coding) (laws : Laws c) {before : List (Option Datum)} {all : Fiel
     addition_absent b =
         let f = next_bit left after bitmap 0 d b in
         let l : Leads c.ruling.fielding (Map (λ es. None ∷ es) (OpenListed c (fields_of rest) (bits after bitmap))) vs (λ es. h.read ++ es) (OpenListed c all (bits count bitmap)) us = rw f at h.leads in
+        let there : StandsIn c.ruling.fielding (Map (λ es. None ∷ es) (OpenListed c (fields_of rest) (bits after bitmap))) vs (OpenListed c all (bits count bitmap)) us = rw f at h.stands in
         record {
           of_profile = h.of_profile.2;
           width = others;
@@ -173,6 +204,7 @@ module _ (c : Coding) (laws : Laws c) {before : List (Option Datum)} {all : Fiel
           read = h.read ++ None ∷ [];
           after = ap (λ (es : List (Option Datum)). es ++ None ∷ []) h.after ∙ append_assoc before h.read (None ∷ []);
           leads = leads_entry h.read None (leads_map c.ruling.fielding (λ es. None ∷ es) (OpenListed c (fields_of rest) (bits after bitmap)) vs) l;
+          stands = stands_on (stands_map c.ruling.fielding (λ es. None ∷ es) (OpenListed c (fields_of rest) (bits after bitmap)) vs) there;
         }
 
 -- no addition is left: all entries are read

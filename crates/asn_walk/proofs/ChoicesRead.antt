@@ -13,6 +13,7 @@ use Rattle.asn_values.specs.Parts.{AreAllOfProfile}
 use Rattle.asn_rules.specs.Languages.{Spells, Then, Inhabited}
 use Rattle.asn_rules.specs.Listed.{Spelt}
 use Rattle.asn_rules.proofs.Languages.Leads.{LeadsStops, Leads, leads_here, leads_on, leads_map, leads_same, leads_second, stops_first, stops_on}
+use Rattle.asn_rules.proofs.Languages.Standing.{StandsIn, stands_on, stands_map, stands_same, stands_first, stands_second}
 use Rattle.asn_rules.proofs.Components.Listed.{spelt_inhabited}
 use Rattle.asn_rules.proofs.Languages.Then.{Follows}
 use Rattle.asn_walk.specs.Coding.{Coding, OpenOf, AreFew, IndexOf, IsIndexWithin, ChosenOf, ChosenBy, chosen_value, added_alternatives}
@@ -69,6 +70,21 @@ module _ (c : Coding) (laws : Laws c) (root : Alternatives) (more : MoreAlternat
       → Leads c.ruling.fielding (Then (IndexOf c (count root) (added_alternatives more)) (ChosenBy c root more)) us
       (chosen_value root) (Spelt c.code None (choice root more)) us
   whole us = leads_on (leads_map c.ruling.fielding (chosen_value root) (Then (IndexOf c (count root) (added_alternatives more)) (ChosenBy c root more)) us) (leads_same c.ruling.fielding us (laws.choices root more good))
+
+  stands_whole : (us : List ℕ)
+      → StandsIn c.ruling.fielding (Then (IndexOf c (count root) (added_alternatives more)) (ChosenBy c root more)) us
+      (Spelt c.code None (choice root more)) us
+  stands_whole us = stands_on (stands_map c.ruling.fielding (chosen_value root) (Then (IndexOf c (count root) (added_alternatives more)) (ChosenBy c root more)) us) (stands_same c.ruling.fielding us (laws.choices root more good))
+
+  -- the index stands in front, and after it the value
+  pub index_stands : (us : List ℕ)
+      → StandsIn c.ruling.fielding (IndexOf c (count root) (added_alternatives more)) us (Spelt c.code None (choice root more)) us
+  index_stands us = stands_on (stands_first c.ruling.fielding us follows) (stands_whole us)
+
+  pub value_stands : (i : ℕ ⊎ ℕ) (us r : List ℕ)
+      → Spells c.ruling.fielding (IndexOf c (count root) (added_alternatives more)) i us r
+      → StandsIn c.ruling.fielding (ChosenBy c root more i) r (Spelt c.code None (choice root more)) us
+  value_stands i us r h = stands_on (stands_second {M = ChosenBy c root more} h) (stands_whole us)
 
   -- within the index
   pub index_stops : (us : List ℕ)

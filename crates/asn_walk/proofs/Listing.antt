@@ -17,13 +17,14 @@ use Rattle.asn_rules.specs.declared.stop.Stop.{Stop}
 use Rattle.asn_rules.proofs.Live.Chunks.{FieldsPart}
 use Rattle.asn_rules.proofs.Languages.Leads.{LeadsStops, Leads, leads_here, leads_on, leads_map, leads_second, leads_same, stops_on, stops_first, stops_by}
 use Rattle.asn_rules.proofs.Languages.Exits.{leads_last, leads_rest, stops_length, stops_fragment, stops_next}
-use Rattle.asn_rules.proofs.Languages.Forks.{same_flip}
-use Rattle.asn_rules.proofs.Numbers.General.{general_inhabited}
+use Rattle.asn_rules.proofs.Languages.Forks.{same_flip, same_spells}
+use Rattle.asn_rules.proofs.Languages.Standing.{StandsIn, stands_here, stands_on, stands_map, stands_same, stands_first, stands_second, stands_end, stands_next, stands_last, stands_fragment, stands_rest}
+use Rattle.asn_rules.proofs.Numbers.General.{general_inhabited, general_last_only, general_rest_only}
 use Rattle.asn_rules.proofs.Numbers.Headers.{header_tells}
 use Rattle.asn_rules.proofs.Languages.Parts.{map_source, map_spells, nothing_inhabited, nothing_spells}
 use Rattle.asn_rules.proofs.Numbers.Ranges.{general_left}
-use Rattle.asn_rules.proofs.Languages.Rows.{row_inhabited, row_starts, row_spells, row_one}
-use Rattle.asn_rules.proofs.Languages.Then.{Follows}
+use Rattle.asn_rules.proofs.Languages.Rows.{row_inhabited, row_lawful, row_starts, row_spells, row_one}
+use Rattle.asn_rules.proofs.Languages.Then.{Follows, one_front, then_splits}
 use Rattle.asn_walk.specs.Ahead.{Ahead, items, lengths, end, Remaining, SomeAhead, Advances, Next, StopsNext}
 use Rattle.asn_walk.specs.Coding.{Coding, ListingOf}
 use Rattle.asn_walk.specs.Laws.{Laws, IsSizeOfProfile}
@@ -66,7 +67,7 @@ appends_stops_next {L = L} i m k part law some e f = stops_next L i m k part law
 -- ---- what stands in front of the items
 
 -- some list is ahead
-ahead_inhabited : {A : Type 0} (L : A → List Chunk → Type 0) (a : Ahead) → Inhabited L → SomeAhead a
+pub ahead_inhabited : {A : Type 0} (L : A → List Chunk → Type 0) (a : Ahead) → Inhabited L → SomeAhead a
     → Inhabited (Remaining L a)
 ahead_inhabited L (items n) i h = row_inhabited i n
 ahead_inhabited L (lengths is so_far closed) i h = general_inhabited i h.0 h.1
@@ -91,9 +92,18 @@ pub start_leads : {A : Type 0} (c : Coding) (laws : Laws c) (L : A → List Chun
 start_leads {A} c laws L s {ahead} {us} good h =
     leads_on (leads_second {M = λ a. Remaining L a} (fields_part_of c laws) (laws.list_start s good) h) (leads_map c.ruling.fielding after_first (Then (c.list_start s) (λ a. Remaining L a)) us)
 
--- after the items vs: a list of what is ahead, put after them, is the whole list
+-- what stands before the items stands in front
+pub start_stands : {A : Type 0} (c : Coding) (laws : Laws c) (L : A → List Chunk → Type 0) (s : SizeRange) (us : List ℕ)
+    → IsSizeOfProfile s → Inhabited L → StandsIn c.ruling.fielding (c.list_start s) us (ListingOf c s L) us
+start_stands c laws L s us good i = stands_on (stands_first c.ruling.fielding us (front_follows c laws L s good i)) (stands_map c.ruling.fielding after_first (Then (c.list_start s) (λ a. Remaining L a)) us)
+
+-- after the items vs: a list of what is ahead, put after them, is the whole list, and stands there; and each whole list
+-- that the units begin with is such a one
 pub record Going {A : Type 0} (c : Coding) (L : A → List Chunk → Type 0) (T : List A → List Chunk → Type 0) (us : List ℕ) (ahead : Ahead) (vs : List A) (rest : List ℕ) : Type 0 where
   pub leads : Leads c.ruling.fielding (Remaining L ahead) rest (λ ws. vs ++ ws) T us
+  pub stands : StandsIn c.ruling.fielding (Remaining L ahead) rest T us
+  pub only : (ws : List A) (s : List ℕ) → Spells c.ruling.fielding T ws us s
+      → (xs : List A) × (ws ≡ vs ++ xs) × Spells c.ruling.fielding (Remaining L ahead) xs rest s
 
 -- the elements that were there before, those that were read, and what is ahead
 pub record FragmentsUpTo {A : Type 0} (c : Coding) (L : A → List Chunk → Type 0) (T : List A → List Chunk → Type 0) (us : List ℕ) (before : List A) (ahead : Ahead) (elements : List A) (rest : List ℕ) : Type 0 where
@@ -101,10 +111,29 @@ pub record FragmentsUpTo {A : Type 0} (c : Coding) (L : A → List Chunk → Typ
   pub after : elements ≡ before ++ read
   pub going : Going c L T us ahead read rest
 
+-- after what stands before the items
+pub going_starts : {A : Type 0} (c : Coding) (laws : Laws c) (L : A → List Chunk → Type 0) (s : SizeRange)
+    (ahead : Ahead) (us rest : List ℕ) → IsSizeOfProfile s → Spells c.ruling.fielding (c.list_start s) ahead us rest
+    → Going c L (ListingOf c s L) us ahead [] rest
+going_starts c laws L s ahead us rest good h = record {
+  leads = start_leads c laws L s good h;
+  stands = stands_on (stands_second {M = λ a. Remaining L a} h) (stands_map c.ruling.fielding after_first (Then (c.list_start s) (λ a. Remaining L a)) us);
+  only = λ ws t k.
+      let w = map_source k in
+      let b = then_splits w.1 in
+      let o = one_front (fields_part_of c laws) (laws.list_start s good) b.earlier h in
+      let later : Spells c.ruling.fielding (Remaining L ahead) w.0.1 b.rest t = subst (λ a. Spells c.ruling.fielding (Remaining L a) w.0.1 b.rest t) o.0 b.later in
+      (w.0.1, w.2, subst (λ (l : List ℕ). Spells c.ruling.fielding (Remaining L ahead) w.0.1 l t) o.1 later);
+}
+
 -- none was read
 pub fragments_start : {A : Type 0} (c : Coding) (L : A → List Chunk → Type 0) (us : List ℕ) (before : List A)
     (ahead : Ahead) → FragmentsUpTo c L (Remaining L ahead) us before ahead before us
-fragments_start c L us before ahead = record { read = []; after = sym (append-nil before); going = record { leads = leads_here c.ruling.fielding (Remaining L ahead) us } }
+fragments_start c L us before ahead = record { read = []; after = sym (append-nil before); going = record {
+  leads = leads_here c.ruling.fielding (Remaining L ahead) us;
+  stands = stands_here c.ruling.fielding (Remaining L ahead) us;
+  only = λ ws s h. (ws, refl, h);
+} }
 
 -- the reader of a length stops
 pub going_stops : {A : Type 0} {c : Coding} {L : A → List Chunk → Type 0} {T : List A → List Chunk → Type 0}
@@ -144,7 +173,7 @@ going_row_stops {A} c laws {L} {T} {us} {rest} {r} {ahead} {new} {vs} {k} i h g 
         e.read
 
 -- what is left after a fragment
-left_ahead : {A : Type 0} (c : Coding) (L : A → List Chunk → Type 0) (is : List (ℕ × Option ℕ)) (so_far k m : ℕ)
+pub left_ahead : {A : Type 0} (c : Coding) (L : A → List Chunk → Type 0) (is : List (ℕ × Option ℕ)) (so_far k m : ℕ)
     (closed : Bool) {us r : List ℕ} → Spells c.ruling.fielding (Header (At (Spanned is) so_far closed)) (fragment m) us r
     → k ≡ 16384 * m
     → Same (General L (Left (At (Spanned is) so_far closed) m)) (Remaining L (lengths is (so_far + k) (nat_lt m 4)))
@@ -159,7 +188,7 @@ pub going_further : {A : Type 0} (c : Coding) (laws : Laws c) {L : A → List Ch
     {T : List A → List Chunk → Type 0} {us rest r t : List ℕ} {ahead new : Ahead} {vs ws : List A} {k : ℕ} → Inhabited L
     → Lawful L → Next c.ruling.fielding ahead (Some k) new rest r → Appends c.ruling.fielding L k vs ws r t
     → Going c L T us ahead vs rest → Going c L T us new ws t
-going_further {A} c laws {L} {T} {us} {rest} {r} {t} {ahead} {new} {vs} {ws} {k} i law h f g = record { leads = go ahead h.advances g.leads }
+going_further {A} c laws {L} {T} {us} {rest} {r} {t} {ahead} {new} {vs} {ws} {k} i law h f g = record { leads = go ahead h.advances g.leads; stands = stand ahead h.advances g.stands; only = λ xs s x. only ahead h.advances xs s (g.only xs s x) }
   where
     put_after : List A → List A
     put_after xs = vs ++ (f.row ++ xs)
@@ -188,6 +217,44 @@ going_further {A} c laws {L} {T} {us} {rest} {r} {t} {ahead} {new} {vs} {ws} {k}
         (λ x. ended (leads_on (leads_last L (fields_part_of c laws) i x.0) l) x.1)
         (λ x. (let b : Spells c.ruling.fielding (Row L (16384 * x.0)) f.row r t = subst (λ (n : ℕ). Spells c.ruling.fielding (Row L n) f.row r t) x.2 f.spelt in
         rw x.3 (moved (lengths is (so_far + k) (nat_lt x.0 4)) (leads_on (leads_on (leads_same c.ruling.fielding t (same_flip (left_ahead c L is so_far k x.0 closed x.1 x.2))) (leads_rest L (fields_part_of c laws) i law x.1 b)) l))))
+        e.read
+
+    -- what is ahead stands after them
+    stand : (a : Ahead) → Advances c.ruling.fielding a (Some k) new rest r
+        → StandsIn c.ruling.fielding (Remaining L a) rest T us → StandsIn c.ruling.fielding (Remaining L new) t T us
+    stand end e l = absurd e
+    stand (items n) e l =
+        let all : StandsIn c.ruling.fielding (Row L k) r T us = rw (e.0, e.2) l in
+        rw e.1 (stands_on (stands_end f.spelt) all)
+    stand (lengths is so_far closed) e l = ⊎_elim
+        (λ x. rw x.1 (stands_on (stands_end f.spelt) (stands_on (stands_last L x.0) l)))
+        (λ x. (let b : Spells c.ruling.fielding (Row L (16384 * x.0)) f.row r t = subst (λ (n : ℕ). Spells c.ruling.fielding (Row L n) f.row r t) x.2 f.spelt in
+        rw x.3 (stands_on (stands_on (stands_same c.ruling.fielding t (same_flip (left_ahead c L is so_far k x.0 closed x.1 x.2))) (stands_rest L x.1 b)) l)))
+        e.read
+
+    -- a whole list has them
+    Others : List A → List ℕ → Ahead → Type 0
+    Others xs s a = (ys : List A) × (xs ≡ vs ++ ys) × Spells c.ruling.fielding (Remaining L a) ys rest s
+
+    ended_only : (xs : List A) (s : List ℕ) (ys : List A) → xs ≡ vs ++ ys → Spells c.ruling.fielding (Row L k) ys r s
+        → (zs : List A) × (xs ≡ ws ++ zs) × Spells c.ruling.fielding (Nothing []) zs t s
+    ended_only xs s ys e x =
+        let o = one_front (fields_part_of c laws) (row_lawful law k) x f.spelt in
+        ([], e ∙ ap (λ (l : List A). vs ++ l) o.0 ∙ sym f.same ∙ sym (append-nil ws), rw o.1 (nothing_spells c.ruling.fielding [] t))
+
+    only : (a : Ahead) → Advances c.ruling.fielding a (Some k) new rest r → (xs : List A) (s : List ℕ) → Others xs s a
+        → (zs : List A) × (xs ≡ ws ++ zs) × Spells c.ruling.fielding (Remaining L new) zs t s
+    only end e xs s o = absurd e
+    only (items n) e xs s o =
+        let x : Spells c.ruling.fielding (Row L k) o.0 r s = rw (e.0, e.2) o.2 in
+        rw e.1 (ended_only xs s o.0 o.1 x)
+    only (lengths is so_far closed) e xs s o = ⊎_elim
+        (λ x. rw x.1 (ended_only xs s o.0 o.1 (general_last_only L (fields_part_of c laws) i x.0 o.2)))
+        (λ x.
+          (let b : Spells c.ruling.fielding (Row L (16384 * x.0)) f.row r t = subst (λ (n : ℕ). Spells c.ruling.fielding (Row L n) f.row r t) x.2 f.spelt in
+          let p = general_rest_only L (fields_part_of c laws) i law x.1 b o.2 in
+          let all : xs ≡ ws ++ p.0 = o.1 ∙ ap (λ (l : List A). vs ++ l) p.2 ∙ sym (append_assoc vs f.row p.0) ∙ ap (λ (l : List A). l ++ p.0) (sym f.same) in
+          rw x.3 (p.0, all, same_spells (left_ahead c L is so_far k x.0 closed x.1 x.2) p.1)))
         e.read
 
 -- ---- each step comes nearer to the end
@@ -243,6 +310,29 @@ pub going_next_stops : {A : Type 0} (c : Coding) (laws : Laws c) {L : A → List
 going_next_stops c laws i count some law l next so_far going =
     stops_on (appends_stops_next i (count - (i + 1)) count (fields_part_of c laws) law some (omega (arith, l)) so_far) (going_row_stops c laws some next going)
 
+-- the row that follows stands there
+going_row_stands : {A : Type 0} (c : Coding) {L : A → List Chunk → Type 0} {T : List A → List Chunk → Type 0} {us rest r : List ℕ}
+    {ahead new : Ahead} {vs : List A} {k : ℕ} → Inhabited L → Next c.ruling.fielding ahead (Some k) new rest r
+    → Going c L T us ahead vs rest → StandsIn c.ruling.fielding (Row L k) r T us
+going_row_stands {A} c {L} {T} {us} {rest} {r} {ahead} {new} {vs} {k} i h g = go ahead h.advances g.stands
+  where
+    go : (a : Ahead) → Advances c.ruling.fielding a (Some k) new rest r
+        → StandsIn c.ruling.fielding (Remaining L a) rest T us → StandsIn c.ruling.fielding (Row L k) r T us
+    go end e l = absurd e
+    go (items n) e l = rw (e.0, e.2) l
+    go (lengths is so_far closed) e l = ⊎_elim
+        (λ x. stands_on (stands_last L x.0) l)
+        (λ x. stands_on (subst (λ (n : ℕ). StandsIn c.ruling.fielding (Row L n) r (General L (At (Spanned is) so_far closed)) rest) (sym x.2) (stands_fragment L i x.1)) l)
+        e.read
+
+-- and after i elements of it the next one
+pub going_next_stands : {A : Type 0} (c : Coding) {L : A → List Chunk → Type 0} {T : List A → List Chunk → Type 0}
+    {ahead new : Ahead} {us rest r q : List ℕ} {vs ws : List A} (i count : ℕ) → Inhabited L → i + 1 ≤ count
+    → Next c.ruling.fielding ahead (Some count) new rest r → Appends c.ruling.fielding L i vs ws r q
+    → Going c L T us ahead vs rest → StandsIn c.ruling.fielding L q T us
+going_next_stands c {L} i count some l next so_far going =
+    stands_on (stands_next L i (count - (i + 1)) count some (omega (arith, l)) so_far.spelt) (going_row_stands c some next going)
+
 -- the elements of the fragment have been read
 pub fragments_further : {A : Type 0} (c : Coding) (laws : Laws c) {L : A → List Chunk → Type 0}
     {T : List A → List Chunk → Type 0} {us rest r t : List ℕ} {before : List A} {ahead new : Ahead} {vs ws : List A}
@@ -285,6 +375,12 @@ list_size t s good = record {
   small = left_false (large_size (Some s)) (somewhere size_too_large t) (good SizeTooLarge);
   useful = left_false (is_every_length (Some s)) (somewhere useless_mark t) (good UselessMark);
 }
+
+-- a list stands in the SEQUENCE OF
+pub list_stands : (c : Coding) (laws : Laws c) (t : Shape) (s : SizeRange) (us : List ℕ) → InProfile (sequence_of t s)
+    → StandsIn c.ruling.fielding (ListingOf c s (Spelt c.code None t)) us (Spelt c.code None (sequence_of t s)) us
+list_stands c laws t s us good =
+    stands_on (stands_map c.ruling.fielding (λ vs. elements (elements_of vs)) (ListingOf c s (Spelt c.code None t)) us) (stands_same c.ruling.fielding us (laws.lists t s good))
 
 -- SEQUENCE OF
 pub list_leads : (c : Coding) (laws : Laws c) (t : Shape) (s : SizeRange) (us : List ℕ) → InProfile (sequence_of t s)

@@ -11,6 +11,7 @@ use Rattle.asn_rules.specs.Chunks.{Chunk}
 use Rattle.asn_rules.specs.Languages.{Spells, Inhabited, Then, Nothing}
 use Rattle.asn_rules.specs.Listed.{Spelt, Listed, bitmap_length}
 use Rattle.asn_rules.proofs.Languages.Leads.{LeadsStops, Leads, leads_on, leads_map, leads_same, leads_second, stops_first, stops_on}
+use Rattle.asn_rules.proofs.Languages.Standing.{StandsIn, stands_on, stands_map, stands_same, stands_first, stands_second}
 use Rattle.asn_rules.proofs.Components.Listed.{listed_inhabited, listed_lawful}
 use Rattle.asn_rules.proofs.Components.ListedReading.{nothing_read}
 use Rattle.asn_rules.proofs.Languages.Parts.{map_source, nothing_inhabited}
@@ -40,7 +41,7 @@ module _ (c : Coding) (laws : Laws c) (root : Fields) (more : MoreFields) (good 
   AfterPreamble p = Then (Listed c.code root (bits n p.1)) (λ _. AddedOf c more p.0)
 
   -- the additions have entries
-  added_inhabited : (b : Bool) → (b ≡ true → CanExtend (added more)) → Inhabited (AddedOf c more b)
+  pub added_inhabited : (b : Bool) → (b ≡ true → CanExtend (added more)) → Inhabited (AddedOf c more b)
   added_inhabited false h = nothing_inhabited (absent_entries (more_fields more))
   added_inhabited true h = go more good (h refl)
     where
@@ -59,6 +60,16 @@ module _ (c : Coding) (laws : Laws c) (root : Fields) (more : MoreFields) (good 
       (Spelt c.code None (sequence root more)) us
   whole us = leads_on (leads_map c.ruling.fielding sequence_told (Then (PreambleOf c n (added more)) AfterPreamble) us) (leads_same c.ruling.fielding us (laws.sequences root more good))
 
+  stands_whole : (us : List ℕ)
+      → StandsIn c.ruling.fielding (Then (PreambleOf c n (added more)) AfterPreamble) us
+      (Spelt c.code None (sequence root more)) us
+  stands_whole us = stands_on (stands_map c.ruling.fielding sequence_told (Then (PreambleOf c n (added more)) AfterPreamble) us) (stands_same c.ruling.fielding us (laws.sequences root more good))
+
+  -- the preamble stands in front
+  pub preamble_stands : (us : List ℕ)
+      → StandsIn c.ruling.fielding (PreambleOf c n (added more)) us (Spelt c.code None (sequence root more)) us
+  preamble_stands us = stands_on (stands_first c.ruling.fielding us follows) (stands_whole us)
+
   -- within the preamble
   pub preamble_stops : (us : List ℕ)
       → LeadsStops c.ruling.fielding (PreambleOf c n (added more)) us (Spelt c.code None (sequence root more)) us
@@ -69,6 +80,18 @@ module _ (c : Coding) (laws : Laws c) (root : Fields) (more : MoreFields) (good 
     after : Leads c.ruling.fielding (AfterPreamble p) r (λ q. sequence_told (p, q))
         (Spelt c.code None (sequence root more)) us
     after = leads_on (leads_second {M = AfterPreamble} (fields_part_of c laws) (laws.preamble n (added more)) h) (whole us)
+
+    stands_after : StandsIn c.ruling.fielding (AfterPreamble p) r (Spelt c.code None (sequence root more)) us
+    stands_after = stands_on (stands_second {M = AfterPreamble} h) (stands_whole us)
+
+    -- the components stand there, and after them the additions
+    pub components_stand : StandsIn c.ruling.fielding (Listed c.code root (bits n p.1)) r
+        (Spelt c.code None (sequence root more)) us
+    components_stand = stands_on (stands_first c.ruling.fielding r (record { follow = λ es cs k. added_inhabited p.0 h.spelt.fits.1 })) stands_after
+
+    pub added_stands : (es : List (Option Datum)) (s : List ℕ) → Spells c.ruling.fielding (Listed c.code root (bits n p.1)) es r s
+        → StandsIn c.ruling.fielding (AddedOf c more p.0) s (Spelt c.code None (sequence root more)) us
+    added_stands es s k = stands_on (stands_second {M = λ _. AddedOf c more p.0} k) stands_after
 
     -- within the components
     pub components_stop : LeadsStops c.ruling.fielding (Listed c.code root (bits n p.1)) r

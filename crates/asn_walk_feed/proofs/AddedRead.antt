@@ -19,6 +19,7 @@ use Rattle.asn_rules.specs.Listed.{Spelt, bitmap_length}
 use Rattle.asn_rules.specs.Stops.{Stops}
 use Rattle.asn_rules.specs.declared.stop.Stop.{Stop}
 use Rattle.asn_rules.specs.declared.stop.Stop.TheVariants as stop
+use Rattle.asn_rules.proofs.Languages.Standing.{stands_here}
 use Rattle.asn_rules.proofs.Answer.Answers.{done_stays}
 use Rattle.asn_rules.proofs.Languages.Leads.{LeadsStops, Leads, leads_here, leads_map, stops_on, stops_by}
 use Rattle.asn_rules.proofs.Languages.Parts.{map_source, map_spells, nothing_spells}
@@ -153,6 +154,7 @@ module _ {F : Type 0} (c : Coding) (laws : Laws c) (feeds : FeedLaws c) (fc : Fi
         read = [];
         after = sym (append-nil before);
         leads = rw (fields_of-parts_in (fields_seen fields)) (leads_here c.ruling.fielding (OpenListed c (fields_seen fields) (bits N bitmap)) (r ++ further));
+        stands = rw (fields_of-parts_in (fields_seen fields)) (stands_here c.ruling.fielding (OpenListed c (fields_seen fields) (bits N bitmap)) (r ++ further));
       } in
       record {
         before = before;

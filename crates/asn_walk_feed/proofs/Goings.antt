@@ -130,7 +130,7 @@ module _ {F : Type 0} (c : Coding) (laws : Laws c) (feeds : FeedLaws c) (fc : Fi
       → q.left ≡ 0 → q.elements.items ≡ [] → q.next_part ≡ [] → between q.fragments → fs ≡ [] → R q fs us r
   list_starts q fs us r sp el ei eh b ef =
       items.items_start c laws feeds ahead between L T datum_of some law E none_took q fs [] us r
-      (λ more. list_begins c laws L s (ahead q.fragments) us r (list_size t s good) sp more) el (ap (map datum_of) ei) eh b ef
+      (laws.list_ahead s (list_size t s good) (ahead q.fragments) sp.chunks sp.spelt) (λ more. list_begins c laws L s (ahead q.fragments) us r (list_size t s good) sp more) el (ap (map datum_of) ei) eh b ef
 
 -- the outermost node was taken
 pub taken_is : {X : Type 0} (r : Option (Frame X)) (old new : List (Frame X)) → IfSome r (λ f. old ≡ f ∷ new) → (IsNone r → old ≡ []) → (IsNone r → new ≡ []) → old ≡ with_node r new

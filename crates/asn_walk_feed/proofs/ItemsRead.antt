@@ -7,7 +7,7 @@ use Rattle.asn_rules.specs.Stops.{Stops}
 use Rattle.asn_rules.specs.declared.stop.Stop.{Stop}
 use Rattle.asn_rules.specs.declared.stop.Stop.TheVariants as stop
 use Rattle.asn_rules.proofs.Answer.Answers.{done_stays}
-use Rattle.asn_walk.specs.Ahead.{Ahead}
+use Rattle.asn_walk.specs.Ahead.{Ahead, SomeAhead}
 use Rattle.asn_walk.specs.Coding.{Coding}
 use Rattle.asn_walk.specs.Laws.{Laws}
 use Rattle.asn_walk.proofs.Listing.{Going, going_ends, steps_left}
@@ -15,7 +15,7 @@ use Rattle.asn_walk_feed.specs.Feeding.{Waits, FeedLaws, NextOf, HasBegun}
 use Rattle.asn_walk_feed.specs.Items.{InFragment, Stands, NextPart, ItemsGoOn}
 use Rattle.asn_walk_feed.specs.declared.frame.Frame.{Frame}
 use Rattle.asn_walk_feed.specs.declared.frame.Elements.{Elements}
-use Rattle.asn_walk_feed.proofs.ListsRead.{next_is, next_nearer, list_next_stops, element_stops, element_done, fragment_begins}
+use Rattle.asn_walk_feed.proofs.ListsRead.{next_is, next_some, next_nearer, list_next_stops, element_stops, element_done, fragment_begins}
 
 module _ {F A V : Type 0} (c : Coding) (laws : Laws c) (feeds : FeedLaws c) (ahead : F → Ahead) (between : F → Type 0) (L : A → List Chunk → Type 0) (T : List A → List Chunk → Type 0) (seen : V → A) (some : Inhabited L) (law : Lawful L) (Element : List ℕ → List (Frame F) → List ℕ → Type 0) (fresh : (b : List ℕ) → b ≡ [] → Element b [] []) where
   abbrev R : Elements F V → List (Frame F) → List ℕ → List ℕ → Type 0
@@ -76,6 +76,7 @@ module _ {F A V : Type 0} (c : Coding) (laws : Laws c) (feeds : FeedLaws c) (ahe
       record {
         come = come;
         between_is = subst between (sym ef) h.between_is;
+        some = subst (λ (f : F). SomeAhead (ahead f)) (sym ef) h.some;
         stands = λ more. rw (z, ef, ee) (stands more);
         inner = rw (z, ef) (a.none, record { come = refl; at_unit = at; begins = inr short });
       }
@@ -98,6 +99,7 @@ module _ {F A V : Type 0} (c : Coding) (laws : Laws c) (feeds : FeedLaws c) (ahe
       record {
         come = [];
         between_is = b;
+        some = next_some c (ahead q.fragments) k (ahead p.fragments) (c.to_units q.next_part ++ units) r (next_is (ahead q.fragments) (Some k, ahead p.fragments) (c.to_units q.next_part ++ units) r sp);
         stands = λ more. rw (el, ee) (stands more);
         inner = rw (el, a.none) (part_begins k p.next_part (ahead p.fragments) eh);
       }
@@ -134,6 +136,7 @@ module _ {F A V : Type 0} (c : Coding) (laws : Laws c) (feeds : FeedLaws c) (ahe
                 record {
                   come = h.come ++ units;
                   between_is = subst between (sym ef) h.between_is;
+                  some = subst (λ (f : F). SomeAhead (ahead f)) (sym ef) h.some;
                   stands = λ more. rw (pl, ef, ee, z, append-nil (h.come ++ units)) (st more);
                   inner = rw pl k;
                 });
@@ -144,6 +147,7 @@ module _ {F A V : Type 0} (c : Coding) (laws : Laws c) (feeds : FeedLaws c) (ahe
                 record {
                   come = [];
                   between_is = subst between (sym ef) h.between_is;
+                  some = subst (λ (f : F). SomeAhead (ahead f)) (sym ef) h.some;
                   stands = λ more. rw (pl, ef, ei, map_push seen q.elements.items v) (next more);
                   inner = rw (pl, ef, eg) (part_begins n p.next_part (ahead q.fragments) eh);
                 });
@@ -162,6 +166,7 @@ module _ {F A V : Type 0} (c : Coding) (laws : Laws c) (feeds : FeedLaws c) (ahe
   items_go_on q fs us units h = record {
     come = h.come;
     between_is = h.between_is;
+    some = h.some;
     stands = λ more.
         (let a = ahead q.fragments in
         let es = map seen q.elements.items in
@@ -173,11 +178,12 @@ module _ {F A V : Type 0} (c : Coding) (laws : Laws c) (feeds : FeedLaws c) (ahe
 
   -- ---- what stands before them has been read
 
-  pub items_start : (q : Elements F V) (fs : List (Frame F)) (vs : List A) (us r : List ℕ) → ((more : List ℕ) → Going c L T (us ++ more) (ahead q.fragments) vs (r ++ more))
+  pub items_start : (q : Elements F V) (fs : List (Frame F)) (vs : List A) (us r : List ℕ) → SomeAhead (ahead q.fragments) → ((more : List ℕ) → Going c L T (us ++ more) (ahead q.fragments) vs (r ++ more))
       → q.left ≡ 0 → map seen q.elements.items ≡ vs → q.next_part ≡ [] → between q.fragments → fs ≡ [] → R q fs us r
-  items_start q fs vs us r stands el ei eh b ef = record {
+  items_start q fs vs us r some_ahead stands el ei eh b ef = record {
     come = [];
     between_is = b;
+    some = some_ahead;
     stands = λ more. rw (el, ei) (stands more);
     inner = rw (el, ef) (part_begins 0 q.next_part (ahead q.fragments) eh);
   }

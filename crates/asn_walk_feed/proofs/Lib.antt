@@ -2,9 +2,12 @@ pub mod AddedRead
 pub mod Bits
 pub mod ChosenRead
 pub mod CompleteRead
+pub mod FieldsKept
 pub mod FieldsRead
 pub mod Goings
 pub mod ItemsRead
+pub mod KeptNodes
+pub mod KeptRead
 pub mod Leaves
 pub mod Levels
 pub mod ListsRead

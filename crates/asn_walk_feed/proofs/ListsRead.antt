@@ -4,7 +4,7 @@ use Rattle.std.specs.Bool.{⊤}
 use Rattle.asn_values.specs.Shape.{SizeRange}
 use Rattle.asn_bits.specs.Ranges.{Spanned, At}
 use Rattle.asn_rules.specs.Chunks.{Chunk, flat}
-use Rattle.asn_rules.specs.General.{Length, last, fragment, Header}
+use Rattle.asn_rules.specs.General.{Length, last, fragment, Blocks, Left, Header, General}
 use Rattle.asn_rules.specs.Languages.{Spells, Lawful, Inhabited, Map, Nothing, Row}
 use Rattle.asn_rules.specs.Live.{Fielding}
 use Rattle.asn_rules.specs.Stops.{Stops}
@@ -13,11 +13,13 @@ use Rattle.asn_rules.specs.declared.stop.Stop.TheVariants as stop
 use Rattle.asn_rules.proofs.Answer.Answers.{done_stays, done_later}
 use Rattle.asn_rules.proofs.Languages.Rows.{row_starts, row_spells, row_one}
 use Rattle.asn_rules.proofs.Languages.Leads.{stops_by, leads_map}
-use Rattle.asn_rules.proofs.Languages.Parts.{map_source, map_spells, map_live, map_dead, nothing_spells}
-use Rattle.asn_walk.specs.Ahead.{Ahead, items, lengths, end, Next, StopsNext, Advances}
+use Rattle.asn_rules.proofs.Languages.Parts.{map_source, map_spells, map_live, map_dead, nothing_inhabited, nothing_spells}
+use Rattle.asn_rules.proofs.Numbers.General.{general_inhabited, general_counted}
+use Rattle.asn_rules.proofs.Numbers.Headers.{header_tells}
+use Rattle.asn_walk.specs.Ahead.{Ahead, items, lengths, end, SomeAhead, Next, StopsNext, Advances}
 use Rattle.asn_walk.specs.Coding.{Coding, ListingOf}
 use Rattle.asn_walk.specs.Laws.{Laws, IsSizeOfProfile}
-use Rattle.asn_walk.proofs.Listing.{Appends, Going, appends_none, appends_one, appends_more, start_leads, going_stops, going_further, going_next_stops, going_nearer, steps_left}
+use Rattle.asn_walk.proofs.Listing.{Appends, Going, appends_none, appends_one, appends_more, left_ahead, going_starts, going_stops, going_further, going_next_stops, going_nearer, steps_left}
 use Rattle.asn_walk_feed.specs.Feeding.{FeedLaws, HasBegun, NextOf, next_of}
 use Rattle.asn_walk_feed.specs.Items.{InFragment, Stands}
 
@@ -46,6 +48,28 @@ next_is {R} (lengths is so_far closed) p us r h = go (map_source h)
     go : (l : Length) × Spells R (Header (At (Spanned is) so_far closed)) l us r × (p ≡ next_of is so_far l)
         → Next R (lengths is so_far closed) p.0 p.1 us r
     go w = rw w.2 (told w.0 w.1)
+
+-- some are ahead after it
+pub next_some : (c : Coding) (a : Ahead) (k : ℕ) (new : Ahead) (us r : List ℕ) → Next c.ruling.fielding a (Some k) new us r → SomeAhead new
+next_some c a k new us r h = go a h.advances
+  where
+    tail : ⊤ → List Chunk → Type 0
+    tail = Nothing tt
+
+    go : (a : Ahead) → Advances c.ruling.fielding a (Some k) new us r → SomeAhead new
+    go end e = absurd e
+    go (items n) e = subst SomeAhead (sym e.1) tt
+    go (lengths is so_far closed) e = both e.read
+      where
+        both : (Spells c.ruling.fielding (Header (At (Spanned is) so_far closed)) (last k) us r × (new ≡ end))
+            ⊎ ((m : ℕ) × Spells c.ruling.fielding (Header (At (Spanned is) so_far closed)) (fragment m) us r × (k ≡ 16384 * m) × (new ≡ lengths is (so_far + k) (nat_lt m 4)))
+            → SomeAhead new
+        both (inl x) = subst SomeAhead (sym x.1) tt
+        both (inr x) =
+            let b : Blocks (At (Spanned is) so_far closed) x.0 = header_tells x.1.spelt in
+            let i : Inhabited (General tail (Left (At (Spanned is) so_far closed) x.0)) = general_inhabited (nothing_inhabited tt) b.rest b.left in
+            let g : General tail (At (Spanned is) (so_far + k) (nat_lt x.0 4)) i.value i.chunks = (left_ahead c tail is so_far k x.0 closed x.1 x.2).to i.value i.chunks i.spelt in
+            subst SomeAhead (sym x.3) (length i.value, general_counted g)
 
 -- and back
 pub next_spells : {R : Fielding} (a : Ahead) (k : Option ℕ) (new : Ahead) (us r : List ℕ) → Next R a k new us r
@@ -173,4 +197,4 @@ module _ {A : Type 0} (c : Coding) (laws : Laws c) (L : A → List Chunk → Typ
 -- the list begins
 pub list_begins : {A : Type 0} (c : Coding) (laws : Laws c) (L : A → List Chunk → Type 0) (s : SizeRange) (ahead : Ahead) (us r : List ℕ)
     → IsSizeOfProfile s → Spells c.ruling.fielding (c.list_start s) ahead us r → (more : List ℕ) → Going c L (ListingOf c s L) (us ++ more) ahead [] (r ++ more)
-list_begins c laws L s ahead us r good h more = record { leads = start_leads c laws L s good (done_stays more h) }
+list_begins c laws L s ahead us r good h more = going_starts c laws L s ahead (us ++ more) (r ++ more) good (done_stays more h)

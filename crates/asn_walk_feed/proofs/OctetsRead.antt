@@ -8,9 +8,10 @@ use Rattle.asn_rules.specs.declared.stop.Stop.{Stop}
 use Rattle.asn_rules.specs.declared.stop.Stop.TheVariants as stop
 use Rattle.asn_rules.proofs.Answer.Answers.{done_stays}
 use Rattle.asn_rules.proofs.Languages.Leads.{leads_on, leads_map, leads_second, stops_by, stops_first, stops_on}
-use Rattle.asn_rules.proofs.Languages.Parts.{nothing_inhabited}
+use Rattle.asn_rules.proofs.Languages.Parts.{map_source, nothing_inhabited}
+use Rattle.asn_rules.proofs.Languages.Standing.{stands_on, stands_map, stands_second}
 use Rattle.asn_rules.proofs.Languages.Rows.{row_inhabited}
-use Rattle.asn_rules.proofs.Languages.Then.{Follows}
+use Rattle.asn_rules.proofs.Languages.Then.{Follows, one_front, then_splits}
 use Rattle.asn_rules.proofs.Numbers.General.{general_inhabited}
 use Rattle.asn_walk.specs.Ahead.{Ahead, items, lengths, end, Remaining, SomeAhead}
 use Rattle.asn_walk.specs.Coding.{Coding}
@@ -59,13 +60,22 @@ module _ {F : Type 0} (c : Coding) (laws : Laws c) (feeds : FeedLaws c) (f : Oct
     leads =
         leads_on (leads_second {M = λ p. Remaining f.octet p.1} (fields_part_of c laws) parts.start (done_stays more h))
         (leads_map c.ruling.fielding all_octets (Then f.start (λ p. Remaining f.octet p.1)) (us ++ more));
+    stands =
+        stands_on (stands_second {M = λ p. Remaining f.octet p.1} (done_stays more h))
+        (stands_map c.ruling.fielding all_octets (Then f.start (λ p. Remaining f.octet p.1)) (us ++ more));
+    only = λ ws t k.
+        (let w = map_source k in
+        let b = then_splits w.1 in
+        let o = one_front (fields_part_of c laws) parts.start b.earlier (done_stays more h) in
+        let later : Spells c.ruling.fielding (Remaining f.octet a) w.0.1 b.rest t = subst (λ (p : List ℕ × Ahead). Spells c.ruling.fielding (Remaining f.octet p.1) w.0.1 b.rest t) o.0 b.later in
+        (w.0.1, w.2 ∙ ap (λ (p : List ℕ × Ahead). p.0 ++ w.0.1) o.0, subst (λ (l : List ℕ). Spells c.ruling.fielding (Remaining f.octet a) w.0.1 l t) o.1 later));
   }
 
   pub octets_start : (q : Elements F ℕ) (vs us r : List ℕ) → Spells c.ruling.fielding f.start (vs, ahead q.fragments) us r
       → q.left ≡ 0 → q.elements.items ≡ vs → q.next_part ≡ [] → between q.fragments → R q us r
   octets_start q vs us r sp el ei eh b =
       listed.items_start c laws feeds ahead between f.octet Whole (λ o. o) parts.some parts.octet (OctetTook c f) none_came q [] vs us r
-      (begins vs (ahead q.fragments) us r sp) el (map-id q.elements.items ∙ ei) eh b refl
+      (parts.ahead (vs, ahead q.fragments) sp.chunks sp.spelt) (begins vs (ahead q.fragments) us r sp) el (map-id q.elements.items ∙ ei) eh b refl
 
   -- ---- the next length
 
@@ -138,7 +148,9 @@ module _ {F : Type 0} (c : Coding) (laws : Laws c) (feeds : FeedLaws c) (f : Oct
 
   pub took_octets : (r : Option (Frame F)) (x : Frame F) (q : Elements F ℕ) (fs : List (Frame F)) (us : List ℕ)
       → r ≡ Some x → x ≡ frame.Octets q → OctetsTook c f ahead between (with_node r fs) us → (fs ≡ []) × R q us []
-  took_octets r x q fs us e g h = rw (e, g) at h
+  took_octets r x q fs us e g h =
+      let w : (fs ≡ []) × Short c.ruling.fielding Whole us × R q us [] = rw (e, g) at h in
+      (w.0, w.2)
 
   pub took_none : (r : Option (Frame F)) (fs : List (Frame F)) (us : List ℕ) → r ≡ None → fs ≡ []
       → OctetsTook c f ahead between (with_node r fs) us → us ≡ []
@@ -152,5 +164,5 @@ module _ {F : Type 0} (c : Coding) (laws : Laws c) (feeds : FeedLaws c) (f : Oct
   pub start_took : (fs : List (Frame F)) (b us : List ℕ) → fs ≡ frame.Start b ∷ [] → Waits c f.start b us → OctetsTook c f ahead between fs us
   start_took fs b us e w = rw e w
 
-  pub octets_took : (fs : List (Frame F)) (q : Elements F ℕ) (us : List ℕ) → fs ≡ frame.Octets q ∷ [] → R q us [] → OctetsTook c f ahead between fs us
-  octets_took fs q us e k = rw e (refl, k)
+  pub octets_took : (fs : List (Frame F)) (q : Elements F ℕ) (us : List ℕ) → fs ≡ frame.Octets q ∷ [] → Short c.ruling.fielding Whole us → R q us [] → OctetsTook c f ahead between fs us
+  octets_took fs q us e short k = rw e (refl, short, k)

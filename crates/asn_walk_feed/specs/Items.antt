@@ -2,7 +2,7 @@
 -- type field.
 use Rattle.std.specs.Prelude.{◌≡◌, ◌+◌, ℕ, zero, suc, List, [], ◌++◌, map, Some}
 use Rattle.asn_rules.specs.Chunks.{Chunk}
-use Rattle.asn_walk.specs.Ahead.{Ahead, Next}
+use Rattle.asn_walk.specs.Ahead.{Ahead, SomeAhead, Next}
 use Rattle.asn_walk.specs.Coding.{Coding}
 use Rattle.asn_walk.proofs.Listing.{Appends, Going}
 use Rattle.asn_walk_feed.specs.Feeding.{NextOf, Waits}
@@ -31,13 +31,14 @@ Stands c L T zero ahead elements us come = Going c L T us ahead elements come
 Stands c L T (suc n) ahead elements us come = InFragment c L T (suc n) ahead elements us come
 
 -- the list goes on: whatever units follow, its elements stand, of all units, in front of those of the part that has
--- begun and of the units that are left; and P holds of those of the part. What is seen of the elements is of the
+-- begun and of the units that are left, and some are ahead; and P holds of those of the part. What is seen of the elements is of the
 -- language L, and of all of them of the language T
 pub record GoesOn {F A V : Type 0} (c : Coding) (ahead : F → Ahead) (between : F → Type 0)
     (L : A → List Chunk → Type 0) (T : List A → List Chunk → Type 0) (seen : V → A)
     (q : Elements F V) (P : List ℕ → Type 0) (all units : List ℕ) : Type 0 where
   pub come : List ℕ
   pub between_is : between q.fragments
+  pub some : SomeAhead (ahead q.fragments)
   pub stands : (more : List ℕ) → Stands c L T q.left (ahead q.fragments) (map seen q.elements.items) (all ++ more)
       ((come ++ units) ++ more)
   pub inner : P come

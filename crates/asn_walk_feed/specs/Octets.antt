@@ -2,7 +2,7 @@
 -- of a string, each of which the program holds as an octet.
 use Rattle.std.specs.Prelude.{◌≡◌, ◌∷◌, ◌++◌, ℕ, List, [], Option, Some, None, ⊤}
 use Rattle.asn_rules.specs.Chunks.{Chunk}
-use Rattle.asn_rules.specs.Languages.{Spells, Lawful, Inhabited, Map, Then}
+use Rattle.asn_rules.specs.Languages.{Spells, Short, Lawful, Inhabited, Map, Then}
 use Rattle.asn_rules.specs.Stops.{Stops}
 use Rattle.asn_rules.specs.declared.stop.Stop.{Stop}
 use Rattle.asn_rules.specs.declared.stop.Stop.TheVariants as stop
@@ -90,12 +90,13 @@ OctetsGoOnTo c f ahead between q old p new =
 
 -- ---- the nodes
 
--- the units us are those that have come of the octets, of which these nodes have begun
+-- the units us are those that have come of the octets, of which these nodes have begun, and more are wanted
 abbrev pub OctetsTook : {F : Type 0} → Coding → OctetCoding → (F → Ahead) → (F → Type 0) → List (Frame F) → List ℕ
     → Type 0
 OctetsTook c f ahead between [] us = us ≡ []
 OctetsTook c f ahead between (frame.Start b ∷ []) us = Waits c f.start b us
-OctetsTook c f ahead between (frame.Octets q ∷ fs) us = (fs ≡ []) × OctetsGoOn c f ahead between q us []
+OctetsTook c f ahead between (frame.Octets q ∷ fs) us =
+    (fs ≡ []) × Short c.ruling.fielding (OctetsOf f) us × OctetsGoOn c f ahead between q us []
 OctetsTook c f ahead between (x ∷ fs) us = ⊥
 
 -- where more units are wanted, the nodes tell which have come

@@ -6,7 +6,7 @@ use Rattle.asn_values.specs.Profile.{InProfile}
 use Rattle.asn_values.specs.declared.value.Value.{Value}
 use Rattle.asn_values.specs.Shape.{SizeRange, Shape, bit_string, octet_string, restricted, utf8_string, sequence, sequence_of, choice, Fields, MoreFields, Alternatives, MoreAlternatives, count}
 use Rattle.asn_values.specs.View.{Part, datum_of, entries_seen}
-use Rattle.asn_rules.specs.Languages.{Spells}
+use Rattle.asn_rules.specs.Languages.{Spells, Short}
 use Rattle.asn_rules.specs.Listed.{Spelt, Entry, bitmap_length}
 use Rattle.asn_rules.specs.Stops.{Stops}
 use Rattle.asn_rules.specs.declared.stop.Stop.{Stop}
@@ -17,7 +17,7 @@ use Rattle.asn_walk_feed.specs.Additions.{BitmapGoesOn, NextAdditionTook, Additi
 use Rattle.asn_walk_feed.specs.Chosen.{AlternativeTook, ChoiceGoesOn}
 use Rattle.asn_walk_feed.specs.Feeding.{NextOf, Waits}
 use Rattle.asn_walk_feed.specs.Items.{GoesOn, NextPart}
-use Rattle.asn_walk_feed.specs.Octets.{OctetsTook, OctetsGoOn}
+use Rattle.asn_walk_feed.specs.Octets.{OctetsOf, OctetsTook, OctetsGoOn}
 use Rattle.asn_walk_feed.specs.OpenFields.{FieldCoding}
 use Rattle.asn_walk_feed.specs.Roots.{OtherTook, EntryTook, NextTook, RootGoesOn}
 use Rattle.asn_walk_feed.specs.declared.frame.Components.{Components}
@@ -66,13 +66,17 @@ Took c fc ahead between (frame.Added i ∷ fs) (choice root more) us =
     ChoiceGoesOn c root more (inr i) (λ come. OctetsTook c fc.open_type ahead between fs come) us []
 Took c fc ahead between (frame.Added i ∷ fs) t us = ⊥
 Took c fc ahead between (frame.Octets q ∷ fs) (bit_string s) us =
-    (fs ≡ []) × OctetsGoOn c (fc.string (bit_string s)) ahead between q us []
+    (fs ≡ []) × Short c.ruling.fielding (OctetsOf (fc.string (bit_string s))) us
+    × OctetsGoOn c (fc.string (bit_string s)) ahead between q us []
 Took c fc ahead between (frame.Octets q ∷ fs) (octet_string s) us =
-    (fs ≡ []) × OctetsGoOn c (fc.string (octet_string s)) ahead between q us []
+    (fs ≡ []) × Short c.ruling.fielding (OctetsOf (fc.string (octet_string s))) us
+    × OctetsGoOn c (fc.string (octet_string s)) ahead between q us []
 Took c fc ahead between (frame.Octets q ∷ fs) (restricted k s) us =
-    (fs ≡ []) × OctetsGoOn c (fc.string (restricted k s)) ahead between q us []
+    (fs ≡ []) × Short c.ruling.fielding (OctetsOf (fc.string (restricted k s))) us
+    × OctetsGoOn c (fc.string (restricted k s)) ahead between q us []
 Took c fc ahead between (frame.Octets q ∷ fs) utf8_string us =
-    (fs ≡ []) × OctetsGoOn c (fc.string utf8_string) ahead between q us []
+    (fs ≡ []) × Short c.ruling.fielding (OctetsOf (fc.string utf8_string)) us
+    × OctetsGoOn c (fc.string utf8_string) ahead between q us []
 Took c fc ahead between (frame.Octets q ∷ fs) t us = ⊥
 
 -- a list of elements of the type, read so far, of whose next part these nodes have begun

@@ -1,9 +1,12 @@
 //! How far a message is read where its pieces end: a stack of the nodes of its value that have begun.
 ghost use Rattle.std.specs.Prelude.{◌≡◌, ◌∷◌, ◌↔◌, List, [], OnOk, IfSome, IsNone, IsTrue};
+ghost use Rattle.asn_values.specs.View.{shape_of};
+ghost use Rattle.asn_walk_feed.specs.Keeping.{kept_in};
 ghost use Rattle.asn_walk_feed.specs.Nodes.{nodes};
 
 use crate::begun::Begun;
-use asn_values::Value;
+use crate::kept::kept_in;
+use asn_values::{AsnType, Value};
 use asn_walk::PresenceBits;
 use std::alloc::{AllocError, Global};
 
@@ -109,5 +112,13 @@ impl<F: Drop> Frames<F> {
     {
         self.stack.push(node)?;
         Ok(())
+    }
+
+    /// The octets that are kept of a value of the type, of which these nodes have begun: those of the open type field or
+    /// the UTF8String in which its units end. Takes no memory.
+    pub fn kept(&self, ty: &AsnType) -> &[u8]
+        ensures { result.now ≡ kept_in (nodes self.now) (shape_of ty.now) }
+    {
+        kept_in(ty, self.stack.as_slice())
     }
 }

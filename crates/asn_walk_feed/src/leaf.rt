@@ -11,6 +11,7 @@ ghost use Rattle.asn_rules.specs.declared.stop.Stop.TheVariants.{Memory};
 ghost use Rattle.asn_walk.specs.Reading.{Reads, ReadsValue, StopsAt};
 ghost use Rattle.asn_walk_feed.specs.Octets.{OctetsOf, start_seen};
 ghost use Rattle.asn_walk_feed.specs.OpenFields.{FieldCoding, FieldLaws, StopsAfter};
+ghost use Rattle.asn_walk_feed.specs.Keeping.{KeepLaws};
 ghost use Rattle.asn_walk_feed.specs.Strings.{IsString, StringLaws, IsStringOf, IsNoString};
 ghost use Rattle.asn_walk_feed.specs.Feeding.{FeedLaws, IsBrief, HasBegun, ExtendsBy, Passes, Ticked, StandsAfter, KeepsUnits};
 
@@ -133,6 +134,11 @@ pub trait FeedLeaves: ReadLeaves {
     /// A string is its items, under what stands before them. The call does nothing: its clause is what proofs cite.
     fn keep_string_laws()
         ensures { StringLaws Self.rules fields };
+
+    /// What is kept of open type fields and of UTF8Strings is their content, and other parts are no sealed fields. The
+    /// call does nothing: its clause is what proofs cite.
+    fn keep_kept_laws()
+        ensures { KeepLaws Self.rules fields };
 }
 
 /// A part of few units.

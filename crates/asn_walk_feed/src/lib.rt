@@ -10,6 +10,7 @@ mod begun;
 mod choices;
 mod complete;
 mod frame;
+mod kept;
 mod leaf;
 mod lists;
 mod octets;

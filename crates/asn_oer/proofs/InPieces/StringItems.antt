@@ -46,7 +46,7 @@ characters_string k s us good =
 
 -- ---- octets of any number
 
-any_same : Same (OctetsOf any_octets) (OctetsAfterLength (Between 0 max_len))
+pub any_same : Same (OctetsOf any_octets) (OctetsAfterLength (Between 0 max_len))
 any_same = counted_same (OctetLength (Between 0 max_len)) OneOctet
 
 -- UTF8String

@@ -18,7 +18,7 @@ abbrev pub AnyOctets : List ℕ → List Chunk → Type 0
 AnyOctets = Sized (record { low = 0; high = None; extensible = false }) Octet
 
 -- they are spelt as the field is
-any_octets : Same AnyOctets (Frame per_fields utf8_field)
+pub any_octets : Same AnyOctets (Frame per_fields utf8_field)
 any_octets = utf8_frame per_fields (λ c. refl)
 
 -- the field may be empty

@@ -14,6 +14,8 @@ use Rattle.asn_rules.proofs.Live.Chunks.{FieldsPart}
 use Rattle.asn_rules.proofs.Languages.Leads.{LeadsStops, Leads, leads_on, leads_map, leads_second, stops_first, stops_on}
 use Rattle.asn_rules.proofs.Components.Listed.{spelt_lawful, listed_inhabited}
 use Rattle.asn_rules.proofs.Languages.Parts.{map_lawful}
+use Rattle.asn_rules.proofs.Languages.Standing.{StandsIn, stands_on, stands_map, stands_first, stands_second}
+use Rattle.std.proofs.lemmas.Bool.{true≢false}
 
 -- nothing is always read, and read at once
 pub nothing_read : {A : Type 0} (R : Fielding) (a : A) (us : List ℕ) → Spells R (Nothing a) a us us
@@ -36,12 +38,17 @@ module _ (code : Shape → Datum → List Chunk) (part : SpellingsPart code) (R 
   pub record Steps (demand : Demand) (t : Shape) (present : Bool) (M L : List (Option Datum) → List Chunk → Type 0) : Type 0 where
     pub stops : (us : List ℕ) → LeadsStops R (Entry code demand t present) us L us
     pub done : (e : Option Datum) (us r : List ℕ) → Spells R (Entry code demand t present) e us r → Leads R M r (λ es. e ∷ es) L us
+    -- where the component is spelt it stands there, and after it those that follow
+    pub first : present ≡ true → (us : List ℕ) → StandsIn R (Entry code demand t true) us L us
+    pub rest : (e : Option Datum) (us r : List ℕ) → Spells R (Entry code demand t present) e us r → StandsIn R M r L us
 
   -- where the component is spelt
   spelt_steps : (demand : Demand) (t : Shape) (M : List (Option Datum) → List Chunk → Type 0) → InProfile t → Inhabited M → Steps demand t true M (Before (Spelt code (default_of demand) t) M)
   spelt_steps demand t M p some = record {
     stops = λ us. stops_on (stops_first R us (record { follow = λ a x h. some })) (leads_map R prepended _ us).stops;
     done = λ e us r h. leads_on (leads_second fields (map_lawful some_same (spelt_lawful code part (default_of demand) t p)) h) (leads_map R prepended _ us);
+    first = λ e us. stands_on (stands_first R us (record { follow = λ a x h. some })) (stands_map R prepended _ us);
+    rest = λ e us r h. stands_on (stands_second {M = λ _. M} h) (stands_map R prepended _ us);
   }
 
   -- where it is not
@@ -49,6 +56,8 @@ module _ (code : Shape → Datum → List Chunk) (part : SpellingsPart code) (R 
   absent_steps demand t M = record {
     stops = λ us. nothing_stops us;
     done = λ e us r h. (let w = nothing_spelt h in rw (w.0, sym w.1) (leads_map R (λ es. default_of demand ∷ es) M us));
+    first = λ e us. absurd (true≢false (sym e));
+    rest = λ e us r h. (let w = nothing_spelt h in rw (sym w.1) (stands_map R (λ es. default_of demand ∷ es) M us));
   }
 
   -- the first component has to be spelt

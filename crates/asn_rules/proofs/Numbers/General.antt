@@ -1,14 +1,14 @@
 -- Items under their general length: laws, and what readers of parts say of the whole.
-use Rattle.std.proofs.Common.{◌≡◌, ℕ, zero, suc, ◌+◌, ◌*◌, ◌<◌, ◌≤◌, ⊎_elim, List, [], ◌∷◌, ◌++◌, length, length-append, refl, sym, ap, ◌∙◌, subst, arith}
+use Rattle.std.proofs.Common.{◌≡◌, ℕ, zero, suc, ◌+◌, ◌*◌, ◌<◌, ◌≤◌, ⊎_elim, List, [], ◌∷◌, ◌++◌, length, length-append, refl, sym, ap, ◌∙◌, subst, append_assoc, arith}
 use Rattle.std.proofs.lemmas.Bool.{cases_lt}
 use Rattle.asn_bits.specs.Numbers.{bits}
 use Rattle.asn_bits.proofs.Weights.{bits_are}
 use Rattle.asn_rules.proofs.Remaining.Carries.{carries_both, carries_map, carries_short, carries_refused, carries_after, taken}
 use Rattle.asn_rules.proofs.Live.Chunks.{FieldsPart}
 use Rattle.asn_rules.proofs.Languages.Forks.{map_map, map_lawful_on, same_flip, same_short, same_refused, carries_left, carries_whole, same_inhabited}
-use Rattle.asn_rules.proofs.Languages.Parts.{map_inhabited, map_spells, map_short, map_refused}
+use Rattle.asn_rules.proofs.Languages.Parts.{map_inhabited, map_source, map_spells, map_short, map_refused}
 use Rattle.asn_rules.proofs.Languages.Rows.{row_lawful, row_inhabited}
-use Rattle.asn_rules.proofs.Languages.Then.{Follows, then_lawful, then_spells, then_inhabited, then_short_first, then_short_second, then_refused_first, then_refused_second}
+use Rattle.asn_rules.proofs.Languages.Then.{Follows, then_lawful, then_spells, then_splits, then_inhabited, then_short_first, then_short_second, then_refused_first, then_refused_second}
 use Rattle.asn_rules.specs.Chunks.{Chunk, ones}
 use Rattle.asn_rules.specs.Forks.{Same}
 use Rattle.asn_rules.specs.General.{Length, last, fragment, Left, Blocks, Header, together, after_first, Body, Once, Within, General}
@@ -238,7 +238,7 @@ general_last_refused {A} {R} L {S} {n} {k} ok i h g =
     subst (λ (l : List ℕ). Refused R (General L S) l k) (sym t.2) (carries_refused (general_last L S n ok i t.1) g)
 
 -- after a fragment something stands
-rest_follows : {A : Type 0} {R : Fielding} {L : A → List Chunk → Type 0} {S : ℕ → Type 0} {m : ℕ} {us r : List ℕ} → Inhabited L → Spells R (Header S) (fragment m) us r → Follows (Row L (16384 * m)) (λ _. General L (Left S m))
+pub rest_follows : {A : Type 0} {R : Fielding} {L : A → List Chunk → Type 0} {S : ℕ → Type 0} {m : ℕ} {us r : List ℕ} → Inhabited L → Spells R (Header S) (fragment m) us r → Follows (Row L (16384 * m)) (λ _. General L (Left S m))
 rest_follows {A} {R} {L} {S} {m} i h = rests (header_tells h.spelt)
   where
     rests : Blocks S m → Follows (Row L (16384 * m)) (λ _. General L (Left S m))
@@ -273,3 +273,27 @@ pub general_rest_refused : {A : Type 0} {R : Fielding} (L : A → List Chunk →
 general_rest_refused {A} {R} L {S} {m} {k} ok i law h f g =
     let t = taken h in
     subst (λ (l : List ℕ). Refused R (General L S) l k) (sym t.2) (carries_refused (general_fragment L S m ok i t.1) (map_refused (then_refused_second ok (row_lawful law (16384 * m)) f g)))
+
+-- A list that begins so has these items: after the last length
+pub general_last_only : {A : Type 0} {R : Fielding} (L : A → List Chunk → Type 0) {S : ℕ → Type 0} {n : ℕ} {vs : List A} {us r s : List ℕ} → FieldsPart R → Inhabited L → Spells R (Header S) (last n) us r → Spells R (General L S) vs us s → Spells R (Row L n) vs r s
+general_last_only {A} {R} L {S} {n} {vs} {us} {r} {s} ok i h g =
+    let t = taken h in
+    (general_last L S n ok i t.1).read vs r s (subst (λ (l : List ℕ). Spells R (General L S) vs l s) t.2 g)
+
+-- and after a fragment
+pub general_rest_only : {A : Type 0} {R : Fielding} (L : A → List Chunk → Type 0) {S : ℕ → Type 0} {m : ℕ} {vs ws : List A} {us r x s : List ℕ} → FieldsPart R → Inhabited L → Lawful L → Spells R (Header S) (fragment m) us r → Spells R (Row L (16384 * m)) vs r x → Spells R (General L S) ws us s
+    → (xs : List A) × Spells R (General L (Left S m)) xs x s × (ws ≡ vs ++ xs)
+general_rest_only {A} {R} L {S} {m} {vs} {ws} {us} {r} {x} {s} ok i law h f g =
+    let t = taken h in
+    let u = taken f in
+    let split : us ≡ (t.0 ++ u.0) ++ x = t.2 ∙ ap (λ (l : List ℕ). t.0 ++ l) u.2 ∙ sym (append_assoc t.0 u.0 x) in
+    map_source ((general_blocks L S m ok i law t.1 u.1).read ws x s (subst (λ (l : List ℕ). Spells R (General L S) ws l s) split g))
+
+-- of a fragment these are the first
+pub general_row_only : {A : Type 0} {R : Fielding} (L : A → List Chunk → Type 0) {S : ℕ → Type 0} {m : ℕ} {ws : List A} {us r s : List ℕ} → FieldsPart R → Inhabited L → Spells R (Header S) (fragment m) us r → Spells R (General L S) ws us s
+    → (vs : List A) × (xs : List A) × (x : List ℕ) × Spells R (Row L (16384 * m)) vs r x × (ws ≡ vs ++ xs)
+general_row_only {A} {R} L {S} {m} {ws} {us} {r} {s} ok i h g =
+    let t = taken h in
+    let w = map_source ((general_fragment L S m ok i t.1).read ws r s (subst (λ (l : List ℕ). Spells R (General L S) ws l s) t.2 g)) in
+    let b = then_splits w.1 in
+    (w.0.0, w.0.1, b.rest, b.earlier, w.2)

@@ -114,7 +114,7 @@ flat_after R [] x = refl
 flat_after R (u ∷ us) x = ap (λ (l : List ℕ). u ∷ l) (flat_after R us x)
 
 -- plain units begin more of them
-front_of_ones : (R : Fielding) (us t : List ℕ) → IsFront R (ones (us ++ t)) us
+pub front_of_ones : (R : Fielding) (us t : List ℕ) → IsFront R (ones (us ++ t)) us
 front_of_ones R [] t = tt
 front_of_ones R (u ∷ us) t = (refl, front_of_ones R us t)
 

@@ -43,7 +43,7 @@ octet_spelled = set_spelled 8 (λ n. n < 256) (λ n h. omega (arith, h))
 -- ---- plain units under their general length
 
 -- plain units one after the other
-joined_ones : (items : List (List ℕ)) → joined (map ones items) ≡ ones (joined items)
+pub joined_ones : (items : List (List ℕ)) → joined (map ones items) ≡ ones (joined items)
 joined_ones [] = refl
 joined_ones (x ∷ xs) = ap (λ (l : List Chunk). ones x ++ l) (joined_ones xs) ∙ sym (ones-append x (joined xs))
 
@@ -53,7 +53,7 @@ same_map [] = refl
 same_map (u ∷ us) = ap (λ (t : List ℕ). u ∷ t) (same_map us)
 
 -- plain units under lengths
-lengths_ones : (ls : List Length) (items : List (List ℕ)) → with_lengths one ls (map ones items) ≡ ones (with_lengths (λ u. u) ls items)
+pub lengths_ones : (ls : List Length) (items : List (List ℕ)) → with_lengths one ls (map ones items) ≡ ones (with_lengths (λ u. u) ls items)
 lengths_ones [] items = refl
 lengths_ones (l ∷ ls) items =
     let front : joined (take l.items (map ones items)) ≡ ones (joined (take l.items items)) = ap joined (take-map ones l.items items) ∙ joined_ones (take l.items items) in

@@ -26,4 +26,5 @@ returns-in-Ok-put-clause-kept g c =
     let none : g.R.ReadLeaves.rules.to_units c.feed_fragments.new.units ≡ [] = rw c.in-Err-Short.field-0-is at c.in-Err-Short.ensures.after in
     let kept : OctetsGoOn g.R.ReadLeaves.rules (g.K.InFragments.coding c.args.kind.now) g.R.ReadLeaves.ahead g.R.ReadLeaves.is_between c.feed_fragments.new.octets all (g.R.ReadLeaves.rules.to_units c.feed_fragments.new.units) = c.feed_fragments.ensures.kept (cc (c.in-Err-Short.is, c.in-Err-Short.field-0-is)) all h in
     let fs : nodes c.put.new.self ≡ frame.Octets c.feed_fragments.new.octets ∷ [] = c.in-Ok-put.ensures ∙ ap (λ (gs : List (Frame g.row.R-Fragments.Denot)). frame.Octets c.feed_fragments.new.octets ∷ gs) c.requires.empty in
-    octets_took g.R.ReadLeaves.rules c.keep_laws.ensures c.keep_feed_laws.ensures (g.K.InFragments.coding c.args.kind.now) c.keep_octet_laws.ensures g.R.ReadLeaves.ahead g.R.ReadLeaves.is_between (nodes c.put.new.self) c.feed_fragments.new.octets all fs (subst (λ (xs : List ℕ). OctetsGoOn g.R.ReadLeaves.rules (g.K.InFragments.coding c.args.kind.now) g.R.ReadLeaves.ahead g.R.ReadLeaves.is_between c.feed_fragments.new.octets all xs) none kept)
+    let a : Stops g.R.ReadLeaves.rules.ruling.fielding (OctetsOf (g.K.InFragments.coding c.args.kind.now)) all stop.Short = rw c.in-Err-Short.field-0-is at (c.in-Err-Short.ensures.stop all h) in
+    octets_took g.R.ReadLeaves.rules c.keep_laws.ensures c.keep_feed_laws.ensures (g.K.InFragments.coding c.args.kind.now) c.keep_octet_laws.ensures g.R.ReadLeaves.ahead g.R.ReadLeaves.is_between (nodes c.put.new.self) c.feed_fragments.new.octets all fs a.told (subst (λ (xs : List ℕ). OctetsGoOn g.R.ReadLeaves.rules (g.K.InFragments.coding c.args.kind.now) g.R.ReadLeaves.ahead g.R.ReadLeaves.is_between c.feed_fragments.new.octets all xs) none kept)

@@ -15,6 +15,7 @@ mod help;
 mod laying;
 mod messages;
 mod newer_json;
+mod paths;
 mod piped;
 mod refused;
 mod request;

@@ -4,10 +4,10 @@ ghost use Rattle.std.specs.Option.{option_map};
 ghost use Rattle.asn_values.specs.View.{shape_of, fields_seen, alternatives_seen, more_alternatives_of};
 ghost use Rattle.asn_values.specs.Shape.{choice};
 ghost use Rattle.asn_newer.specs.declared.path.PathStep.TheVariants as step;
-ghost use Rattle.asn_newer.specs.Paths.{path_text, steps_text, stepped, to_component, to_alternative};
-ghost use Rattle.asn_newer.specs.PathParts.{label_text, part_seen};
+ghost use Rattle.asn_tool.specs.Paths.{path_text, steps_text, stepped, to_component, to_alternative};
+ghost use Rattle.asn_tool.specs.PathParts.{label_text, part_seen};
 
-use crate::path::PathStep;
+use asn_newer::PathStep;
 use asn_values::{Alt, AsnType, Field};
 use std::alloc::{AllocError, Global};
 

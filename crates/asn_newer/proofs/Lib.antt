@@ -1,4 +1,3 @@
 pub mod Law
 pub mod Parts
 pub mod Walk
-pub mod PathTexts

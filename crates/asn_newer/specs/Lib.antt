@@ -1,6 +1,4 @@
 pub mod Skipped
-pub mod Paths
-pub mod PathParts
 pub mod Loose
 pub mod Versions
 pub mod NewerLaws

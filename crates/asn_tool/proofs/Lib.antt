@@ -5,6 +5,7 @@ pub mod Given
 pub mod Laid
 pub mod NewerObjects
 pub mod NotHelp
+pub mod PathTexts
 pub mod Refusals
 pub mod SetOptions
 pub mod Sourced

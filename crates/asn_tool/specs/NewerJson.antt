@@ -10,7 +10,7 @@ use Rattle.asn_values.specs.Shape.{Shape}
 use Rattle.asn_rules.specs.Answer.{max_octets}
 use Rattle.asn_newer.specs.Skipped.{SkippedAt}
 use Rattle.asn_newer.specs.Loose.{LooseCoding, IsLooseAt}
-use Rattle.asn_newer.specs.Paths.{path_text}
+use Rattle.asn_tool.specs.Paths.{path_text}
 use Rattle.asn_tool.specs.Laying.{ReadsAs}
 
 -- a field that was skipped: the path to the SEQUENCE or CHOICE of which it is an addition, its index among the

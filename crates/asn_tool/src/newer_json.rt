@@ -6,9 +6,10 @@ ghost use Rattle.asn_tool.specs.NewerJson.{IsTakenBack, ShowsNewerAt, more_objec
 ghost use Rattle.asn_tool.specs.NewerLines.{IsGiven};
 
 use crate::laying::value_text;
+use crate::paths::path_text;
 use asn_convert::RuleName;
 use asn_json_layout::Layout;
-use asn_newer::{NewerFault, ReadNewer, SkippedAt, path_text};
+use asn_newer::{NewerFault, ReadNewer, SkippedAt};
 use asn_oer::Oer;
 use asn_per::Per;
 use asn_values::{AsnType, Checked};

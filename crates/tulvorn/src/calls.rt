@@ -61,8 +61,7 @@ pub fn read_newer<R: ReadNewer>(
     R::read_newer(alloc, ty, octets)
 }
 
-/// The same, with the path to the SEQUENCE or CHOICE of each skipped field: see `ReadNewer::read_newer_at`. `path_text`
-/// is the text of a path.
+/// The same, with the path to the SEQUENCE or CHOICE of each skipped field: see `ReadNewer::read_newer_at`.
 ///
 /// # Errors
 /// As `ReadNewer::read_newer_at`.

@@ -13,7 +13,7 @@ pub use asn_json::{JsonFault, from_json, to_json};
 pub use asn_module::{
     BoundFault, Module, ModuleFault, RefusedText, TypeNames, read, read_explained, read_within,
 };
-pub use asn_newer::{NewerAt, NewerFault, PathStep, ReadNewer, SkippedAt, path_text};
+pub use asn_newer::{NewerAt, NewerFault, PathStep, ReadNewer, SkippedAt};
 pub use asn_oer::Oer;
 pub use asn_per::Per;
 pub use asn_plan::{Budget, PlanRules, Planned, Taken, WithinFault};

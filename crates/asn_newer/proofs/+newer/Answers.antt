@@ -205,7 +205,7 @@ reader::read_known-returns-in-Ok-clause-done g t c =
     let l = loose_by g.R.ReadLeaves.rules g.R.OtherVersions.loose in
     let ways = c.keep_walk_laws.ensures.ways in
     part_taken c.args.step (skipped_at_seen c.args.skipped.now.items) (skipped_at_seen c.new-inner.result.items) (skipped_at_seen c.read_content.new.skipped.items) (datum_of c.in-Ok.value)
-    (ap skipped_at_seen c.new-inner.ensures.items) c.in_ok-push_inside.ensures
+    (ap skipped_at_seen c.new-inner.ensures.items) c.in_ok-push_inside-in-Ok.ensures
     (known_read l ways (shape_of c.args.ty.now) c.in_ok-octets.ensures.done (rw c.deref.ensures.value at c.in-Ok.ensures.done))
 
 pub reader::read_known-returns-clause-stop : goal.reader::read_known-returns-clause-stop
@@ -304,7 +304,7 @@ reader::read_elements-loop-i-preserved g t c =
     let ways = c.keep_walk_laws.ensures.ways in
     let items : map datum_of c.push.new.self.items ≡ map datum_of c.loop-i.elements.items ++ datum_of c.in_ok-value.value ∷ [] =
     ap (map datum_of) c.in_ok-push.ensures.items ∙ map-append datum_of c.loop-i.elements.items (c.in_ok-value.value ∷ []) in
-    let counted : c.len.result ≡ length (map datum_of c.loop-i.elements.items) = c.len.ensures ∙ sym (length-map c.loop-i.elements.items datum_of) in
+    let counted : c.len.result ≡ length (map datum_of c.loop-i.elements.items) = omega (arith, c.len.ensures, c.loop-i.elements.ok.0, length-map c.loop-i.elements.items datum_of) in
     (rw items (row_next (c.args.count - (c.loop-i.i + 1)) (c.args.count - c.loop-i.i) (omega (arith, c.loop-i-test.true)) (loose_way l ways (shape_of c.args.element.now) c.requires.of_profile) (datum_of c.in_ok-value.value) (skipped_at_seen c.read_part.new.skipped.items) (g.R.ReadLeaves.rules.to_units c.read_part.new.units) (rw counted at c.in_ok-value.ensures.done) c.loop-i.invariant.0), c.in_ok-value.ensures.at_unit)
 
 pub reader::read_elements-returns-clause-done : goal.reader::read_elements-returns-clause-done

@@ -12,7 +12,7 @@ use Rattle.asn_values.proofs.Components.{shape_of_part}
 use Rattle.asn_values.proofs.Alternatives.{shape_of_branch}
 use Rattle.asn_newer.specs.declared.path.PathStep.{PathStep}
 use Rattle.asn_newer.specs.declared.path.PathStep.TheVariants as step
-use Rattle.asn_newer.specs.Paths.{Stepped, by_name, to_component, to_alternative, stepped, first_step, steps_text}
+use Rattle.asn_tool.specs.Paths.{Stepped, by_name, to_component, to_alternative, stepped, first_step, steps_text}
 
 -- the step to a component or an alternative, as the program holds these
 abbrev pub to_field : Field → Stepped

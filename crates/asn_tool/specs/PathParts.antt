@@ -2,10 +2,10 @@
 use Rattle.std.specs.Prelude.{ℕ, List, ◌++◌, codes}
 use Rattle.std.specs.Fmt.{decimal}
 use Rattle.asn_values.specs.View.{shape_of}
-use Rattle.asn_newer.specs.declared.texts.Label.{Label}
-use Rattle.asn_newer.specs.declared.texts.Label.TheVariants as label
-use Rattle.asn_newer.specs.declared.texts.Part.{Part}
-use Rattle.asn_newer.specs.Paths.{Stepped}
+use Rattle.asn_tool.specs.declared.paths.Label.{Label}
+use Rattle.asn_tool.specs.declared.paths.Label.TheVariants as label
+use Rattle.asn_tool.specs.declared.paths.Part.{Part}
+use Rattle.asn_tool.specs.Paths.{Stepped}
 
 abbrev pub label_text : Label → List ℕ
 label_text (label.Name name) = codes "." ++ name.now

@@ -92,10 +92,10 @@ module _ {A : Type 0} (c : Coding) (laws : Laws c) (L : A → List Chunk → Typ
       go (lengths is so_far closed) e ys x = ⊎_elim
           (λ y. in_row ys s (general_last_only L (fields_part_of c laws) some y.0 x))
           (λ y.
-            (let p = general_row_only L (fields_part_of c laws) some y.1 x in
-            let first : Spells c.ruling.fielding (Row L h.count) p.0 h.first p.2 = subst (λ (j : ℕ). Spells c.ruling.fielding (Row L j) p.0 h.first p.2) (sym y.2) p.3 in
-            let z = in_row p.0 p.2 first in
-            (z.0 ++ p.1, p.4 ∙ ap (λ (l : List A). l ++ p.1) z.1 ∙ append_assoc h.so_far.row z.0 p.1)))
+          (let p = general_row_only L (fields_part_of c laws) some y.1 x in
+          let first : Spells c.ruling.fielding (Row L h.count) p.0 h.first p.2 = subst (λ (j : ℕ). Spells c.ruling.fielding (Row L j) p.0 h.first p.2) (sym y.2) p.3 in
+          let z = in_row p.0 p.2 first in
+          (z.0 ++ p.1, p.4 ∙ ap (λ (l : List A). l ++ p.1) z.1 ∙ append_assoc h.so_far.row z.0 p.1)))
           e.read
 
 -- ---- the field

@@ -123,8 +123,8 @@ module _ {F : Type 0} (c : Coding) (laws : Laws c) (feeds : FeedLaws c) (fc : Fi
   string_starts t b us good is a w = ⊎_elim
       (λ e. subst (λ (l : List ℕ). Opens R (V t) l []) (sym (nothing_came w e)) (opens_none (some t good)))
       (λ x.
-        (let begun : Short R (fc.string t).start us = subst (λ (l : List ℕ). Short R (fc.string t).start l) w.come x in
-        opens_plain a (string_live t us good is (start_stops c laws feeds (fc.string t) (strings.items t good is) ahead between us stop.Short (record { told = begun })).told)))
+      (let begun : Short R (fc.string t).start us = subst (λ (l : List ℕ). Short R (fc.string t).start l) w.come x in
+      opens_plain a (string_live t us good is (start_stops c laws feeds (fc.string t) (strings.items t good is) ahead between us stop.Short (record { told = begun })).told)))
       w.begins
 
   -- ---- sealed fields

@@ -161,13 +161,14 @@ def octets_as_they_come(count, program, file):
         count.add(ran == (1, wanted, b""), f"{cut} among octets: {ran}")
     for size in (1, 3, 4096, 8191, 8192, 8193, 65536):
         given = (b"\x50\xd0\x2a\xab\xb0" * 7000)[: 4 * size + 5]
-        whole = run([*words[:-2], "--split"], given.hex().encode())
+        whole = run([*words[:-3], "--split"], given.hex().encode())
         pieces = run_in_pieces(words, given[:20000], min(size, 8193))
         count.add(run(words, given)[:2] == whole[:2], f"octets of {size}")
-        count.add(pieces[1] == run([*words[:-2], "--split"], given[:20000].hex().encode())[1], f"octets in pieces of {size}")
+        count.add(pieces[1] == run([*words[:-3], "--split"], given[:20000].hex().encode())[1], f"octets in pieces of {size}")
     with tempfile.TemporaryFile() as given:
         one = run([program, "encode", "--type", "T", "--rules", "per", "--module", file, "--out", "binary"], b'{"id":5,"text":"%s"}' % (b"aa" * 60_000))
-        given.write(one[1] * 350)
+        for _ in range(350):
+            given.write(one[1])
         given.seek(0)
         ran = subprocess.Popen([it.replace("show", "check") for it in words], stdin=given, stdout=subprocess.PIPE)
         said = ran.stdout.read()

@@ -1,5 +1,6 @@
 -- What a node says of the types that it is a plan of.
-use Rattle.std.proofs.Common.{◌≡◌, ◌<◌, ◌+◌, ◌∷◌, ◌∙◌, sym, List, take, drop, length, get_or, refl}
+use Rattle.std.proofs.Common.{◌≡◌, ◌<◌, ◌+◌, ◌∷◌, ◌∙◌, sym, List, take, drop, length, get_or, refl, Option, Some, None}
+use Rattle.std.specs.Prelude.{IfSome}
 use Rattle.std.proofs.Math.Seq.{drop-cons}
 use Rattle.std.proofs.Math.Numerals.{add-one}
 use Rattle.asn_values.specs.Shape.{Shape, Fields, MoreFields, Alternatives, MoreAlternatives, sequence, sequence_of, choice}
@@ -15,6 +16,11 @@ use Rattle.asn_plan.specs.declared.plan.Kind.TheVariants as kind
 use Rattle.asn_plan.specs.declared.plan.Leaf.{Leaf}
 use Rattle.asn_plan.specs.declared.plan.Node.{Node}
 use Rattle.asn_plan.specs.Plans.{IsPlan, ArePlans, ArePlansOfMore, ArePlansOfEach, ArePlansOfOthers, row}
+
+-- what is said of a part, if there is one, is said of it otherwise
+pub if_some : {A : Type 0} (o : Option A) (P Q : A → Type 0) → ((a : A) → P a → Q a) → IfSome o P → IfSome o Q
+if_some None P Q f h = tt
+if_some (Some a) P Q f h = f a h
 
 pub number_is : (ns : List Node) (t : Shape) (b : Between) → IsPlan ns t (kind.Number b) → t ≡ ranged b.range
 number_is ns (sequence root more) b p = absurd p

@@ -22,7 +22,7 @@ use Rattle.asn_rules.proofs.Numbers.General.{general_once, general_inhabited, ge
 use Rattle.asn_rules.proofs.Numbers.Headers.{Tells, header_tells}
 use Rattle.asn_rules.proofs.Remaining.Carries.{taken}
 use Rattle.asn_rules.proofs.Sealed.Frames.{frame_begun, frame_lawful}
-use Rattle.asn_walk.specs.Ahead.{Ahead, items, lengths, end, Remaining, SomeAhead, Next, Advances}
+use Rattle.asn_walk.specs.Ahead.{Ahead, items, lengths, end, Remaining, SomeAhead, Advances}
 use Rattle.asn_walk.specs.Coding.{Coding}
 use Rattle.asn_walk.specs.Laws.{Laws}
 use Rattle.asn_walk.proofs.Listing.{Going, going_next_stands}
@@ -259,14 +259,14 @@ module _ {F : Type 0} (c : Coding) (laws : Laws c) (feeds : FeedLaws c) (f : Oct
         let whole : Spells R T a (us ++ b.0 ∷ b.1) [] = subst (λ (l : List ℕ). Spells R T a l []) (append-nil (field a) ∙ b.2) (is_spelt a [] g) in
         told_at c laws f.octet parts.some parts.octet q.left (ahead q.fragments) es (us ++ b.0 ∷ b.1) (h.come ++ b.0 ∷ b.1) (stands q.left refl (b.0 ∷ b.1)) a [] whole
 
-    abbrev Next : ℕ → Type 0
-    Next o = (a : List ℕ) → IsContent R k a → BeginsProperly us (field a) → Begins (es ++ o ∷ []) a
+    abbrev Further : ℕ → Type 0
+    Further o = (a : List ℕ) → IsContent R k a → BeginsProperly us (field a) → Begins (es ++ o ∷ []) a
 
-    no_frames : List (Frame F)
+    abbrev no_frames : List (Frame F)
     no_frames = []
 
     -- between fragments
-    at_length : q.left ≡ 0 → (o : ℕ) → Next o → ⊥
+    at_length : q.left ≡ 0 → (o : ℕ) → Further o → ⊥
     at_length e o next =
         let inner : ((no_frames ≡ []) × Waits c (NextOf (ahead q.fragments)) q.next_part h.come) = rw e at h.inner in
         let x = others_ahead o (ahead q.fragments) h.come h.some (come_of inner.1) in
@@ -280,7 +280,7 @@ module _ {F : Type 0} (c : Coding) (laws : Laws c) (feeds : FeedLaws c) (f : Oct
         not_next o es x.octets x.first (subst (λ (l : List ℕ). Begins (es ++ o ∷ []) l) is (next y.content y.contents y.begun))
 
     -- within one
-    at_octet : (n : ℕ) → q.left ≡ suc n → (o : ℕ) → Next o → ⊥
+    at_octet : (n : ℕ) → q.left ≡ suc n → (o : ℕ) → Further o → ⊥
     at_octet n e o next =
         let w : Waits c f.octet q.next_part h.come = (let inner = h.inner in let z = rw e at inner in z.1) in
         let x = differ.other o h.come (come_of w) in
@@ -293,10 +293,10 @@ module _ {F : Type 0} (c : Coding) (laws : Laws c) (feeds : FeedLaws c) (f : Oct
         let begins : Begins (es ++ x.octet ∷ []) y.content = told_at c laws f.octet parts.some parts.octet n (ahead q.fragments) (es ++ x.octet ∷ []) (us ++ y.further) y.rest there y.content [] y.whole in
         x.differs (same_next x.octet o es y.content begins (next y.content y.contents y.begun))
 
-    all_kept : (o : ℕ) → Next o → ⊥
+    all_kept : (o : ℕ) → Further o → ⊥
     all_kept = go q.left refl
       where
-        go : (n : ℕ) → q.left ≡ n → (o : ℕ) → Next o → ⊥
+        go : (n : ℕ) → q.left ≡ n → (o : ℕ) → Further o → ⊥
         go zero e = at_length e
         go (suc n) e = at_octet n e
 

@@ -145,10 +145,9 @@ module _ {F : Type 0} (c : Coding) (laws : Laws c) (fc : FieldCoding) (ahead : F
           taken = subst (λ (l : List ℕ). R new t (waiting l)) e here;
         }
 
-    pub too_long_feeds : (cut : Truncated) → new.state ≡ state.Stopped feed.TooLong → new.end ≡ Err cut → cut.taken ≡ length (c.ruling.units (s ++ m)) → length (s ++ m) ≡ max_octets
-        → GoesOn c fc ahead between (nodes new.frames) t (s ++ m)
-        → Going c fc ahead between (nodes new.frames) t (length (c.ruling.units (s ++ m))) new.ticks → Goes (Err feed.TooLong)
-    too_long_feeds cut state_is end_is count all h going =
+    pub too_long_feeds : (fs : List (Frame F)) (cut : Truncated) → new.state ≡ state.Stopped feed.TooLong → new.end ≡ Err cut → cut.taken ≡ length (c.ruling.units (s ++ m)) → length (s ++ m) ≡ max_octets
+        → GoesOn c fc ahead between fs t (s ++ m) → Going c fc ahead between fs t (length (c.ruling.units (s ++ m))) new.ticks → Goes (Err feed.TooLong)
+    too_long_feeds fs cut state_is end_is count all h going =
         let told : Answer c.ruling t (s ++ m) too_long = long_read c laws t k.of_profile (s ++ m) all h.short in
         let here : R new t (stopped (s ++ m) feed.TooLong) = record {
           of_type = same ∙ k.of_type;

@@ -1,9 +1,9 @@
 -- Lines of octets, cut one after the other.
-use Rattle.std.proofs.Common.{◌≡◌, ◌≢◌, ◌<◌, ◌==◌, ℕ, zero, suc, false, List, [], ◌∷◌, ◌++◌, length, get_or, take, drop, refl, sym, ◌∙◌, ap, append_assoc, length-take-le, get_or-take, length-drop, arith, rules, inl, inr, Option, Some, None, option_map}
+use Rattle.std.proofs.Common.{◌-◌, ◌+◌, ◌≡◌, ◌≢◌, ◌<◌, ◌==◌, ℕ, zero, suc, false, List, [], ◌∷◌, ◌++◌, length, get_or, take, drop, refl, sym, ◌∙◌, ap, append_assoc, length-take-le, get_or-take, length-drop, arith, rules, inl, inr, Option, Some, None, option_map}
 use Rattle.std.proofs.lemmas.Bool.{eqb-true}
 use Rattle.std.proofs.lemmas.Bool.Decides.{nat_tests}
 use Rattle.std.proofs.lemmas.Grind.{common_steps}
-use Rattle.memchr.specs.Find.{IsFirstByte, IsLastByte, is_byte}
+use Rattle.memchr.specs.Find.{IsFirstByte, is_byte}
 use Rattle.asn_convert.specs.Lines.{lines_of, is_mark_line, cut_at_mark, IsFirstLine}
 
 -- an octet that is no LF begins the first line
@@ -48,11 +48,6 @@ cut_at xs i f = cut_here xs i f.0.high (λ k below e. f.0.before k (omega arith)
 
 pub cut_nowhere : (xs : List ℕ) → 0 < length xs → IsFirstByte (is_byte 10) xs None → IsFirstLine xs xs []
 cut_nowhere xs some f = cut_last xs some (λ k below e. f k (omega arith) below (rw e refl))
-
--- after the last LF there is none
-pub none_after : (xs : List ℕ) (i : ℕ) → IsLastByte (is_byte 10) xs (Some i) → (k : ℕ) → k < length (drop (i + 1) xs) → get_or (drop (i + 1) xs) k 0 ≢ 10
-none_after xs i f k below = let long : length (drop (i + 1) xs) ≡ length xs - (i + 1) = length-drop (i + 1) xs in
-    rw (get_or-drop xs (i + 1) k 0) (λ e. f.0.after (i + 1 + k) (omega arith) (omega (arith, below, long)) (rw e refl))
 
 abbrev pub Cut : Type 0
 Cut = Option (List ℕ × List (List ℕ))

@@ -1,10 +1,11 @@
 -- Hexadecimal digits, two an octet.
-use Rattle.std.proofs.Common.{◌≡◌, ◌≤◌, ◌<◌, ◌+◌, ◌-◌, ◌*◌, ◌%◌, ◌&&◌, ℕ, Bool, true, false, List, length, take, drop, slice_index, slice_set, Option, Some, None, Result, Ok, Err, refl, sym, ap, ◌∙◌, arith}
+use Rattle.std.proofs.Common.{◌≡◌, ◌≤◌, ◌<◌, ◌+◌, ◌-◌, ◌*◌, ◌%◌, ◌&&◌, ℕ, Bool, true, false, List, ◌==◌, ◌≢◌, length, take, drop, slice_index, slice_set, Option, Some, None, Result, Ok, Err, refl, sym, ap, ◌∙◌, arith}
 use Rattle.std.specs.Prelude.{MatchOption, ⊤, nat_le}
 use Rattle.std.proofs.lemmas.Bool.Decides.{nat_tests}
 use Rattle.hex.specs.Hex.{decode_of, decode_pairs, hex_digit_value, pair_value, value_at}
 use Rattle.hex.specs.declared.error.FromHexError.{FromHexError}
 use Rattle.hex.specs.declared.error.FromHexError.TheVariants.{InvalidHexCharacter}
+use Rattle.hex.proofs.HexLemmas.{decode_of-even}
 use Rattle.hex.proofs.Pairs.{prepend, decode_step, decode_err, decode_done, decode_start}
 
 -- ---- one digit
@@ -79,12 +80,12 @@ pub read_further : (line octets : List ℕ) (n v : ℕ) (all_digits are_digits :
     → (are_digits ≡ true → (i : ℕ) → pair_value (slice_index line (2 * n)) (slice_index line (2 * n + 1)) i ≡ Ok v)
     → (are_digits ≡ false → (i w : ℕ) → pair_value (slice_index line (2 * n)) (slice_index line (2 * n + 1)) i ≡ Ok w → ⊥)
     → ReadUpTo line (slice_set octets n v) (all_digits && are_digits) (n + 1)
-read_further line octets n v true true there room h yes no = record {
-  read = λ _. decode_step line octets n v there room (yes refl (2 * n)) (h.read refl);
+read_further line octets n v true true there room h are_two not_two = record {
+  read = λ _. decode_step line octets n v there room (are_two refl (2 * n)) (h.read refl);
   none = λ e. absurd (cc);
 }
-read_further line octets n v true false there room h yes no =
-    let bad = no_value (pair_value (slice_index line (2 * n)) (slice_index line (2 * n + 1)) (2 * n)) (λ w. no refl (2 * n) w) in
+read_further line octets n v true false there room h are_two not_two =
+    let bad = no_value (pair_value (slice_index line (2 * n)) (slice_index line (2 * n + 1)) (2 * n)) (λ w. not_two refl (2 * n) w) in
     record {
       read = λ e. absurd (cc);
       none = λ _ os e. differ (rw (decode_err line octets n bad.0 there bad.1 (h.read refl)) at e);
@@ -92,7 +93,22 @@ read_further line octets n v true false there room h yes no =
   where
     differ : {A : Type 0} {x : FromHexError} {v : A} → Err x ≡ Ok v → ⊥
     differ e = absurd (cc)
-read_further line octets n v false b there room h yes no = record { read = λ e. absurd (cc); none = λ _. h.none refl }
+read_further line octets n v false b there room h are_two not_two = record { read = λ e. absurd (cc); none = λ _. h.none refl }
 
-pub read_whole : (line octets : List ℕ) (n : ℕ) → length octets ≤ n → length line ≤ 2 * n → ReadUpTo line octets true n → decode_pairs 0 line ≡ Ok octets
-read_whole line octets n all fits h = decode_done line octets n all fits (h.read refl)
+-- ---- the whole line
+
+pub read_whole : (line octets : List ℕ) (all_digits : Bool) (n : ℕ) → length line ≡ 2 * length octets → length octets ≤ n → ReadUpTo line octets all_digits n → all_digits ≡ true → decode_of line ≡ Ok octets
+read_whole line octets all_digits n twice all h e =
+    decode_of-even line (omega (arith, twice)) ∙ decode_done line octets n all (omega (arith, twice, all)) (h.read e)
+
+pub read_none : (line octets : List ℕ) (all_digits : Bool) (n : ℕ) → length line ≡ 2 * length octets → ReadUpTo line octets all_digits n → all_digits ≡ false → (os : List ℕ) → decode_of line ≡ Ok os → ⊥
+read_none line octets all_digits n twice h e os is = h.none e os (sym (decode_of-even line (omega (arith, twice))) ∙ is)
+
+-- an odd count of digits
+pub odd_none : (line os : List ℕ) → length line % 2 ≢ 0 → decode_of line ≡ Ok os → ⊥
+odd_none line os odd e =
+    let one : (length line % 2 == 1) ≡ true = grind (arith, nat_tests) in
+    differ (rw one at e)
+  where
+    differ : {A : Type 0} {x : FromHexError} {v : A} → Err x ≡ Ok v → ⊥
+    differ e = absurd (cc)

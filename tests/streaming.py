@@ -5,13 +5,17 @@ usage: tests/streaming.py PROGRAM      a built asn_tool
 
 The answers to the messages of `examples` are those to the same messages after a line `====`, in each order and under both
 rules, whole and cut into pieces of few octets; an answer comes before the next line is written; the memory of the program
-does not grow with its input; and what stops it is told. With --explain standard output is the same.
+does not grow with its input; and what stops it is told. With --explain standard output is the same. Of messages that stand
+one after the other without lines (--in binary --split) each is answered once its last octet has come. With --stats a
+terminal is told how many messages are answered so far, and nothing else is.
 """
 import os
+import pty
 import subprocess
 import sys
 import tempfile
 import threading
+import time
 
 TOP = os.path.dirname(os.path.dirname(os.path.abspath(__file__)))
 MODULE = b"M DEFINITIONS AUTOMATIC TAGS ::= BEGIN T ::= SEQUENCE { id INTEGER (0..7), text OCTET STRING OPTIONAL } END\n"
@@ -134,6 +138,66 @@ def memory(count, program, file):
     count.add(ran.returncode == 0 and used.ru_maxrss < 20_000, f"status {ran.returncode}, {used.ru_maxrss} KB for 21 MB of lines")
 
 
+def octets_as_they_come(count, program, file):
+    """A message among octets is answered before the next octets are written, wherever they are cut; not more is kept."""
+    words = [program, *SHOW, "--module", file, "--in", "binary", "--split"]
+    ran = subprocess.Popen(words, stdin=subprocess.PIPE, stdout=subprocess.PIPE)
+    for octets, answers in (
+        (b"\x50", [b'{"id":5}\n']),
+        (b"\x50\x70", [b'{"id":5}\n', b'{"id":7}\n']),
+        (b"\xd0\x2a", []),
+        (b"\xab", []),
+        (b"\xb0\x50\xd0", [b'{"id":5,"text":"aabb"}\n', b'{"id":5}\n']),
+        (b"\x0f\x51", [b"! refused at bit 13: padding\n"]),
+    ):
+        os.write(ran.stdin.fileno(), octets)
+        for wanted in answers:
+            answer = ran.stdout.readline()
+            count.add(answer == wanted, f"{octets} among octets: {answer}")
+    ran.stdin.close()
+    count.add(ran.wait() == 1 and ran.stdout.read() == b"", "the end of the octets that come")
+    for cut in (b"\x50\xd0", b"\x50\xd0\x2a\xab"):
+        wanted, ran = b'{"id":5}\n! cut short after %d bits\n' % (8 * len(cut) - 8), run(words, cut)
+        count.add(ran == (1, wanted, b""), f"{cut} among octets: {ran}")
+    for size in (1, 3, 4096, 8191, 8192, 8193, 65536):
+        given = (b"\x50\xd0\x2a\xab\xb0" * 7000)[: 4 * size + 5]
+        whole = run([*words[:-3], "--split"], given.hex().encode())
+        pieces = run_in_pieces(words, given[:20000], min(size, 8193))
+        count.add(run(words, given)[:2] == whole[:2], f"octets of {size}")
+        count.add(pieces[1] == run([*words[:-3], "--split"], given[:20000].hex().encode())[1], f"octets in pieces of {size}")
+    with tempfile.TemporaryFile() as given:
+        one = run([program, "encode", "--type", "T", "--rules", "per", "--module", file, "--out", "binary"], b'{"id":5,"text":"%s"}' % (b"aa" * 60_000))
+        for _ in range(350):
+            given.write(one[1])
+        given.seek(0)
+        ran = subprocess.Popen([it.replace("show", "check") for it in words], stdin=given, stdout=subprocess.PIPE)
+        said = ran.stdout.read()
+        _, status, used = os.wait4(ran.pid, 0)
+        ran.returncode = os.waitstatus_to_exitcode(status)
+    count.add(ran.returncode == 0 and said == b"ok %d\n" % len(one[1]) * 350, f"21 MB among octets: status {ran.returncode}, {said[:100]}")
+    count.add(used.ru_maxrss < 20_000, f"21 MB among octets: {used.ru_maxrss} KB")
+
+
+def told_on_a_terminal(count, program, file):
+    """With --stats standard error has a line that is written again and again, where it is a terminal, and takes it away."""
+    words = [program, "check", "--type", "T", "--rules", "per", "--module", file, "--stats"]
+    mine, theirs = pty.openpty()
+    ran = subprocess.Popen(words, stdin=subprocess.PIPE, stdout=subprocess.DEVNULL, stderr=theirs)
+    os.close(theirs)
+    said = b""
+    for _ in range(3):
+        os.write(ran.stdin.fileno(), b"50\n")
+        time.sleep(0.3)
+    ran.stdin.close()
+    while b"refused: 0" not in said:
+        said += os.read(mine, 4096)
+    os.close(mine)
+    told = said.split(b"messages: 3")[0]
+    count.add(ran.wait() == 0 and b" messages, " in told and b" a second" in told, f"a line on a terminal: {said}")
+    count.add(told.endswith(b" \r") and told.count(b"\r") % 2 == 0, f"the line is taken away: {said}")
+    count.add(b"\r" not in run(words, b"50\n50\n50\n")[2], "nothing where there is no terminal")
+
+
 def faults(count, program, file):
     text = "aa" * 30_000
     encoded = run([program, "encode", "--type", "T", "--rules", "per", "--module", file], b'{"id":5,"text":"%s"}' % text.encode())
@@ -170,6 +234,8 @@ def main(words):
         explained(count, program)
         over_budget(count, program)
         as_they_come(count, program, file)
+        octets_as_they_come(count, program, file)
+        told_on_a_terminal(count, program, file)
         memory(count, program, file)
         faults(count, program, file)
     print(f"{count.passed} passed, {count.failed} failed")

@@ -4,6 +4,7 @@ use crate::budget::{Answered, answer_within};
 use crate::counting::Counts;
 use crate::explaining::{over_words, why_refused};
 use crate::laying::laid_text;
+use crate::progress::Progress;
 use asn_convert::{Job, Order, RuleName, RunFault, answer_line};
 use asn_json_layout::Layout;
 use asn_octet_forms::{OctetForm, octets_in, text_of};
@@ -73,6 +74,7 @@ impl<'t> Asked<'t> {
 pub struct Answers<W> {
     pub output: Counted<W>,
     pub counts: Counts,
+    pub progress: Progress,
 }
 
 /// Where a message stands.

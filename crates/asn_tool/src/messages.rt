@@ -2,6 +2,7 @@
 use crate::answering::{Answers, Asked, Place, answer_one, refuse_text};
 use crate::cutting::next_text;
 use crate::fronts::front_len;
+use crate::streaming::answer_stream;
 use asn_convert::RunFault;
 use asn_octet_forms::{OctetForm, octets_in};
 use std::io::{BufRead, Write};
@@ -18,6 +19,9 @@ pub fn answer_input<R: BufRead, W: Write>(
     file: &str,
     asked: Asked<'_>,
 ) -> Result<bool, RunFault> {
+    if asked.forms.is_split && asked.forms.given == Some(OctetForm::Binary) {
+        return answer_stream(rt, input, answers, file, asked);
+    }
     let mut text = Vec::new(rt.alloc());
     let mut lines = 0;
     let mut all_good = true;
@@ -47,7 +51,11 @@ fn answer_text<W: Write>(
     let form = match asked.forms.given {
         Some(form) => form,
         None if asked.forms.is_split => OctetForm::Hex,
-        None => return answer_one(rt, answers, place, text, asked),
+        None => {
+            let is_good = answer_one(rt, answers, place, text, asked)?;
+            answers.progress.step(rt);
+            return Ok(is_good);
+        }
     };
     match octets_in(rt.alloc(), form, text)? {
         Some(octets) => {
@@ -88,7 +96,10 @@ fn answer_each<W: Write>(
 }
 
 /// Answers the message that these octets are.
-fn answer_octets<W: Write>(
+///
+/// # Errors
+/// `Write` where the writer answered a fault, `Memory` where an allocation failed.
+pub fn answer_octets<W: Write>(
     rt: &HostRuntime,
     answers: &mut Answers<W>,
     place: Place<'_>,
@@ -96,5 +107,7 @@ fn answer_octets<W: Write>(
     asked: Asked<'_>,
 ) -> Result<bool, RunFault> {
     let digits = hex::encode(rt.alloc(), octets)?;
-    answer_one(rt, answers, place, digits.as_bytes(), asked)
+    let is_good = answer_one(rt, answers, place, digits.as_bytes(), asked)?;
+    answers.progress.step(rt);
+    Ok(is_good)
 }

@@ -5,6 +5,7 @@ use crate::counting::Counts;
 use crate::ending::ending;
 use crate::messages::answer_input;
 use crate::piped::Piped;
+use crate::progress::Progress;
 use crate::refused::{imports_told, line_told, text_told};
 use crate::sources::{Instead, input_with, instead_of, module_of};
 use crate::stop::Stop;
@@ -15,8 +16,11 @@ use asn_plan::Planned;
 use asn_published::{Options, PublishedFault};
 use asn_rules::Counted;
 use asn_values::Checked;
-use std::io::{BufRead, BufReader, ErrorKind, IsTerminal, Write};
+use std::io::{BufRead, BufReader, BufWriter, ErrorKind, IsTerminal, Write};
 use std::{fs, io};
+
+/// How many octets of answers are held back at once, until there is nothing more to be read.
+const HELD: usize = 65536;
 
 /// Does the job on standard input and output, its module being that of the files, or of standard input where there are
 /// none. Gives the exit status.
@@ -83,7 +87,7 @@ fn run_text<'a>(
     let mut lines = lines;
     match run_asked(rt, job, text, asking, &mut lines)? {
         Some(status) => Ok(status),
-        None => Ok(run_on(rt, job, octets)),
+        None => run_on(rt, job, octets),
     }
 }
 
@@ -130,6 +134,7 @@ fn answer_all<'a, R: BufRead>(
     let mut answers = Answers {
         output: Counted::new(Piped::new(io::writer(rt))),
         counts: Counts::new(rt.alloc()),
+        progress: Progress::new(rt, asking.is_counted),
     };
     let files = asking.messages.as_slice();
     let answer = if files.is_empty() {
@@ -137,7 +142,12 @@ fn answer_all<'a, R: BufRead>(
     } else {
         answer_files(rt, &mut answers, files, asked)?
     };
-    let Answers { mut output, counts } = answers;
+    let Answers {
+        mut output,
+        counts,
+        mut progress,
+    } = answers;
+    progress.clear(rt);
     let answer = flushed(&mut output, answer);
     if asking.is_counted && answer.is_ok() {
         let told = counts.text(rt.alloc())?;
@@ -273,18 +283,26 @@ fn run_coming<'a>(
             return Ok(status);
         }
     }
+    let Ok(held) = BufWriter::with_capacity(rt.alloc(), HELD, Piped::new(io::writer(rt))) else {
+        return Err(Stop::Memory);
+    };
     let mut input = Counted::new(rt.reader());
-    let mut output = Counted::new(Piped::new(io::writer(rt)));
+    let mut output = Counted::new(held);
     let answer = run_on_lines(rt.alloc(), head, &mut input, &mut output, job);
-    Ok(ended(rt, &answer, output.into_inner().is_closed()))
+    let is_closed = output.into_inner().get_ref().is_closed();
+    Ok(ended(rt, &answer, is_closed))
 }
 
 /// The exit status of the job on these octets, after the line on standard error, if there is one.
-fn run_on(rt: &HostRuntime, job: &Job, octets: &[u8]) -> u8 {
+fn run_on<'a>(rt: &HostRuntime, job: &Job, octets: &[u8]) -> Result<u8, Stop<'a>> {
+    let Ok(held) = BufWriter::with_capacity(rt.alloc(), HELD, Piped::new(io::writer(rt))) else {
+        return Err(Stop::Memory);
+    };
     let mut input = Counted::new(octets);
-    let mut output = Counted::new(Piped::new(io::writer(rt)));
+    let mut output = Counted::new(held);
     let answer = run(rt.alloc(), &mut input, &mut output, job);
-    ended(rt, &answer, output.into_inner().is_closed())
+    let is_closed = output.into_inner().get_ref().is_closed();
+    Ok(ended(rt, &answer, is_closed))
 }
 
 /// The exit status of a job that was answered so, after the line on standard error, if there is one; `is_closed` says

@@ -1,5 +1,6 @@
 pub mod Answered
 pub mod Converting
+pub mod DigitPairs
 pub mod HexDigits
 pub mod Lines
 pub mod Modules

@@ -1,7 +1,9 @@
 -- Lines of octets, cut one after the other.
-use Rattle.std.proofs.Common.{◌≡◌, ◌≢◌, ◌<◌, ◌==◌, ℕ, zero, suc, false, List, [], ◌∷◌, ◌++◌, length, get_or, take, drop, refl, sym, ◌∙◌, ap, append_assoc, length-take-le, get_or-take, length-drop, arith, rules, inl, inr, Option, Some, None, option_map}
+use Rattle.std.proofs.Common.{◌-◌, ◌+◌, ◌≡◌, ◌≢◌, ◌<◌, ◌==◌, ℕ, zero, suc, false, List, [], ◌∷◌, ◌++◌, length, get_or, take, drop, refl, sym, ◌∙◌, ap, append_assoc, length-take-le, get_or-take, length-drop, arith, rules, inl, inr, Option, Some, None, option_map}
+use Rattle.std.proofs.lemmas.Bool.{eqb-true}
 use Rattle.std.proofs.lemmas.Bool.Decides.{nat_tests}
 use Rattle.std.proofs.lemmas.Grind.{common_steps}
+use Rattle.memchr.specs.Find.{IsFirstByte, is_byte}
 use Rattle.asn_convert.specs.Lines.{lines_of, is_mark_line, cut_at_mark, IsFirstLine}
 
 -- an octet that is no LF begins the first line
@@ -39,6 +41,13 @@ cut_here xs i below none e =
 pub cut_last : (xs : List ℕ) → 0 < length xs → ((k : ℕ) → k < length xs → get_or xs k 0 ≡ 10 → ⊥) → IsFirstLine xs xs []
 cut_last [] some none = absurd (omega arith)
 cut_last (x ∷ xs) some none = record { lines = last_line x xs none; octets = inr (refl, refl); shorter = some }
+
+-- the first LF, as a search finds it
+pub cut_at : (xs : List ℕ) (i : ℕ) → IsFirstByte (is_byte 10) xs (Some i) → IsFirstLine xs (take i xs) (drop 1 (drop i xs))
+cut_at xs i f = cut_here xs i f.0.high (λ k below e. f.0.before k (omega arith) below (rw e refl)) (eqb-true (get_or xs i 0) 10 f.1)
+
+pub cut_nowhere : (xs : List ℕ) → 0 < length xs → IsFirstByte (is_byte 10) xs None → IsFirstLine xs xs []
+cut_nowhere xs some f = cut_last xs some (λ k below e. f k (omega arith) below (rw e refl))
 
 abbrev pub Cut : Type 0
 Cut = Option (List ℕ × List (List ℕ))

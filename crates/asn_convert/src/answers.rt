@@ -1,6 +1,5 @@
 //! The answer to one line.
 ghost use Rattle.std.specs.Prelude.{◌≡◌, IfOk, IfSome, None, Ok, List, ℕ, string_bytes};
-ghost use Rattle.hex.specs.Hex.{decode_of};
 ghost use Rattle.serde_json.specs.Data.{Data};
 ghost use Rattle.serde_json.specs.View.{view};
 ghost use Rattle.serde_json.specs.Written.{compact_text};
@@ -10,6 +9,7 @@ ghost use Rattle.asn_json.specs.Written.{json_of};
 ghost use Rattle.asn_convert.specs.Answers.{AnswersShow, AnswersCheck, IsJson};
 ghost use Rattle.asn_convert.specs.Replies.{LineReply, RepliesConvert, RepliesJson, RepliesValue};
 
+use crate::digits::octets_in;
 use crate::job::{Order, RuleName};
 use crate::newer::newer_octets;
 use crate::texts::{Answer, Reply, decode_refusal, json_refusal, refusal};
@@ -19,8 +19,12 @@ use asn_plan::{PlanRules, Planned};
 use asn_rules::laws::are_octets;
 use asn_rules::{Rules, decode};
 use asn_values::{Checked, Value};
+use itoa::Buffer;
 use serde_json::Value as Json;
 use std::alloc::{AllocError, Global};
+
+/// How many characters there is room for in a text for the count of octets and its LF.
+const SHORT: usize = 32;
 
 /// What is answered to one line.
 pub(crate) fn answer_to<A: ReadNewer + PlanRules, B: Rules>(
@@ -47,18 +51,6 @@ pub(crate) fn answer_to<A: ReadNewer + PlanRules, B: Rules>(
         Order::Convert => convert_octets::<A>(alloc, ty, rules, octets),
         Order::Newer => Ok(Reply::Text(newer_octets::<A>(alloc, ty, octets)?)),
         Order::Encode => unreachable!(),
-    }
-}
-
-/// The octets that a line of hexadecimal stands for; None where it is none.
-fn octets_in(alloc: Global, line: &[u8]) -> Result<Option<Vec<u8>>, AllocError>
-    ensures some { IfOk result (λ o. IfSome o (λ octets. decode_of line.now ≡ Ok octets.items)) }
-    ensures none { IfOk result (λ o. o ≡ None → (octets : List ℕ) → decode_of line.now ≡ Ok octets → ⊥) }
-{
-    match hex::decode(alloc, line) {
-        Ok(octets) => Ok(Some(octets)),
-        Err(hex::FromHexError::OutOfMemory) => Err(AllocError),
-        Err(_) => Ok(None),
     }
 }
 
@@ -110,8 +102,10 @@ fn check_octets<A: PlanRules>(
     are_octets(octets);
     match planned.check::<A>(alloc, octets) {
         Ok(()) => {
-            let count = octets.len();
-            let text = format!(in alloc; "ok {count}")?;
+            let mut digits = Buffer::new();
+            let mut text = String::with_capacity(alloc, SHORT)?;
+            text.push_str("ok ")?;
+            text.push_str(digits.format(octets.len()))?;
             Ok(Answer {
                 text,
                 is_good: true,

@@ -14,11 +14,12 @@ use asn_newer::ReadNewer;
 use asn_plan::{PlanRules, Planned};
 use asn_rules::{Counted, Rules};
 use asn_values::Checked;
+use memchr::memrchr;
 use std::alloc::Global;
 use std::io::{Read, Write};
 
 /// How many octets are asked for at once.
-const PIECE: usize = 8192;
+const PIECE: usize = 65536;
 
 /// Writes the text of the job for the module in front of the mark and the lines that the reader gives, octets being those
 /// of the rules A, or converted to those of B.
@@ -201,10 +202,8 @@ fn cut_last_line(piece: &[u8]) -> (&[u8], &[u8])
     ensures ended { AreWholeLines result.0.now }
     ensures begun { HasNoEnd result.1.now }
 {
-    for index in (0..piece.len()).rev() {
-        if piece[index] == b'\n' {
-            return piece.split_at(index + 1);
-        }
+    match memrchr(b'\n', piece) {
+        Some(index) => piece.split_at(index + 1),
+        None => piece.split_at(0),
     }
-    piece.split_at(0)
 }

@@ -2,6 +2,8 @@
 ghost use Rattle.std.specs.Prelude.{◌≡◌, ◌<◌, [], IfNone, IfSome, length};
 ghost use Rattle.asn_convert.specs.Lines.{lines_of, module_text, job_lines, IsFirstLine, is_mark_line};
 
+use memchr::memchr;
+
 /// The first line without its LF, and what follows it; `None` where there is nothing.
 pub fn next_line(rest: &[u8]) -> Option<(&[u8], &[u8])>
     ensures none { IfNone result (rest.now ≡ []) }
@@ -10,13 +12,11 @@ pub fn next_line(rest: &[u8]) -> Option<(&[u8], &[u8])>
     if rest.is_empty() {
         return None;
     }
-    for (index, octet) in rest.iter().enumerate() {
-        if *octet == b'\n' {
-            let (line, ended) = rest.split_at(index);
-            return Some((line, ended.split_at(1).1));
-        }
-    }
-    Some(rest.split_at(rest.len()))
+    let Some(index) = memchr(b'\n', rest) else {
+        return Some(rest.split_at(rest.len()));
+    };
+    let (line, ended) = rest.split_at(index);
+    Some((line, ended.split_at(1).1))
 }
 
 /// The module text, and what follows the mark.

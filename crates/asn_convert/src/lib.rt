@@ -6,6 +6,7 @@ mod by_name;
 mod coming;
 mod conversion;
 mod cut;
+mod digits;
 mod hex_writer;
 mod job;
 pub mod laws;

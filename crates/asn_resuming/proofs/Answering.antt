@@ -30,6 +30,7 @@ use Rattle.asn_resuming.specs.declared.session.Resuming.{Resuming}
 use Rattle.asn_resuming.specs.declared.session.State.TheVariants as state
 use Rattle.asn_rules.specs.Kept.{KeptOf, Kept}
 use Rattle.asn_rules.specs.Ticks.{Counted}
+use Rattle.asn_walk_feed.specs.declared.frame.Frame.{Frame}
 use Rattle.asn_walk_feed.specs.Feeding.{FeedLaws}
 use Rattle.asn_walk_feed.specs.Keeping.{kept_in, KeepLaws}
 use Rattle.asn_walk_feed.specs.OpenFields.{FieldLaws}
@@ -214,14 +215,3 @@ module _ {F : Type 0} (c : Coding) (laws : Laws c) (feeds : FeedLaws c) (fc : Fi
       subst (λ (l : List ℕ). KeptOf c.ruling t (c.ruling.units s) l) same here
   waiting_keeps e is (stopped s fault) k = absurd (let clash : state.Waiting ≡ state.Stopped fault = sym e ∙ k.goes_on in cc)
   waiting_keeps e is (over s) k = absurd (let clash : state.Waiting ≡ state.Over = sym e ∙ k.goes_on in cc)
-
-  -- and none at its end
-  pub stopped_keeps : (f : FeedFault) → q.state ≡ state.Stopped f → os ≡ [] → (past : Past) → Resumes c fc ahead between q t past → Kept c.ruling t past os
-  stopped_keeps f e is (waiting s) k = absurd (let clash : state.Stopped f ≡ state.Waiting = sym e ∙ k.goes_on.0 in cc)
-  stopped_keeps f e is (stopped s fault) k = is
-  stopped_keeps f e is (over s) k = is
-
-  pub over_keeps : q.state ≡ state.Over → os ≡ [] → (past : Past) → Resumes c fc ahead between q t past → Kept c.ruling t past os
-  over_keeps e is (waiting s) k = absurd (let clash : state.Over ≡ state.Waiting = sym e ∙ k.goes_on.0 in cc)
-  over_keeps e is (stopped s fault) k = is
-  over_keeps e is (over s) k = is

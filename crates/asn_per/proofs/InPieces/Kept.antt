@@ -52,7 +52,7 @@ first_octet s o us e = ⊎_elim
 
 -- bits that are not all of an octet's begin two octets, which differ in the last bit
 module _ (us : List ℕ) (h : Short per_fields Octet us) where
-  v : ℕ
+  abbrev v : ℕ
   v = h.live.value
 
   octet_fits : v < 256

@@ -129,11 +129,15 @@ going_starts c laws L s ahead us rest good h = record {
 -- none was read
 pub fragments_start : {A : Type 0} (c : Coding) (L : A → List Chunk → Type 0) (us : List ℕ) (before : List A)
     (ahead : Ahead) → FragmentsUpTo c L (Remaining L ahead) us before ahead before us
-fragments_start c L us before ahead = record { read = []; after = sym (append-nil before); going = record {
-  leads = leads_here c.ruling.fielding (Remaining L ahead) us;
-  stands = stands_here c.ruling.fielding (Remaining L ahead) us;
-  only = λ ws s h. (ws, refl, h);
-} }
+fragments_start c L us before ahead = record {
+  read = [];
+  after = sym (append-nil before);
+  going = record {
+    leads = leads_here c.ruling.fielding (Remaining L ahead) us;
+    stands = stands_here c.ruling.fielding (Remaining L ahead) us;
+    only = λ ws s h. (ws, refl, h);
+  };
+}
 
 -- the reader of a length stops
 pub going_stops : {A : Type 0} {c : Coding} {L : A → List Chunk → Type 0} {T : List A → List Chunk → Type 0}
@@ -251,10 +255,10 @@ going_further {A} c laws {L} {T} {us} {rest} {r} {t} {ahead} {new} {vs} {ws} {k}
     only (lengths is so_far closed) e xs s o = ⊎_elim
         (λ x. rw x.1 (ended_only xs s o.0 o.1 (general_last_only L (fields_part_of c laws) i x.0 o.2)))
         (λ x.
-          (let b : Spells c.ruling.fielding (Row L (16384 * x.0)) f.row r t = subst (λ (n : ℕ). Spells c.ruling.fielding (Row L n) f.row r t) x.2 f.spelt in
-          let p = general_rest_only L (fields_part_of c laws) i law x.1 b o.2 in
-          let all : xs ≡ ws ++ p.0 = o.1 ∙ ap (λ (l : List A). vs ++ l) p.2 ∙ sym (append_assoc vs f.row p.0) ∙ ap (λ (l : List A). l ++ p.0) (sym f.same) in
-          rw x.3 (p.0, all, same_spells (left_ahead c L is so_far k x.0 closed x.1 x.2) p.1)))
+        (let b : Spells c.ruling.fielding (Row L (16384 * x.0)) f.row r t = subst (λ (n : ℕ). Spells c.ruling.fielding (Row L n) f.row r t) x.2 f.spelt in
+        let p = general_rest_only L (fields_part_of c laws) i law x.1 b o.2 in
+        let all : xs ≡ ws ++ p.0 = o.1 ∙ ap (λ (l : List A). vs ++ l) p.2 ∙ sym (append_assoc vs f.row p.0) ∙ ap (λ (l : List A). l ++ p.0) (sym f.same) in
+        rw x.3 (p.0, all, same_spells (left_ahead c L is so_far k x.0 closed x.1 x.2) p.1)))
         e.read
 
 -- ---- each step comes nearer to the end

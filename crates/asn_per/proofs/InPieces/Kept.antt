@@ -68,6 +68,7 @@ module _ (us : List ℕ) (h : Short per_fields Octet us) where
   some_left rest e z =
       let whole : us ≡ bits 8 v ++ [] = sym (append-nil us) ∙ ap (λ (l : List ℕ). us ++ l) (sym z) ∙ sym e ∙ sym (append-nil (bits 8 v)) in
       h.none v [] (record { chunks = ones (bits 8 v); spelt = spelt_octet v octet_fits; contents = contents-ones per_fields (bits 8 v); split = whole ∙ ap (λ (l : List ℕ). l ++ []) (sym (flat-ones per_fields.spelled (bits 8 v))) })
+
   short_enough : length us ≤ 7
   short_enough = go begun.0 begun.1 (some_left begun.0 begun.1)
     where

@@ -1,33 +1,32 @@
 -- What is kept of a sealed field of which some units have come: its content so far.
-use Rattle.std.proofs.Common.{◌≡◌, ◌≢◌, ◌≤◌, ◌<◌, ◌+◌, ◌*◌, ◌⊎◌, inl, inr, ⊎_elim, ℕ, zero, suc, List, [], ◌∷◌, ◌++◌, length, map, append-nil, append_assoc, Option, Some, None, refl, sym, ap, subst, ◌∙◌, arith}
+use Rattle.std.proofs.Common.{◌≡◌, ◌≢◌, ◌≤◌, ◌+◌, ◌*◌, ◌⊎◌, inl, inr, ⊎_elim, ℕ, zero, suc, List, [], ◌∷◌, ◌++◌, length, map, append-nil, append_assoc, Option, Some, None, refl, sym, ap, subst, ◌∙◌, arith}
 use Rattle.std.proofs.lemmas.List.{append_cancel_left}
 use Rattle.std.specs.Bool.{⊤}
 use mathlib.Core.List.{map-id}
 use Rattle.asn_bits.specs.Ranges.{Spanned, At}
-use Rattle.asn_rules.specs.Chunks.{Kind, Chunk, one, sealed, ones, flat, field_units}
+use Rattle.asn_rules.specs.Chunks.{Kind, Chunk, sealed, ones, flat, field_units}
 use Rattle.asn_rules.specs.Forks.{Same}
 use Rattle.asn_rules.specs.Frames.{IsField, Frame as FieldOf}
-use Rattle.asn_rules.specs.General.{Length, last, fragment, Blocks, Left, Header, Body, General}
+use Rattle.asn_rules.specs.General.{Length, last, fragment, Left, Header, Body, General}
 use Rattle.asn_rules.specs.Kept.{ContentSoFar, EndsIn}
-use Rattle.asn_rules.specs.Languages.{AllContents, IsFront, Spells, IsLive, Short, Lawful, Inhabited, Row, Plain}
-use Rattle.asn_rules.specs.Live.{Begins, BeginsProperly, Fielding, IsContent, Free}
+use Rattle.asn_rules.specs.Languages.{AllContents, IsFront, Spells, Short, Lawful, Inhabited, Row}
+use Rattle.asn_rules.specs.Live.{Begins, BeginsProperly, Fielding, IsContent}
 use Rattle.asn_rules.proofs.Languages.Forks.{same_flip, same_spells, same_short, same_lawful}
 use Rattle.asn_rules.proofs.Languages.Parts.{contents-ones, front_ones, map_source, plain_spells}
-use Rattle.asn_rules.proofs.Languages.Rows.{row_lawful, row_inhabited}
+use Rattle.asn_rules.proofs.Languages.Rows.{row_inhabited}
 use Rattle.asn_rules.proofs.Languages.Standing.{StandsIn}
 use Rattle.asn_rules.proofs.Languages.Then.{one_front, then_splits}
 use Rattle.asn_rules.proofs.Live.Chunks.{FieldsPart, contents-first, contents-second, front_after, front_longer}
 use Rattle.asn_rules.proofs.Live.Flat.{flat-ones, flat-append}
 use Rattle.asn_rules.proofs.Numbers.General.{general_once, general_inhabited, general_last_only, general_row_only, row_length}
 use Rattle.asn_rules.proofs.Numbers.Headers.{Tells, header_tells}
-use Rattle.asn_rules.proofs.Remaining.Carries.{taken}
 use Rattle.asn_rules.proofs.Sealed.Frames.{frame_begun, frame_lawful}
 use Rattle.asn_walk.specs.Ahead.{Ahead, items, lengths, end, Remaining, SomeAhead, Advances}
 use Rattle.asn_walk.specs.Coding.{Coding}
 use Rattle.asn_walk.specs.Laws.{Laws}
 use Rattle.asn_walk.proofs.Listing.{Going, going_next_stands}
 use Rattle.asn_walk.proofs.Parts.{fields_part_of}
-use Rattle.asn_walk_feed.specs.Feeding.{Waits, NextOf, FeedLaws, HasBegun}
+use Rattle.asn_walk_feed.specs.Feeding.{Waits, NextOf, FeedLaws}
 use Rattle.asn_walk_feed.specs.Items.{InFragment, Stands}
 use Rattle.asn_walk_feed.specs.Keeping.{octets_of, OtherOctet, OctetsDiffer}
 use Rattle.asn_walk_feed.specs.Octets.{OctetCoding, OctetsOf, OctetLaws, OctetsGoOn, OctetsTook}

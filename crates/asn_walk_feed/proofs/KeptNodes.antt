@@ -1,5 +1,5 @@
 -- What is kept of a value by its nodes, as the program goes down them.
-use Rattle.std.proofs.Common.{◌≡◌, ◌≤◌, ◌<◌, ℕ, zero, suc, List, [], ◌∷◌, ◌++◌, length, map, get_or, refl, sym, ap, ◌∙◌, arith}
+use Rattle.std.proofs.Common.{◌≡◌, ◌≤◌, ◌<◌, ℕ, zero, suc, List, [], ◌∷◌, length, map, get_or, refl, sym, ap, ◌∙◌, arith}
 use Rattle.asn_values.specs.Shape.{Shape}
 use Rattle.asn_values.specs.View.{shape_of, fields_seen, alternatives_of, branch_of}
 use Rattle.asn_values.specs.declared.types.Alt.{Alt}

@@ -1,11 +1,11 @@
 -- What is kept of a value of which some units have come: of the sealed field in which they end its content so far, and
 -- else nothing.
-use Rattle.std.proofs.Common.{◌≡◌, ◌≤◌, ◌<◌, ◌+◌, ◌-◌, ◌/◌, ◌%◌, ◌^◌, ◌⊎◌, inl, inr, ⊎_elim, ℕ, zero, suc, Bool, true, false, List, [], ◌∷◌, ◌++◌, length, drop, map, append-nil, Option, Some, None, refl, sym, ap, subst, ◌∙◌, arith}
+use Rattle.std.proofs.Common.{◌≡◌, ◌<◌, ◌+◌, ◌-◌, ◌/◌, ◌%◌, ◌^◌, ◌⊎◌, inl, inr, ⊎_elim, ℕ, zero, suc, Bool, true, false, List, [], ◌∷◌, ◌++◌, length, drop, map, append-nil, Option, Some, None, refl, sym, ap, subst, ◌∙◌, arith}
 use Rattle.std.proofs.lemmas.Bool.{true≢false}
 use Rattle.asn_values.specs.Datum.{Datum}
 use Rattle.asn_values.specs.Parts.{AreOfProfile, AreAllOfProfile, IsGoodDemand}
 use Rattle.asn_values.specs.Profile.{InProfile, good_default}
-use Rattle.asn_values.specs.Shape.{SizeRange, Shape, boolean, null, integer, enumerated, bit_string, octet_string, restricted, utf8_string, sequence, sequence_of, choice, Demand, must, optional, default, Fields, no_fields, field, MoreFields, closed, marked, more_fields, demands, Alternatives, no_alternatives, one_of, MoreAlternatives, closed_choice, marked_choice, more_alternatives, count}
+use Rattle.asn_values.specs.Shape.{SizeRange, Shape, boolean, null, integer, enumerated, bit_string, octet_string, restricted, utf8_string, sequence, sequence_of, choice, Demand, must, optional, default, Fields, no_fields, field, MoreFields, closed, marked, more_fields, Alternatives, no_alternatives, one_of, MoreAlternatives, closed_choice, marked_choice, more_alternatives, count}
 use Rattle.asn_values.specs.View.{Part, datum_of, fields_of, entries_seen}
 use Rattle.asn_values.specs.declared.value.Value.{Value}
 use Rattle.asn_values.proofs.Entries.{length-demands}
@@ -15,23 +15,20 @@ use Rattle.asn_bits.specs.Ranges.{Spanned, At}
 use Rattle.asn_bits.specs.Sink.{bit_of}
 use Rattle.asn_bits.proofs.Octets.{length-digits}
 use Rattle.asn_rules.specs.Begun.{AllPlain}
-use Rattle.asn_rules.specs.Chunks.{Chunk, sealed, ones, open_field, utf8_field}
+use Rattle.asn_rules.specs.Chunks.{Chunk, sealed, open_field, utf8_field}
 use Rattle.asn_rules.specs.Components.{has_presence_bit}
-use Rattle.asn_rules.specs.Forks.{Same}
-use Rattle.asn_rules.specs.General.{Header}
 use Rattle.asn_rules.specs.Kept.{KeptOf, EndsIn}
-use Rattle.asn_rules.specs.Languages.{Spells, IsLive, Short, Inhabited, Map, Nothing}
+use Rattle.asn_rules.specs.Languages.{IsLive, Short, Inhabited}
 use Rattle.asn_rules.specs.Listed.{Spelt, Listed, Entry, bitmap_length}
 use Rattle.asn_rules.specs.Live.{Fielding}
-use Rattle.asn_rules.specs.Reading.{Wholes}
 use Rattle.asn_rules.specs.declared.stop.Stop.TheVariants as stop
 use Rattle.asn_rules.proofs.Components.Listed.{spelt_inhabited, listed_inhabited}
-use Rattle.asn_rules.proofs.Languages.Parts.{map_dead, nothing_inhabited, nothing_spells}
+use Rattle.asn_rules.proofs.Languages.Parts.{map_dead, nothing_spells}
 use Rattle.asn_rules.proofs.Languages.Standing.{Opens, opens_none, opens_plain, opens_in, StandsIn, stands_on, stands_map, stands_same, stands_length, stands_padded}
 use Rattle.asn_rules.proofs.Live.Chunks.{FieldsPart}
 use Rattle.asn_rules.proofs.Remaining.Begun.{header_plain}
 use Rattle.asn_walk.specs.Ahead.{Ahead, items, lengths, end, Remaining, SomeAhead}
-use Rattle.asn_walk.specs.Coding.{Coding, ListingOf, PreambleOf, AdditionBitmapOf, OpenOf, OpenListed, AdditionsOf, AddedOf, IndexOf, IsIndexWithin, ChosenOf, ChosenBy, added, added_alternatives}
+use Rattle.asn_walk.specs.Coding.{Coding, ListingOf, OpenOf, OpenListed, AdditionsOf, AddedOf, IsIndexWithin, ChosenOf, ChosenBy, added_alternatives}
 use Rattle.asn_walk.specs.Laws.{Laws}
 use Rattle.asn_walk.proofs.AdditionsRead.{AddedUpTo, addition_stands, open_listed_inhabited, bitmap_stands, open_stands}
 use Rattle.asn_walk.proofs.ChoicesRead.{index_stands, value_stands}
@@ -44,9 +41,9 @@ use Rattle.asn_walk_feed.specs.Chosen.{AlternativeTook}
 use Rattle.asn_walk_feed.specs.Feeding.{FeedLaws, NextOf, Waits}
 use Rattle.asn_walk_feed.specs.Items.{InFragment}
 use Rattle.asn_walk_feed.specs.Keeping.{octets_of, in_component, in_alternative, kept_in, IsUnsealed, KeepLaws}
-use Rattle.asn_walk_feed.specs.Octets.{OctetCoding, OctetsOf, OctetLaws, OctetsTook}
+use Rattle.asn_walk_feed.specs.Octets.{OctetsOf, OctetsTook}
 use Rattle.asn_walk_feed.specs.OpenFields.{FieldCoding, FieldLaws}
-use Rattle.asn_walk_feed.specs.Roots.{parts_in, IsPresent, OtherTook, DemandTook, EntryTook, NextTook}
+use Rattle.asn_walk_feed.specs.Roots.{parts_in, IsPresent, OtherTook, DemandTook, EntryTook}
 use Rattle.asn_walk_feed.specs.Strings.{IsString, StringLaws}
 use Rattle.asn_walk_feed.specs.Taken.{Took, ListGoesOn, RootReached, ChoiceReached, AdditionReached}
 use Rattle.asn_walk_feed.specs.declared.frame.AdditionBits.{AdditionBits}

@@ -1,4 +1,4 @@
-use Rattle.std.proofs.Common.{◌≡◌, ℕ, length}
+use Rattle.std.proofs.Common.{◌≡◌, length}
 use Rattle.std.specs.Prelude.{reverse}
 use Rattle.asn_values.specs.View.{shape_of}
 use Rattle.asn_walk_feed.specs.Keeping.{kept_in}

@@ -66,7 +66,7 @@ pub(crate) fn put_inside(
     ensures { OnOk result (skipped_at_seen skipped.new.items ≡ take from (skipped_at_seen skipped.old.items)
         ++ map (inside step) (drop from (skipped_at_seen skipped.old.items))) }
 {
-    if skipped.len() <= from {
+    if from >= skipped.len() {
         return Ok(());
     }
     let inner = skipped.split_off(from)?;

@@ -6,15 +6,15 @@ use Rattle.asn_newer.specs.Skipped.{inside}
 use Rattle.asn_newer.specs.Skipped as fields
 use Rattle.asn_newer.proofs.path.put_inside.Goals as goal
 
-pub returns-then-skipped-from : goal.returns-then-skipped-from
-returns-then-skipped-from c =
+pub returns-then-from-skipped : goal.returns-then-from-skipped
+returns-then-from-skipped c =
     let all = skipped_at_seen c.args.skipped.now.items in
-    let few : length all ≤ c.args.from = omega (arith, c.if-skipped-from.true, c.args.skipped.now.ok.0, length-map c.args.skipped.now.items skipped_at_of) in
+    let few : length all ≤ c.args.from = omega (arith, c.if-from-skipped.true, c.args.skipped.now.ok.0, length-map c.args.skipped.now.items skipped_at_of) in
     sym (ap (λ (x : List fields.SkippedAt). take c.args.from all ++ map (inside c.args.step) x) (drop_all c.args.from all few) ∙ append-nil (take c.args.from all) ∙ take_all c.args.from all few)
 
 pub returns : goal.returns
 returns c =
     let old = c.args.skipped.now.items in
-    let front : skipped_at_seen c.split_off.new.self.items ≡ take c.args.from (skipped_at_seen old) = ap skipped_at_seen c.in_ok-inner.ensures.kept ∙ sym (take-map skipped_at_of c.args.from old) in
-    let back : skipped_at_seen c.in_ok-inner.inner.items ≡ drop c.args.from (skipped_at_seen old) = ap skipped_at_seen c.in_ok-inner.ensures.items ∙ sym (drop-map skipped_at_of c.args.from old) in
+    let front : skipped_at_seen c.split_off.new.self.items ≡ take c.args.from (skipped_at_seen old) = ap skipped_at_seen c.in_ok-inner.ensures.items ∙ sym (take-map skipped_at_of c.args.from old) in
+    let back : skipped_at_seen c.in_ok-inner.inner.items ≡ drop c.args.from (skipped_at_seen old) = ap skipped_at_seen c.in_ok-inner.ensures.tail ∙ sym (drop-map skipped_at_of c.args.from old) in
     IfOk-weaker c.push_inside.result _ _ (λ _ e. e ∙ ap (λ (x : List fields.SkippedAt). x ++ map (inside c.args.step) (skipped_at_seen c.in_ok-inner.inner.items)) front ∙ ap (λ (x : List fields.SkippedAt). take c.args.from (skipped_at_seen old) ++ map (inside c.args.step) x) back) c.push_inside.ensures

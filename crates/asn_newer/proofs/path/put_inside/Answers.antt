@@ -1,16 +1,10 @@
-use Rattle.std.proofs.Common.{◌≡◌, ◌≤◌, ◌++◌, List, length, map, take, drop, sym, ap, ◌∙◌, append-nil, arith}
-use Rattle.std.proofs.lemmas.List.{take_all, drop_all, take-map, drop-map, length-map}
+use Rattle.std.proofs.Common.{◌≡◌, ◌++◌, List, map, take, drop, sym, ap, ◌∙◌}
+use Rattle.std.proofs.lemmas.List.{take-map, drop-map}
 use Rattle.std.proofs.lemmas.Result.{IfOk-weaker}
 use Rattle.asn_newer.specs.Reading.{skipped_at_of, skipped_at_seen}
 use Rattle.asn_newer.specs.Skipped.{inside}
 use Rattle.asn_newer.specs.Skipped as fields
 use Rattle.asn_newer.proofs.path.put_inside.Goals as goal
-
-pub returns-then-from-skipped : goal.returns-then-from-skipped
-returns-then-from-skipped c =
-    let all = skipped_at_seen c.args.skipped.now.items in
-    let few : length all ≤ c.args.from = omega (arith, c.if-from-skipped.true, c.args.skipped.now.ok.0, length-map c.args.skipped.now.items skipped_at_of) in
-    sym (ap (λ (x : List fields.SkippedAt). take c.args.from all ++ map (inside c.args.step) x) (drop_all c.args.from all few) ∙ append-nil (take c.args.from all) ∙ take_all c.args.from all few)
 
 pub returns : goal.returns
 returns c =

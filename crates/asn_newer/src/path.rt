@@ -1,5 +1,5 @@
 //! Fields that were skipped, with the paths to the parts of the value that have them.
-ghost use Rattle.std.specs.Prelude.{◌≡◌, ◌++◌, IfOk, OnOk, map};
+ghost use Rattle.std.specs.Prelude.{◌≡◌, ◌++◌, IfOk, OnOk, drop, map, take};
 ghost use Rattle.asn_newer.specs.Reading.{skipped_seen, skipped_at_of, skipped_at_seen};
 ghost use Rattle.asn_newer.specs.Skipped.{inside, fields_of_all, skipped_here};
 
@@ -56,8 +56,25 @@ impl SkippedAt {
     }
 }
 
+/// Puts the step in front of the paths of the fields from an index on, which were skipped in the part to which it leads.
+#[inline(always)]
+pub(crate) fn put_inside(
+    from: usize,
+    step: PathStep,
+    skipped: &mut Vec<SkippedAt>,
+) -> Result<(), AllocError>
+    ensures { OnOk result (skipped_at_seen skipped.new.items ≡ take from (skipped_at_seen skipped.old.items)
+        ++ map (inside step) (drop from (skipped_at_seen skipped.old.items))) }
+{
+    if from >= skipped.len() {
+        return Ok(());
+    }
+    let inner = skipped.split_off(from)?;
+    push_inside(inner, step, skipped)
+}
+
 /// Appends the fields that were skipped in the part to which the step leads.
-pub(crate) fn push_inside(
+fn push_inside(
     inner: Vec<SkippedAt>,
     step: PathStep,
     skipped: &mut Vec<SkippedAt>,

@@ -29,7 +29,7 @@ use crate::components::{push_absent, read_additions, read_components};
 use crate::halt::{Halt, halt_of_field};
 use crate::items::read_any_item;
 use crate::leaves::ReadVersions;
-use crate::path::{PathStep, SkippedAt, push_inside};
+use crate::path::{PathStep, SkippedAt, put_inside};
 use asn_bits::BitCursor;
 use asn_values::{AsnType, Field, Size, Value};
 use asn_walk::{PresenceBits, ReadLeaves, bitmap_width};
@@ -115,9 +115,9 @@ pub(crate) fn read_part<R: ReadVersions>(
     ensures stop { IfErr result (λ why.
         HaltsAt R.rules (Inside step (Loose (loose_by R.rules R.loose) (shape_of ty.now))) units.old why) }
 {
-    let mut inner = Vec::new(alloc);
-    let value = read::<R>(alloc, ty, &mut inner, units)?;
-    push_inside(inner, step, skipped)?;
+    let before = skipped.len();
+    let value = read::<R>(alloc, ty, skipped, units)?;
+    put_inside(before, step, skipped)?;
     Ok(value)
 }
 
@@ -209,10 +209,10 @@ pub(crate) fn read_known<R: ReadVersions>(
 {
     R::keep_walk_laws();
     let octets = R::read_open_octets(alloc, units)?;
-    let mut inner = Vec::new(alloc);
-    match read_content::<R>(alloc, ty, &octets, &mut inner) {
+    let before = skipped.len();
+    match read_content::<R>(alloc, ty, &octets, skipped) {
         Ok(value) => {
-            push_inside(inner, step, skipped)?;
+            put_inside(before, step, skipped)?;
             Ok(value)
         }
         Err(halt) => Err(halt_of_field(halt)),

@@ -3,9 +3,7 @@ pub mod Exactly
 pub mod FoundJob
 pub mod Given
 pub mod Laid
-pub mod NewerObjects
 pub mod NotHelp
-pub mod PathTexts
 pub mod Refusals
 pub mod SetOptions
 pub mod Sourced

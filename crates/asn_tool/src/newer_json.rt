@@ -1,9 +1,4 @@
 //! Messages of other versions of a type as JSON, with the fields that are skipped in them, and back.
-ghost use Rattle.std.specs.Prelude.{◌≡◌, ◌++◌, IfOk, IfSome, OnOk, string_bytes};
-ghost use Rattle.asn_values.specs.View.{shape_of};
-ghost use Rattle.asn_newer.specs.Reading.{skipped_at_of, skipped_at_seen};
-ghost use Rattle.asn_tool.specs.NewerJson.{IsTakenBack, ShowsNewerAt, more_objects, skipped_object, skipped_objects};
-ghost use Rattle.asn_tool.specs.NewerLines.{IsGiven};
 
 use crate::laying::value_text;
 use crate::paths::path_text;
@@ -54,10 +49,7 @@ fn newer_object<R: ReadNewer>(
     ty: &Checked,
     octets: &[u8],
     is_declared: bool,
-) -> Result<Option<String>, AllocError>
-    ensures { IfOk result (λ o. IfSome o
-        (λ text. ShowsNewerAt R.loose (shape_of ty.now) octets.now (string_bytes text))) }
-{
+) -> Result<Option<String>, AllocError> {
     match R::read_newer_at(alloc, ty, octets) {
         Ok(newer) => {
             let layout = Layout {
@@ -75,10 +67,7 @@ fn newer_object<R: ReadNewer>(
 }
 
 /// The objects of the skipped fields, with a comma between two.
-fn fields_text(alloc: Global, ty: &AsnType, skipped: &[SkippedAt]) -> Result<String, AllocError>
-    ensures { IfOk result
-        (λ text. string_bytes text ≡ skipped_objects (shape_of ty.now) (skipped_at_seen skipped.now)) }
-{
+fn fields_text(alloc: Global, ty: &AsnType, skipped: &[SkippedAt]) -> Result<String, AllocError> {
     let [first, others @ ..] = skipped else {
         return Ok(String::new(alloc));
     };
@@ -92,10 +81,7 @@ fn fields_text(alloc: Global, ty: &AsnType, skipped: &[SkippedAt]) -> Result<Str
 }
 
 /// The object of a skipped field.
-fn field_text(alloc: Global, ty: &AsnType, skipped: &SkippedAt) -> Result<String, AllocError>
-    ensures { IfOk result
-        (λ text. string_bytes text ≡ skipped_object (shape_of ty.now) (skipped_at_of skipped.now)) }
-{
+fn field_text(alloc: Global, ty: &AsnType, skipped: &SkippedAt) -> Result<String, AllocError> {
     let path = path_text(alloc, ty, skipped.path.as_slice())?;
     let index = skipped.field.place;
     let octets = hex::encode(alloc, skipped.field.octets.as_slice())?;
@@ -115,9 +101,7 @@ pub enum TakenBack {
 ///
 /// # Errors
 /// `AllocError` where an allocation failed.
-pub fn taken_back(alloc: Global, line: &[u8]) -> Result<TakenBack, AllocError>
-    ensures { IfOk result (IsGiven line.now) }
-{
+pub fn taken_back(alloc: Global, line: &[u8]) -> Result<TakenBack, AllocError> {
     let whole = match Json::from_slice(alloc, line) {
         Ok(whole) => whole,
         Err(fault) if fault.is_memory() => return Err(AllocError),

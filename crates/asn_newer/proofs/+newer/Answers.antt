@@ -33,7 +33,7 @@ use Rattle.asn_walk.proofs.OpenRead.{length_none}
 use Rattle.asn_newer.specs.Bitmaps.{bits_left}
 use Rattle.asn_newer.specs.Loose.{AllUnknown, Loose}
 use Rattle.asn_newer.specs.Halting.{HaltsAt}
-use Rattle.asn_newer.specs.Reading.{skipped_at_seen}
+use Rattle.asn_newer.specs.Reading.{skipped_at_of, skipped_at_seen}
 use Rattle.asn_newer.specs.Skipped.{Reading, nothing_skipped}
 use Rattle.asn_newer.specs.Walking.{loose_by, ItemsAfter, FieldsAfter}
 use Rattle.asn_newer.proofs.Walk.Following.{unmapped, none_taken, taken_on, part_taken, each_starts, each_next, each_ends, open_starts, open_absent, open_present, open_none, open_ends, open_ends_none, bit_set, bit_unset, entry_on}
@@ -204,8 +204,8 @@ pub reader::read_known-returns-in-Ok-clause-done : goal.reader::read_known-retur
 reader::read_known-returns-in-Ok-clause-done g t c =
     let l = loose_by g.R.ReadLeaves.rules g.R.OtherVersions.loose in
     let ways = c.keep_walk_laws.ensures.ways in
-    part_taken c.args.step (skipped_at_seen c.args.skipped.now.items) (skipped_at_seen c.new-inner.result.items) (skipped_at_seen c.read_content.new.skipped.items) (datum_of c.in-Ok.value)
-    (ap skipped_at_seen c.new-inner.ensures.items) c.in_ok-push_inside-in-Ok.ensures
+    let before : c.len-before.result ≡ length (skipped_at_seen c.args.skipped.now.items) = omega (arith, c.len-before.ensures, c.args.skipped.now.ok.0, length-map c.args.skipped.now.items skipped_at_of) in
+    part_taken c.args.step c.len-before.result (skipped_at_seen c.args.skipped.now.items) (skipped_at_seen c.read_content.new.skipped.items) (datum_of c.in-Ok.value) before c.in_ok-put_inside-in-Ok.ensures
     (known_read l ways (shape_of c.args.ty.now) c.in_ok-octets.ensures.done (rw c.deref.ensures.value at c.in-Ok.ensures.done))
 
 pub reader::read_known-returns-clause-stop : goal.reader::read_known-returns-clause-stop
@@ -221,8 +221,8 @@ reader::read_part-returns-in_err-value-clause-stop g t c =
 
 pub reader::read_part-returns-clause-done : goal.reader::read_part-returns-clause-done
 reader::read_part-returns-clause-done g t c =
-    part_taken c.args.step (skipped_at_seen c.args.skipped.now.items) (skipped_at_seen c.new-inner.result.items) (skipped_at_seen c.read.new.skipped.items) (datum_of c.in_ok-value.value)
-    (ap skipped_at_seen c.new-inner.ensures.items) c.in_ok-push_inside.ensures c.in_ok-value.ensures.done
+    let before : c.len-before.result ≡ length (skipped_at_seen c.args.skipped.now.items) = omega (arith, c.len-before.ensures, c.args.skipped.now.ok.0, length-map c.args.skipped.now.items skipped_at_of) in
+    part_taken c.args.step c.len-before.result (skipped_at_seen c.args.skipped.now.items) (skipped_at_seen c.read.new.skipped.items) (datum_of c.in_ok-value.value) before c.in_ok-put_inside.ensures c.in_ok-value.ensures.done
 
 pub reader::read_list-returns-in_err-fragments-clause-stop : goal.reader::read_list-returns-in_err-fragments-clause-stop
 reader::read_list-returns-in_err-fragments-clause-stop g t c =

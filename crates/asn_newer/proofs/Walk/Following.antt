@@ -1,7 +1,8 @@
 -- What is read after what was read before: fields that are skipped, entries of a SEQUENCE, elements of a list.
-use Rattle.std.proofs.Common.{◌≡◌, ◌≤◌, ◌<◌, ◌+◌, ◌/◌, ◌%◌, ◌^◌, ◌⊎◌, inl, inr, ⊎_elim, ℕ, suc, Bool, true, false, List, [], ◌∷◌, ◌++◌, map, Option, Some, None, refl, sym, ap, subst, ◌∙◌, append_assoc, arith}
+use Rattle.std.proofs.Common.{◌≡◌, ◌≤◌, ◌<◌, ◌+◌, ◌/◌, ◌%◌, ◌^◌, ◌⊎◌, inl, inr, ⊎_elim, ℕ, suc, Bool, true, false, List, [], ◌∷◌, ◌++◌, length, map, take, drop, Option, Some, None, refl, sym, ap, subst, ◌∙◌, append_assoc, arith}
 use Rattle.std.proofs.lemmas.Bool.{true≢false}
 use Rattle.std.proofs.lemmas.List.{append-nil}
+use Rattle.std.proofs.Math.Seq.{take-append_seam, drop-append_seam}
 use Rattle.asn_values.specs.Datum.{Datum}
 use Rattle.asn_values.specs.Shape.{Shape, Demand, must, optional, default, Fields, no_fields, field}
 use Rattle.asn_values.specs.Parts.{AreOfProfile, IsGoodDemand}
@@ -74,12 +75,17 @@ taken_on f {r = r} before v o h =
 -- ---- what was read of a part
 
 -- from the part to the whole, with what was skipped in it after what was skipped before
-pub part_taken : {R : Fielding} {L : Reading → List Chunk → Type 0} (s : PathStep) (before none inner : List SkippedAt) (v : Datum) {after : List SkippedAt} {us r : List ℕ} → none ≡ [] → after ≡ before ++ map (inside s) inner
-    → Spells R (ReadingAfter none L) (v, inner) us r → Spells R (ReadingAfter before (Inside s L)) (v, after) us r
-part_taken s before none inner v e f h =
+pub part_taken : {R : Fielding} {L : Reading → List Chunk → Type 0} (s : PathStep) (n : ℕ) (before all : List SkippedAt) (v : Datum) {after : List SkippedAt} {us r : List ℕ} → n ≡ length before → after ≡ take n all ++ map (inside s) (drop n all)
+    → Spells R (ReadingAfter before L) (v, all) us r → Spells R (ReadingAfter before (Inside s L)) (v, after) us r
+part_taken s n before all v e f h =
     let t = took h in
-    let all : inner ≡ t.skipped = t.same ∙ ap (λ (x : List SkippedAt). x ++ t.skipped) e in
-    taken (record { skipped = map (inside s) t.skipped; same = f ∙ ap (λ (x : List SkippedAt). before ++ map (inside s) x) all; spelt = map_spells {f = part_read s} t.spelt })
+    let front : take n all ≡ before = ap (take n) t.same ∙ ap (λ (k : ℕ). take k (before ++ t.skipped)) e ∙ take-append_seam before t.skipped in
+    let back : drop n all ≡ t.skipped = ap (drop n) t.same ∙ ap (λ (k : ℕ). drop k (before ++ t.skipped)) e ∙ drop-append_seam before t.skipped in
+    taken (record {
+      skipped = map (inside s) t.skipped;
+      same = f ∙ ap (λ (x : List SkippedAt). x ++ map (inside s) (drop n all)) front ∙ ap (λ (x : List SkippedAt). before ++ map (inside s) x) back;
+      spelt = map_spells {f = part_read s} t.spelt;
+    })
 
 -- ---- fields that are skipped
 

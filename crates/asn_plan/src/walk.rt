@@ -26,28 +26,30 @@ pub fn build_at<R: ReadLeaves, B: Build>(
     nodes: &[Node],
     kind: &Kind,
     units: &mut BitCursor<'_>,
+    room: &mut B::Room,
 ) -> Option<B::Part>
     requires at_unit { R.rules.at_unit units.old }
     ensures at_unit { IsSome result → R.rules.at_unit units.new }
     ensures some { IfSome result (λ p. (t : Shape) → InProfile t → IsPlan nodes.now t kind.now
-        → Builds R.rules B.built t p units.old units.new) }
+        → Builds R.rules (B.built room.old room.new) t p units.old units.new) }
 {
     match kind {
         Kind::Number(range) => {
             if let Some(integer) = R::try_between(range.low, range.high, units) {
-                return Some(B::number(integer));
+                let number = B::number(room, integer)?;
+                return Some(number);
             }
             let value = read_between::<R>(alloc, range, units)?;
-            let part = B::value(value)?;
+            let part = B::value(room, value)?;
             Some(part)
         }
         Kind::Leaf(leaf) => {
             let value = read_leaf::<R>(alloc, leaf, units)?;
-            let part = B::value(value)?;
+            let part = B::value(room, value)?;
             Some(part)
         }
-        Kind::Sequence(parts) => build_sequence::<R, B>(alloc, nodes, parts, units),
-        Kind::List(list) => build_list::<R, B>(alloc, nodes, list, units),
-        Kind::Choice(parts) => build_choice::<R, B>(alloc, nodes, parts, units),
+        Kind::Sequence(parts) => build_sequence::<R, B>(alloc, nodes, parts, units, room),
+        Kind::List(list) => build_list::<R, B>(alloc, nodes, list, units, room),
+        Kind::Choice(parts) => build_choice::<R, B>(alloc, nodes, parts, units, room),
     }
 }

@@ -7,4 +7,5 @@ pub mod Growing
 pub mod LeafTypes
 pub mod Messages
 pub mod NodeKinds
+pub mod RangedRead
 pub mod Rows

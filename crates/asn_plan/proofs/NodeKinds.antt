@@ -1,12 +1,13 @@
 -- What a node says of the types that it is a plan of.
-use Rattle.std.proofs.Common.{◌≡◌, ◌<◌, ◌+◌, ◌∷◌, ◌∙◌, sym, List, take, drop, length, get_or, refl}
+use Rattle.std.proofs.Common.{◌≡◌, ◌<◌, ◌+◌, ◌∷◌, ◌∙◌, sym, List, take, drop, length, get_or, refl, Option, Some, None}
+use Rattle.std.specs.Prelude.{IfSome}
 use Rattle.std.proofs.Math.Seq.{drop-cons}
 use Rattle.std.proofs.Math.Numerals.{add-one}
 use Rattle.asn_values.specs.Shape.{Shape, Fields, MoreFields, Alternatives, MoreAlternatives, sequence, sequence_of, choice}
 use Rattle.asn_values.specs.View.{shape_of, size_range_of}
 use Rattle.asn_rules.specs.Listed.{bitmap_length}
 use Rattle.asn_walk.specs.Coding.{added, added_alternatives}
-use Rattle.asn_walk.specs.Integers.{between}
+use Rattle.asn_plan.specs.Ranged.{ranged}
 use Rattle.asn_plan.specs.declared.plan.AlternativeRows.{AlternativeRows}
 use Rattle.asn_plan.specs.declared.plan.Between.{Between}
 use Rattle.asn_plan.specs.declared.plan.ComponentRows.{ComponentRows}
@@ -16,7 +17,12 @@ use Rattle.asn_plan.specs.declared.plan.Leaf.{Leaf}
 use Rattle.asn_plan.specs.declared.plan.Node.{Node}
 use Rattle.asn_plan.specs.Plans.{IsPlan, ArePlans, ArePlansOfMore, ArePlansOfEach, ArePlansOfOthers, row}
 
-pub number_is : (ns : List Node) (t : Shape) (b : Between) → IsPlan ns t (kind.Number b) → t ≡ between b.low b.high
+-- what is said of a part, if there is one, is said of it otherwise
+pub if_some : {A : Type 0} (o : Option A) (P Q : A → Type 0) → ((a : A) → P a → Q a) → IfSome o P → IfSome o Q
+if_some None P Q f h = tt
+if_some (Some a) P Q f h = f a h
+
+pub number_is : (ns : List Node) (t : Shape) (b : Between) → IsPlan ns t (kind.Number b) → t ≡ ranged b.range
 number_is ns (sequence root more) b p = absurd p
 number_is ns (sequence_of u s) b p = absurd p
 number_is ns (choice root more) b p = absurd p

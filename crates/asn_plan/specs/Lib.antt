@@ -1,4 +1,5 @@
 pub mod Plans
+pub mod Ranged
 pub mod Rules
 pub mod SimpleTypes
 pub mod Taken

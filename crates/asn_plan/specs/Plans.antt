@@ -12,7 +12,7 @@ use Rattle.asn_rules.specs.declared.fault.DecodeFault.{DecodeFault}
 use Rattle.asn_rules.specs.Languages.{Spells}
 use Rattle.asn_rules.specs.Listed.{Listed, bitmap_length}
 use Rattle.asn_walk.specs.Coding.{Coding, OpenOf, OpenListed, added, added_alternatives}
-use Rattle.asn_walk.specs.Integers.{between}
+use Rattle.asn_plan.specs.Ranged.{ranged}
 use Rattle.asn_walk.specs.Reading.{Reads, ValuesOf}
 use Rattle.asn_plan.specs.declared.plan.Plan.{Plan}
 use Rattle.asn_plan.specs.declared.plan.Node.{Node}
@@ -25,7 +25,7 @@ use Rattle.asn_plan.specs.declared.plan.Kind.TheVariants as kind
 
 -- of a type without parts a node says its bounds, or holds it
 abbrev pub IsLeafPlan : Kind → Shape → Type 0
-IsLeafPlan (kind.Number b) t = t ≡ between b.low b.high
+IsLeafPlan (kind.Number b) t = t ≡ ranged b.range
 IsLeafPlan (kind.Leaf l) t = t ≡ shape_of l.ty
 IsLeafPlan (kind.Sequence s) t = ⊥
 IsLeafPlan (kind.List l) t = ⊥

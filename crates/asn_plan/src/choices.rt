@@ -9,15 +9,16 @@ use crate::build::Build;
 use crate::leaves::are_few;
 use crate::open::build_open;
 use crate::plan::{AlternativeRows, Node};
+use crate::rules::PlanLeaves;
 use crate::walk::build_at;
 use asn_bits::BitCursor;
-use asn_walk::{Index, ReadLeaves};
+use asn_walk::Index;
 use std::alloc::Global;
 
 /// What is built of the CHOICE with which the units begin, and which is taken.
 #[inline(never)]
 #[cycle(walk)]
-pub(crate) fn build_choice<R: ReadLeaves, B: Build>(
+pub(crate) fn build_choice<R: PlanLeaves, B: Build>(
     alloc: Global,
     nodes: &[Node],
     parts: &AlternativeRows,

@@ -15,15 +15,16 @@ use crate::copies::copy_default;
 use crate::leaves::read_other;
 use crate::open::build_open;
 use crate::plan::{ComponentRows, Node, Presence};
+use crate::rules::PlanLeaves;
 use crate::walk::build_at;
 use asn_bits::BitCursor;
-use asn_walk::{PresenceBits, ReadLeaves};
+use asn_walk::PresenceBits;
 use std::alloc::Global;
 
 /// What is built of the SEQUENCE with which the units begin, and which is taken.
 #[inline(never)]
 #[cycle(walk)]
-pub(crate) fn build_sequence<R: ReadLeaves, B: Build>(
+pub(crate) fn build_sequence<R: PlanLeaves, B: Build>(
     alloc: Global,
     nodes: &[Node],
     parts: &ComponentRows,
@@ -71,7 +72,7 @@ pub(crate) fn build_sequence<R: ReadLeaves, B: Build>(
 /// What is built of the SEQUENCE with neither components nor extension additions with which the units begin, and which
 /// is taken.
 #[inline(never)]
-fn build_empty<R: ReadLeaves, B: Build>(
+fn build_empty<R: PlanLeaves, B: Build>(
     alloc: Global,
     additions: Option<usize>,
     units: &mut BitCursor<'_>,
@@ -99,7 +100,7 @@ fn build_empty<R: ReadLeaves, B: Build>(
 /// there are this many with the extension additions.
 #[inline(always)]
 #[cycle(walk)]
-fn build_components<R: ReadLeaves, B: Build>(
+fn build_components<R: PlanLeaves, B: Build>(
     alloc: Global,
     nodes: &[Node],
     parts: &[Node],
@@ -126,7 +127,7 @@ fn build_components<R: ReadLeaves, B: Build>(
 /// Adds the entry of a component, which is taken where the presence bits tell that it is there.
 #[inline(always)]
 #[cycle(walk)]
-fn build_component<R: ReadLeaves, B: Build>(
+fn build_component<R: PlanLeaves, B: Build>(
     alloc: Global,
     nodes: &[Node],
     part: &Node,
@@ -179,7 +180,7 @@ fn build_component<R: ReadLeaves, B: Build>(
 /// begin, and which are taken.
 #[inline(always)]
 #[cycle(walk)]
-fn build_additions<R: ReadLeaves, B: Build>(
+fn build_additions<R: PlanLeaves, B: Build>(
     alloc: Global,
     nodes: &[Node],
     parts: &[Node],
@@ -211,7 +212,7 @@ fn build_additions<R: ReadLeaves, B: Build>(
 /// which are taken.
 #[inline(always)]
 #[cycle(walk)]
-fn build_open_fields<R: ReadLeaves, B: Build>(
+fn build_open_fields<R: PlanLeaves, B: Build>(
     alloc: Global,
     nodes: &[Node],
     parts: &[Node],
@@ -240,7 +241,7 @@ fn build_open_fields<R: ReadLeaves, B: Build>(
 /// there.
 #[inline(always)]
 #[cycle(walk)]
-fn build_addition<R: ReadLeaves, B: Build>(
+fn build_addition<R: PlanLeaves, B: Build>(
     alloc: Global,
     nodes: &[Node],
     part: &Node,

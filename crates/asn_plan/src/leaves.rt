@@ -1,65 +1,104 @@
 //! What the rules read by themselves, for one node of a plan.
 ghost use Rattle.std.specs.Prelude.{◌≡◌, ◌≤◌, ◌<◌, IfSome, IsSome, true};
 ghost use Rattle.asn_walk.specs.Coding.{AreFew};
-ghost use Rattle.asn_values.specs.View.{shape_of, datum_of};
-ghost use Rattle.asn_walk.specs.Integers.{between};
-ghost use Rattle.asn_walk.specs.Reading.{Reads, ReadsValue, ReadsOther, ValuesOf};
+ghost use Rattle.asn_values.specs.Profile.{InProfile};
+ghost use Rattle.asn_values.specs.Shape.{integer};
+ghost use Rattle.asn_values.specs.View.{shape_of, range_of};
+ghost use Rattle.asn_plan.specs.Ranged.{ranged, IsRanged};
+ghost use Rattle.asn_walk.specs.Reading.{ReadsOther};
+ghost use Rattle.asn_plan.specs.Plans.{Builds};
 
+use crate::build::Build;
 use crate::plan::{Between, Leaf, WithDefault};
+use crate::ranged::Ranged;
 use asn_bits::BitCursor;
+use asn_bits::internal::{offset_from, width};
 use asn_values::{AsnType, Bounds, Value};
 use asn_walk::ReadLeaves;
 use std::alloc::Global;
 
-/// Reads a value of the type. `None` where the units begin with none, where they are too few or memory is wanting.
-#[inline(always)]
-pub(crate) fn read_leaf<R: ReadLeaves>(
+/// What is built of a value of the type with which the units begin, and which is taken. `None` where they begin with
+/// none, where they are too few or memory is wanting.
+#[inline(never)]
+pub(crate) fn build_leaf<R: ReadLeaves, B: Build>(
     alloc: Global,
     leaf: &Leaf,
     units: &mut BitCursor<'_>,
-) -> Option<Value>
+    room: &mut B::Room,
+) -> Option<B::Part>
     requires at_unit { R.rules.at_unit units.old }
     ensures at_unit { IsSome result → R.rules.at_unit units.new }
-    ensures some { IfSome result (λ v. ReadsValue R.rules leaf.now.ty v units.old units.new) }
+    ensures some { IfSome result (λ p. Builds R.rules (B.built room.old room.new) (shape_of leaf.now.ty) p units.old units.new) }
 {
     if let Some(value) = R::try_simple(alloc, &leaf.ty, units) {
-        return Some(value);
+        let part = B::value(room, value)?;
+        return Some(part);
     }
     let Ok(value) = R::read_simple(alloc, &leaf.ty, units) else {
         return None;
     };
-    Some(value)
+    let part = B::value(room, value)?;
+    Some(part)
 }
 
-/// INTEGER with these bounds.
-fn type_between(range: &Between) -> AsnType
-    ensures { shape_of result ≡ between range.now.low range.now.high }
+/// The INTEGER of these bounds, if there are two, and the offsets between them have at most 64 bits with the extension
+/// bit.
+pub(crate) fn between_of(bounds: &Bounds) -> Option<Between>
+    requires of_profile { InProfile (integer (range_of bounds.now)) }
+    ensures { IfSome result (λ b. ranged b.range ≡ integer (range_of bounds.now)) }
+{
+    let low = bounds.low?;
+    let high = bounds.high?;
+    let highest = offset_from(low, high);
+    let bits = u32::from(bounds.ext) + width(u128::from(highest) + 1);
+    if bits > 64 {
+        return None;
+    }
+    let range = Ranged {
+        low,
+        high,
+        marked: bounds.ext,
+        highest,
+        bits,
+    };
+    Some(Between { range })
+}
+
+/// The type of these bounds.
+fn type_of(range: &Ranged) -> AsnType
+    ensures { shape_of result ≡ ranged range.now }
 {
     AsnType::Int(Bounds {
         low: Some(range.low),
         high: Some(range.high),
-        ext: false,
+        ext: range.marked,
     })
 }
 
-/// Reads an INTEGER with these bounds. `None` where the units begin with none, where they are too few or memory is
-/// wanting.
+/// What is built of a number of the range with which the units begin, or of one outside its bounds, where there is a mark.
+/// It is taken. `None` where they begin with none, where they are too few or memory is wanting.
 #[inline(never)]
-pub(crate) fn read_between<R: ReadLeaves>(
+pub(crate) fn build_ranged<R: ReadLeaves, B: Build>(
     alloc: Global,
-    range: &Between,
+    range: &Ranged,
     units: &mut BitCursor<'_>,
-) -> Option<Value>
+    room: &mut B::Room,
+) -> Option<B::Part>
     requires at_unit { R.rules.at_unit units.old }
+    requires ranged { IsRanged range.now }
     ensures at_unit { IsSome result → R.rules.at_unit units.new }
-    ensures some { IfSome result (λ v. Reads R.rules (ValuesOf R.rules (between range.now.low range.now.high))
-        (datum_of v) units.old units.new) }
+    ensures some { IfSome result (λ p. Builds R.rules (B.built room.old room.new) (ranged range.now) p units.old units.new) }
 {
-    let ty = type_between(range);
+    let ty = type_of(range);
+    if let Some(value) = R::try_simple(alloc, &ty, units) {
+        let part = B::value(room, value)?;
+        return Some(part);
+    }
     let Ok(value) = R::read_simple(alloc, &ty, units) else {
         return None;
     };
-    Some(value)
+    let part = B::value(room, value)?;
+    Some(part)
 }
 
 /// Reads a value of the type of a component that is present though it has this DEFAULT, which is then another value.

@@ -14,6 +14,7 @@ mod of;
 mod open;
 mod plan;
 mod planned;
+mod ranged;
 mod rules;
 mod walk;
 
@@ -27,5 +28,6 @@ pub use plan::{
     WithDefault,
 };
 pub use planned::Planned;
-pub use rules::PlanRules;
+pub use ranged::Ranged;
+pub use rules::{PlanLeaves, PlanRules};
 pub use walk::build_at;

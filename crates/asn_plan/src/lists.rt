@@ -10,15 +10,15 @@ ghost use Rattle.asn_plan.specs.Plans.{IsPlan, Builds, BuildsList, BuildsRow};
 
 use crate::build::Build;
 use crate::plan::{ElementRow, Kind, Node};
+use crate::rules::PlanLeaves;
 use crate::walk::build_at;
 use asn_bits::BitCursor;
-use asn_walk::ReadLeaves;
 use std::alloc::Global;
 
 /// What is built of the SEQUENCE OF with which the units begin, and which is taken.
 #[inline(never)]
 #[cycle(walk)]
-pub(crate) fn build_list<R: ReadLeaves, B: Build>(
+pub(crate) fn build_list<R: PlanLeaves, B: Build>(
     alloc: Global,
     nodes: &[Node],
     list: &ElementRow,
@@ -47,7 +47,7 @@ pub(crate) fn build_list<R: ReadLeaves, B: Build>(
 /// What is built of the elements of the fragments that are ahead, with which the units begin, and which are taken.
 #[inline(always)]
 #[cycle(walk)]
-fn build_fragments<R: ReadLeaves, B: Build>(
+fn build_fragments<R: PlanLeaves, B: Build>(
     alloc: Global,
     nodes: &[Node],
     kind: &Kind,
@@ -79,7 +79,7 @@ fn build_fragments<R: ReadLeaves, B: Build>(
 /// Adds `count` elements, with which the units begin, and which are taken.
 #[inline(always)]
 #[cycle(walk)]
-fn build_elements<R: ReadLeaves, B: Build>(
+fn build_elements<R: PlanLeaves, B: Build>(
     alloc: Global,
     nodes: &[Node],
     kind: &Kind,

@@ -13,15 +13,14 @@ use crate::build::{Build, Nothing, Values};
 use crate::counting::Counting;
 use crate::open::build_complete;
 use crate::plan::Plan;
-use crate::rules::PlanRules;
+use crate::rules::{PlanLeaves, PlanRules};
 use asn_rules::{DecodeFault, MAX_OCTETS, Rules};
 use asn_values::{Checked, Value};
-use asn_walk::ReadLeaves;
 use std::alloc::Global;
 
 /// What is built, in this room, of the value whose encoding the octets are. Where it gives nothing, nothing is said.
 #[inline(always)]
-pub fn build_octets<R: ReadLeaves, B: Build>(
+pub fn build_octets<R: PlanLeaves, B: Build>(
     alloc: Global,
     plan: &Plan,
     octets: &[u8],

@@ -12,9 +12,9 @@ ghost use Rattle.asn_plan.specs.SimpleTypes.{is_simple};
 ghost use Rattle.asn_plan.specs.Plans.{IsLeafPlan, IsPresence, IsPlan, IsPlanOf, ArePlans, ArePlansOfMore, ArePlansOfEach, ArePlansOfOthers};
 
 use crate::copies::copy_simple;
+use crate::leaves::between_of;
 use crate::plan::{
-    AlternativeRows, Between, ComponentRows, ElementRow, Kind, Leaf, Node, Plan, Presence,
-    WithDefault,
+    AlternativeRows, ComponentRows, ElementRow, Kind, Leaf, Node, Plan, Presence, WithDefault,
 };
 use asn_values::{Alt, AsnType, Checked, Field, Need, Size};
 use asn_walk::bitmap_width;
@@ -214,10 +214,8 @@ fn leaf_of(alloc: Global, ty: &AsnType) -> Result<Kind, AllocError>
     ensures { IfOk result (λ k. IsLeafPlan k (shape_of ty.now)) }
 {
     if let AsnType::Int(bounds) = ty {
-        if let (Some(low), Some(high)) = (bounds.low, bounds.high) {
-            if !bounds.ext {
-                return Ok(Kind::Number(Between { low, high }));
-            }
+        if let Some(number) = between_of(bounds) {
+            return Ok(Kind::Number(number));
         }
     }
     let ty = copy_simple(alloc, ty)?;

@@ -6,17 +6,17 @@ ghost use Rattle.asn_plan.specs.Plans.{IsPlan, BuildsMessage, BuildsOpen};
 
 use crate::build::Build;
 use crate::plan::{Kind, Node};
+use crate::rules::PlanLeaves;
 use crate::walk::build_at;
 use asn_bits::BitCursor;
 use asn_rules::laws::are_octets;
-use asn_walk::ReadLeaves;
 use asn_walk_read::{SHORT_OPEN_FIELD, read_open_octets};
 use std::alloc::Global;
 
 /// What is built of the value whose complete encoding the octets are.
 #[inline(always)]
 #[cycle(walk)]
-pub(crate) fn build_complete<R: ReadLeaves, B: Build>(
+pub(crate) fn build_complete<R: PlanLeaves, B: Build>(
     alloc: Global,
     nodes: &[Node],
     kind: &Kind,
@@ -46,7 +46,7 @@ pub(crate) fn build_complete<R: ReadLeaves, B: Build>(
 /// What is built of the value in the open type field with which the units begin, and which is taken.
 #[inline(never)]
 #[cycle(walk)]
-pub(crate) fn build_open<R: ReadLeaves, B: Build>(
+pub(crate) fn build_open<R: PlanLeaves, B: Build>(
     alloc: Global,
     nodes: &[Node],
     kind: &Kind,

@@ -2,18 +2,18 @@
 ghost use Rattle.std.specs.Prelude.{◌≡◌, true};
 ghost use Rattle.asn_values.specs.Profile.{InProfile, good_default};
 ghost use Rattle.asn_values.specs.View.{shape_of, datum_of, size_range_of};
-ghost use Rattle.asn_walk.specs.Integers.{between};
+ghost use Rattle.asn_plan.specs.Ranged.{IsRanged};
 ghost use Rattle.asn_walk.specs.Laws.{IsSizeOfProfile};
 ghost use Rattle.asn_plan.specs.SimpleTypes.{is_simple};
 
+use crate::ranged::Ranged;
 use asn_values::{AsnType, Size, Value};
 
-/// The bounds of an INTEGER that has two and no extension mark, both counted in.
+/// An INTEGER with two bounds, with what is worked out of them.
 #[derive(Debug, Clone, Copy)]
 pub struct Between {
-    pub low: i128,
-    pub high: i128,
-    ghost of_profile: { InProfile (between low high) },
+    pub range: Ranged,
+    ghost is_ranged: { IsRanged range },
 }
 
 /// A type that is neither SEQUENCE, SEQUENCE OF nor CHOICE.
@@ -71,7 +71,7 @@ pub struct AlternativeRows {
 /// What is to be read.
 #[derive(Debug, Drop)]
 pub enum Kind {
-    /// An INTEGER with two bounds and no extension mark.
+    /// An INTEGER with two bounds, whose numbers between them have few enough bits.
     Number(Between),
     /// A value of a type that the rules read by themselves.
     Leaf(Leaf),

@@ -11,17 +11,17 @@ ghost use Rattle.asn_plan.specs.Plans.{IsPlan, Builds};
 use crate::build::Build;
 use crate::choices::build_choice;
 use crate::components::build_sequence;
-use crate::leaves::{read_between, read_leaf};
+use crate::leaves::{build_leaf, build_ranged};
 use crate::lists::build_list;
 use crate::plan::{Kind, Node};
+use crate::rules::PlanLeaves;
 use asn_bits::BitCursor;
-use asn_walk::ReadLeaves;
 use std::alloc::Global;
 
 /// What is built of the value of the type with which the units begin, and which is taken.
 #[inline(always)]
 #[cycle(walk)]
-pub fn build_at<R: ReadLeaves, B: Build>(
+pub fn build_at<R: PlanLeaves, B: Build>(
     alloc: Global,
     nodes: &[Node],
     kind: &Kind,
@@ -34,20 +34,14 @@ pub fn build_at<R: ReadLeaves, B: Build>(
         → Builds R.rules (B.built room.old room.new) t p units.old units.new) }
 {
     match kind {
-        Kind::Number(range) => {
-            if let Some(integer) = R::try_between(range.low, range.high, units) {
-                let number = B::number(room, integer)?;
-                return Some(number);
+        Kind::Number(number) => {
+            if let Some(integer) = R::try_ranged(&number.range, units) {
+                let part = B::number(room, integer)?;
+                return Some(part);
             }
-            let value = read_between::<R>(alloc, range, units)?;
-            let part = B::value(room, value)?;
-            Some(part)
+            build_ranged::<R, B>(alloc, &number.range, units, room)
         }
-        Kind::Leaf(leaf) => {
-            let value = read_leaf::<R>(alloc, leaf, units)?;
-            let part = B::value(room, value)?;
-            Some(part)
-        }
+        Kind::Leaf(leaf) => build_leaf::<R, B>(alloc, leaf, units, room),
         Kind::Sequence(parts) => build_sequence::<R, B>(alloc, nodes, parts, units, room),
         Kind::List(list) => build_list::<R, B>(alloc, nodes, list, units, room),
         Kind::Choice(parts) => build_choice::<R, B>(alloc, nodes, parts, units, room),

@@ -8,7 +8,6 @@ use Rattle.asn_values.proofs.InnerTypes.{element_of_profile}
 use Rattle.asn_values.proofs.Parts.{components_of_profile}
 use Rattle.asn_bits.proofs.Above.{kept}
 use Rattle.asn_bits.specs.Sink.{bit_of}
-use Rattle.asn_rules.proofs.Plain.IntegerSets.{low_inside, high_inside}
 use Rattle.asn_rules.specs.Languages.{Spells}
 use Rattle.asn_rules.specs.Laws.{AreOctets}
 use Rattle.asn_rules.specs.Listed.{Spelt}
@@ -23,30 +22,28 @@ use Rattle.asn_plan.proofs.Alternatives.{alternative_at, each_count, root_read, 
 use Rattle.asn_plan.proofs.Building.{next_node, built_further, goes_ends, absents_are, no_root, no_additions, sequence_read}
 use Rattle.asn_plan.proofs.Entries.{must_entry, present_entry, absent_entry, other_entry, default_entry}
 use Rattle.asn_plan.proofs.Messages.{whole_message, field_read, turned_true, turned_false}
-use Rattle.asn_plan.proofs.NodeKinds.{number_is, leaf_is, sequence_is, list_is, choice_is}
+use Rattle.asn_plan.proofs.NodeKinds.{if_some, number_is, leaf_is, sequence_is, list_is, choice_is}
 use Rattle.asn_plan.proofs.Rows.{row_begins, row_further, listed_starts, listed_further, listed_ends, list_read}
 use Rattle.asn_plan.proofs.+walk.Goals as goal
 
 pub walk::build_at-returns-in-Some-clause-some : goal.walk::build_at-returns-in-Some-clause-some
 walk::build_at-returns-in-Some-clause-some g t c s good p =
-    let n = c.in-Number.range in
+    let n = c.in-Number.number in
     let is = number_is c.args.nodes.now s n (rw c.in-Number.is at p) in
-    let l = low_inside (Some n.low) (Some n.high) n.of_profile in
-    let h = high_inside (Some n.low) (Some n.high) n.of_profile in
     let z = c.in-Some.integer in
     let of_z = c.in-Some.ensures.of_integers in
-    rw is (record { value = number z; of_value = rw (kept z of_z.0 of_z.1) at c.in_ok-number-in-Number.ensures; read = rw (kept n.low l.0 l.1, kept n.high h.0 h.1) at c.in-Some.ensures.some })
+    rw is (record { value = number z; of_value = rw (kept z of_z.0 of_z.1) at c.in_ok-part-in-Number.ensures; read = c.in-Some.ensures.some })
 
-pub walk::build_at-returns-in_ok-part-in-Number-clause-some : goal.walk::build_at-returns-in_ok-part-in-Number-clause-some
-walk::build_at-returns-in_ok-part-in-Number-clause-some g t c s good p =
-    let is = number_is c.args.nodes.now s c.in-Number.range (rw c.in-Number.is at p) in
-    let still : c.try_between.new.units ≡ c.args.units.now = c.in_default.ensures.none refl in
-    rw is (record { value = datum_of c.in_ok-value-in-Number.value; of_value = c.in_ok-part-in-Number.ensures; read = rw still at c.in_ok-value-in-Number.ensures.some })
+pub walk::build_at-returns-in_default-clause-some : goal.walk::build_at-returns-in_default-clause-some
+walk::build_at-returns-in_default-clause-some g t c = if_some c.build_ranged.result _ _ (λ p built s good plan. (
+    let is = number_is c.args.nodes.now s c.in-Number.number (rw c.in-Number.is at plan) in
+    let still : c.try_ranged.new.units ≡ c.args.units.now = c.in_default.ensures.none refl in
+    rw is (rw still at built))) c.build_ranged.ensures.some
 
-pub walk::build_at-returns-in_ok-part-in-Leaf-clause-some : goal.walk::build_at-returns-in_ok-part-in-Leaf-clause-some
-walk::build_at-returns-in_ok-part-in-Leaf-clause-some g t c s good p =
-    let is = leaf_is c.args.nodes.now s c.in-Leaf.leaf (rw c.in-Leaf.is at p) in
-    rw is (record { value = datum_of c.in_ok-value-in-Leaf.value; of_value = c.in_ok-part-in-Leaf.ensures; read = c.in_ok-value-in-Leaf.ensures.some })
+pub walk::build_at-returns-in-Leaf-clause-some : goal.walk::build_at-returns-in-Leaf-clause-some
+walk::build_at-returns-in-Leaf-clause-some g t c = if_some c.build_leaf.result _ _ (λ p built s good plan. (
+    let is = leaf_is c.args.nodes.now s c.in-Leaf.leaf (rw c.in-Leaf.is at plan) in
+    rw is built)) c.build_leaf.ensures.some
 
 pub components::build_components-loop-part-preserved : goal.components::build_components-loop-part-preserved
 components::build_components-loop-part-preserved g t c =

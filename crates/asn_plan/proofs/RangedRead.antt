@@ -1,0 +1,67 @@
+-- A number between two bounds, by what was worked out of them.
+use Rattle.std.proofs.Common.{◌≡◌, ◌≤◌, ◌+◌, ◌++◌, ℕ, suc, ℤ, pos, ◌+ℤ◌, ◌≤ℤ◌, Bool, false, List, None, refl, sym, ap, ◌∙◌, arith}
+use Rattle.std.proofs.lemmas.Int.{ints}
+use mir.Syntax.{w128}
+use mir.Val.{to_z, of_z}
+use Rattle.asn_values.specs.Datum.{number}
+use Rattle.asn_values.specs.Fits.{Fits, lowest_integer, highest_integer}
+use Rattle.asn_values.specs.Profile.{InProfile}
+use Rattle.asn_values.specs.Shape.{integer}
+use Rattle.asn_bits.specs.Numbers.{above, bits, width}
+use Rattle.asn_bits.specs.Sink.{bit_of}
+use Rattle.asn_bits.proofs.Above.{above-add, add_within, kept}
+use Rattle.asn_rules.specs.Components.{extension_bit}
+use Rattle.asn_rules.specs.Languages.{Spells}
+use Rattle.asn_rules.specs.Listed.{Spelt}
+use Rattle.asn_rules.proofs.Languages.Parts.{contents-ones}
+use Rattle.asn_per.specs.Kinds.{between}
+use Rattle.asn_per.specs.Laws.{per_bits}
+use Rattle.asn_per.specs.Per.{per, per_fields, constrained, whole_number}
+use Rattle.asn_per.proofs.Write.BetweenBounds.{bounds_within, bits_between, between_fits}
+use Rattle.asn_per.proofs.Write.IndexBits.{root_index_bits}
+use Rattle.asn_plan.specs.Ranged.{ranged, IsRanged}
+use Rattle.asn_plan.specs.declared.ranged.Ranged.{Ranged}
+
+-- ---- the bounds
+
+module _ (r : Ranged) (good : IsRanged r) where
+  -- the bounds are integers of the profile, in their order
+  pub within : (lowest_integer ≤ℤ r.low) × (r.low ≤ℤ r.high) × (r.high ≤ℤ highest_integer)
+  within = bounds_within r.low r.high r.marked good.of_profile
+
+  pub low_below_highest : r.low ≤ℤ highest_integer
+  low_below_highest = let w = within in omega (arith, ints, w.1, w.2)
+
+  pub high_above_lowest : lowest_integer ≤ℤ r.high
+  high_above_lowest = let w = within in omega (arith, ints, w.0, w.1)
+
+  -- which keep their values in 128 bits
+  pub low_kept : to_z w128 (of_z w128 r.low) ≡ r.low
+  low_kept = kept r.low within.0 low_below_highest
+
+  pub high_kept : to_z w128 (of_z w128 r.high) ≡ r.high
+  high_kept = kept r.high high_above_lowest within.2
+
+-- ---- PER
+
+-- the bits of its offset, after the extension bit 0 where there is a mark, are the first bits of a number of the type
+pub number_first : (r : Ranged) (n : ℕ) (us vs : List ℕ) → IsRanged r → n ≤ r.highest → us ≡ bits r.bits n ++ vs
+    → Spells per_fields (Spelt per None (ranged r)) (number (r.low +ℤ pos n)) us vs
+number_first r n us vs good few split =
+    let low = r.low in
+    let high = r.high in
+    let z = low +ℤ pos n in
+    let w = within r good in
+    let below : n ≤ above low high = omega (arith, few, good.highest) in
+    let least : low ≤ℤ z = omega (arith, ints) in
+    let most : z ≤ℤ high = add_within low high n w.1 below in
+    let values = suc (above low high) in
+    let same : per_bits (integer (between low high r.marked)) (number z) ≡ bits r.bits n =
+    sym (bits_between low high z r.marked good.of_profile least most) ∙ ap (λ k. extension_bit r.marked false ++ constrained values k) (above-add low n)
+    ∙ root_index_bits values n (omega (arith, below)) r.marked (bit_of r.marked) refl ∙ ap (λ k. bits k n) (sym good.bits) in
+    record {
+      chunks = per (ranged r) (number z);
+      spelt = record { fits = (between_fits low high z r.marked good.of_profile least most, tt); same = refl };
+      contents = contents-ones per_fields (whole_number (between low high r.marked) z);
+      split = split ∙ ap (λ t. t ++ vs) (sym same);
+    }

@@ -1,0 +1,34 @@
+use Rattle.std.proofs.Common.{◌≡◌, ◌≤ℤ◌, Some, refl, arith}
+use Rattle.std.proofs.lemmas.Int.{ints}
+use Rattle.asn_values.specs.Fits.{lowest_integer, highest_integer}
+use Rattle.asn_values.specs.Profile.{InProfile}
+use Rattle.asn_values.specs.Shape.{integer}
+use Rattle.asn_values.specs.View.{range_of}
+use Rattle.asn_bits.proofs.Above.{kept}
+use Rattle.asn_per.specs.Kinds.{between}
+use Rattle.asn_per.proofs.Write.BetweenBounds.{bounds_within}
+use Rattle.asn_plan.proofs.leaves.between_of.Goals as goal
+
+pub offset_from-highest-requires-clause-ordered : goal.offset_from-highest-requires-clause-ordered
+offset_from-highest-requires-clause-ordered c =
+    let low = c.in_ok-low.low in
+    let high = c.in_ok-high.high in
+    let good : InProfile (integer (between low high c.args.bounds.now.ext)) = rw (c.in_ok-low.was, c.in_ok-high.was) at c.requires.of_profile in
+    let w = bounds_within low high c.args.bounds.now.ext good in
+    rw (kept low w.0 (omega (arith, ints, w.1, w.2)), kept high (omega (arith, ints, w.0, w.1)) w.2) w.1
+
+pub offset_from-highest-requires-clause-within_low : goal.offset_from-highest-requires-clause-within_low
+offset_from-highest-requires-clause-within_low c =
+    let low = c.in_ok-low.low in
+    let high = c.in_ok-high.high in
+    let good : InProfile (integer (between low high c.args.bounds.now.ext)) = rw (c.in_ok-low.was, c.in_ok-high.was) at c.requires.of_profile in
+    let w = bounds_within low high c.args.bounds.now.ext good in
+    rw (kept low w.0 (omega (arith, ints, w.1, w.2))) w.0
+
+pub offset_from-highest-requires-clause-within_high : goal.offset_from-highest-requires-clause-within_high
+offset_from-highest-requires-clause-within_high c =
+    let low = c.in_ok-low.low in
+    let high = c.in_ok-high.high in
+    let good : InProfile (integer (between low high c.args.bounds.now.ext)) = rw (c.in_ok-low.was, c.in_ok-high.was) at c.requires.of_profile in
+    let w = bounds_within low high c.args.bounds.now.ext good in
+    rw (kept high (omega (arith, ints, w.0, w.1)) w.2) w.2

@@ -1,0 +1,14 @@
+//! An INTEGER with two bounds, and what is worked out of them once for all its numbers.
+
+/// An INTEGER with two bounds, both counted in, with an extension mark or without, and what a reader would else work
+/// out of them for each number.
+#[derive(Debug, Clone, Copy)]
+pub struct Ranged {
+    pub low: i128,
+    pub high: i128,
+    pub marked: bool,
+    /// How far `high` lies above `low`.
+    pub highest: u64,
+    /// The fewest bits that tell the numbers from 0 to `highest` apart, and the extension bit, where there is a mark.
+    pub bits: u32,
+}

@@ -10,7 +10,7 @@ use std::alloc::{AllocError, Global};
 /// What stands before the title.
 const HEAD: &str = "<!DOCTYPE html>\n<html lang=\"en\">\n<head>\n<meta charset=\"utf-8\">\n<title>";
 
-/// What stands behind the title: the colours, of which neighbours have different ones.
+/// What follows the title: the colours, of which neighbours have different ones.
 const STYLE: &str =
     "</title>\n<style>\nbody { font-family: sans-serif; margin: 2em; color: #111; background: #fff; }\n\
 pre, td { font-family: monospace; }\npre { line-height: 1.5; }\n\
@@ -171,7 +171,7 @@ fn push_number(alloc: Global, page: &mut String, number: u64) -> Result<(), Allo
     page.push_str("  </i>")
 }
 
-/// Adds the units of a row from one number to another, in PER as bits, with a space behind each octet, and in OER as
+/// Adds the units of a row from one number to another, in PER as bits, with a space after each octet, and in OER as
 /// octets.
 fn push_piece(
     page: &mut String,

@@ -130,7 +130,7 @@ fn push_fields(
     Ok(())
 }
 
-/// What stands behind the type of a component: whether it may be absent, and its DEFAULT.
+/// What follows the type of a component: whether it may be absent, and its DEFAULT.
 fn need_text(alloc: Global, field: &Field) -> Result<String, AllocError> {
     match &field.need {
         Need::Must => Ok(String::new(alloc)),

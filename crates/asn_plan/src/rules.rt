@@ -20,8 +20,8 @@ use asn_walk::ReadLeaves;
 /// What a plan asks of a set of rules beside the parts that any walk asks for: values by what was worked out of their
 /// types once.
 pub trait PlanLeaves: ReadLeaves {
-    /// Fast path: a number of the type, where its units are at hand; otherwise takes nothing. One outside the bounds,
-    /// where there is a mark, need not be taken.
+    /// Reads an INTEGER of the type, or gives `None` and leaves the cursor where it is: if its encoding is not complete
+    /// or not valid, and perhaps if the value lies outside the extension root.
     fn try_ranged(range: &Ranged, units: &mut BitCursor<'_>) -> Option<i128>
         requires at_unit { Self.rules.at_unit units.old }
         requires ranged { IsRanged range.now }

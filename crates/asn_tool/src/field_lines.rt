@@ -211,7 +211,7 @@ fn show_message<'a>(
     Ok(())
 }
 
-/// Writes what is shown of one more message, as lines behind an empty line.
+/// Writes what is shown of one more message, as lines after an empty line.
 fn put<'a>(
     rt: &HostRuntime,
     shown: Shown<'_>,

@@ -21,7 +21,7 @@ enum Next {
 }
 
 /// Answers the messages of an input, each as soon as its last octet is there. Of the input no more is kept than the
-/// message that has begun and what was read at once with it. Behind octets that are refused nothing is read. Tells
+/// message that has begun and what was read at once with it. After octets that are refused nothing is read. Tells
 /// whether no answer is a refusal.
 ///
 /// # Errors
@@ -83,7 +83,7 @@ fn next_message<S: Rules, R: BufRead>(
     Err(RunFault::Memory)
 }
 
-/// How many octets the next message has, if all of them are at hand, and more than none.
+/// How many octets the next message has, if all of them were read, and it has any.
 fn front_at_hand<S: Rules, R: BufRead>(
     alloc: Global,
     input: &mut R,
@@ -109,7 +109,7 @@ fn opened<S: Rules>(alloc: Global, ty: &Checked) -> Result<Session<S>, RunFault>
     }
 }
 
-/// Feeds the session what is at hand: how many octets of that belong to the message, and what stands there, if it is
+/// Feeds the session what was read: how many octets of that belong to the message, and what stands there, if it is
 /// known now.
 fn fed<S: Rules, R: BufRead>(
     input: &mut R,
@@ -126,12 +126,12 @@ fn fed<S: Rules, R: BufRead>(
         Ok(Step::Done { used, .. }) if used > 0 => Ok((used, Some(Next::Message))),
         Ok(Step::More) => Ok((piece.len(), None)),
         Err(FeedFault::Memory) => Err(RunFault::Memory),
-        // (a message without octets is one of all that is at hand)
+        // (a message without octets is one of all octets that were read)
         Ok(Step::Done { .. }) | Err(_) => Ok((piece.len(), Some(Next::Last))),
     }
 }
 
-/// Takes this many of the octets at hand, and puts them at the end of the others.
+/// Takes this many octets from the reader's buffer, and appends them to the others.
 fn take<R: BufRead>(input: &mut R, count: usize, octets: &mut Vec<u8>) -> Result<(), RunFault> {
     let piece = match input.fill_buf() {
         Ok(piece) => piece,

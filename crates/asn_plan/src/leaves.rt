@@ -1,7 +1,7 @@
 //! What the rules read by themselves, for one node of a plan.
 ghost use Rattle.std.specs.Prelude.{◌≡◌, ◌≤◌, ◌<◌, IfSome, IsSome, true};
 ghost use Rattle.asn_walk.specs.Coding.{AreFew};
-ghost use Rattle.asn_values.specs.Profile.{InProfile};
+ghost use Rattle.asn_values.specs.Profile.{InProfile, most_alternatives};
 ghost use Rattle.asn_values.specs.Shape.{integer};
 ghost use Rattle.asn_values.specs.View.{shape_of, range_of};
 ghost use Rattle.asn_plan.specs.Ranged.{ranged, IsRanged};
@@ -13,6 +13,7 @@ use crate::plan::{Between, Leaf, WithDefault};
 use crate::ranged::Ranged;
 use asn_bits::BitCursor;
 use asn_bits::internal::{offset_from, width};
+use asn_values::profile::MAX_ALTERNATIVES;
 use asn_values::{AsnType, Bounds, Value};
 use asn_walk::ReadLeaves;
 use std::alloc::Global;
@@ -24,19 +25,21 @@ pub(crate) fn build_leaf<R: ReadLeaves, B: Build>(
     alloc: Global,
     leaf: &Leaf,
     units: &mut BitCursor<'_>,
+    room: &mut B::Room,
 ) -> Option<B::Part>
     requires at_unit { R.rules.at_unit units.old }
     ensures at_unit { IsSome result → R.rules.at_unit units.new }
-    ensures some { IfSome result (λ p. Builds R.rules B.built (shape_of leaf.now.ty) p units.old units.new) }
+    ensures some { IfSome result (λ p.
+        Builds R.rules (B.built room.old room.new) (shape_of leaf.now.ty) p units.old units.new) }
 {
     if let Some(value) = R::try_simple(alloc, &leaf.ty, units) {
-        let part = B::value(value)?;
+        let part = B::value(room, value)?;
         return Some(part);
     }
     let Ok(value) = R::read_simple(alloc, &leaf.ty, units) else {
         return None;
     };
-    let part = B::value(value)?;
+    let part = B::value(room, value)?;
     Some(part)
 }
 
@@ -81,21 +84,23 @@ pub(crate) fn build_ranged<R: ReadLeaves, B: Build>(
     alloc: Global,
     range: &Ranged,
     units: &mut BitCursor<'_>,
+    room: &mut B::Room,
 ) -> Option<B::Part>
     requires at_unit { R.rules.at_unit units.old }
     requires ranged { IsRanged range.now }
     ensures at_unit { IsSome result → R.rules.at_unit units.new }
-    ensures some { IfSome result (λ p. Builds R.rules B.built (ranged range.now) p units.old units.new) }
+    ensures some { IfSome result (λ p.
+        Builds R.rules (B.built room.old room.new) (ranged range.now) p units.old units.new) }
 {
     let ty = type_of(range);
     if let Some(value) = R::try_simple(alloc, &ty, units) {
-        let part = B::value(value)?;
+        let part = B::value(room, value)?;
         return Some(part);
     }
     let Ok(value) = R::read_simple(alloc, &ty, units) else {
         return None;
     };
-    let part = B::value(value)?;
+    let part = B::value(room, value)?;
     Some(part)
 }
 
@@ -122,11 +127,11 @@ pub(crate) fn read_other<R: ReadLeaves>(
 pub(crate) fn are_few(root: usize, additions: Option<usize>) -> bool
     ensures some { result ≡ true → 0 < root }
     ensures few { result ≡ true → AreFew root additions }
-    ensures few_in_root { result ≡ true → root ≤ 63 }
+    ensures few_in_root { result ≡ true → root ≤ most_alternatives }
 {
     let added = match additions {
         Some(count) => count,
         None => 0,
     };
-    0 < root && root <= 63 && added <= 63 - root
+    0 < root && root <= MAX_ALTERNATIVES && added <= MAX_ALTERNATIVES - root
 }

@@ -1,0 +1,6 @@
+use Rattle.asn_message.proofs.RowSteps.{after_nested}
+use Rattle.asn_message.proofs.row.Row.after.Goals as goal
+
+pub invariant_of-result : goal.invariant_of-result
+invariant_of-result c =
+    record { nested = after_nested c.args.self.now.octets.now c.args.self.now.slots.now c.in-Some.slot.now c.in-Some.others.now c.in-Some.ensures.cases.0 c.args.self.now.nested }

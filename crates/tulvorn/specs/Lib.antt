@@ -2,6 +2,7 @@
 pub use Rattle.asn_values.specs.Datum
 pub use Rattle.asn_values.specs.Shape
 pub use Rattle.asn_values.specs.Fits
+pub use Rattle.asn_values.specs.Older
 pub use Rattle.asn_values.specs.View
 -- values by the names of their type
 pub use Rattle.asn_view.specs.Typed
@@ -27,6 +28,10 @@ pub use Rattle.asn_oer.specs.Rules as OerRules
 pub use Rattle.asn_plan.specs.Plans
 pub use Rattle.asn_plan.specs.Taken
 pub use Rattle.asn_plan.specs.Within
+-- a value in slots
+pub use Rattle.asn_message.specs.Decoding as MessageDecoding
+pub use Rattle.asn_message.specs.Seen as MessageSeen
+pub use Rattle.asn_message.specs.Views as MessageViews
 -- where octets are no message, other versions, conversion
 pub use Rattle.asn_explain.specs.Explains
 pub use Rattle.asn_explain.specs.Texts
@@ -43,3 +48,4 @@ pub use Rattle.asn_module.specs.Bounded
 pub use Rattle.asn_json.specs.Written
 pub use Rattle.asn_json.specs.Shown
 pub use Rattle.asn_json.specs.Errors
+pub use Rattle.asn_json.specs.Older as OlderJson

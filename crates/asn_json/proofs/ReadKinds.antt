@@ -14,7 +14,7 @@ use Rattle.asn_values.specs.declared.value.Value.TheVariants as value
 use Rattle.asn_values.specs.Datum.{Datum, elements, elements_of, alternative}
 use Rattle.asn_values.specs.Shape.{sequence, sequence_of, choice, enumerated, Label, MoreLabels, more_labels, Fields, MoreFields, more_fields, closed, marked, Alternatives, MoreAlternatives, closed_choice, marked_choice, more_alternatives, count}
 use Rattle.asn_values.specs.Parts.{AreOfProfile, AreAllOfProfile}
-use Rattle.asn_values.specs.Profile.{InProfile, TooMany, somewhere, some_alternative, some_more, too_many_here, most_nodes, most_items, most_additions, most_alternatives}
+use Rattle.asn_values.specs.Profile.{InProfile, TooMany, somewhere, some_alternative, some_more, too_many_here, most_nodes, most_items, most_item_additions, most_alternatives}
 use Rattle.asn_values.specs.Measures.{nodes}
 use Rattle.asn_values.specs.View.{shape_of, datum_of, fields_of, part_of_field, more_fields_of, alternatives_of, branch_of, more_alternatives_of}
 use Rattle.asn_values.proofs.Alternatives.{count-of, shape_of_branch}
@@ -145,7 +145,7 @@ pub few_items : (root : List Label) (more : MoreLabels) → InProfile (enumerate
 few_items root more good =
     let whole = enumerated root more in
     let many = left_false (too_many_here whole) (nat_lt most_nodes (nodes whole)) (good TooMany) in
-    ltb-false most_items (length root + length (more_labels more)) (left_false (nat_lt most_items (length root + length (more_labels more))) (nat_lt most_additions (length (more_labels more))) many)
+    ltb-false most_items (length root + length (more_labels more)) (left_false (nat_lt most_items (length root + length (more_labels more))) (nat_lt most_item_additions (length (more_labels more))) many)
 
 pub few_alternatives : (root : Alternatives) (more : MoreAlternatives) → InProfile (choice root more) → count root + count (more_alternatives more) ≤ 63
 few_alternatives root more good =

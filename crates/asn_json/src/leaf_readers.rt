@@ -2,6 +2,7 @@
 ghost use Rattle.std.specs.Prelude.{◌≡◌, ◌≤◌, ◌+◌, ◌==◌, IfOk, map, option_map, length};
 ghost use Rattle.std.specs.List.{list_all};
 ghost use Rattle.serde_json.specs.View.{view};
+ghost use Rattle.asn_values.specs.Profile.{most_items};
 ghost use Rattle.asn_values.specs.Shape.{more_labels};
 ghost use Rattle.asn_values.specs.View.{datum_of, more_labels_of};
 ghost use Rattle.asn_json.specs.Parts.{names_of_items};
@@ -49,7 +50,7 @@ pub(crate) fn number_shown(json: &Json) -> Option<Value>
 
 /// The value of an ENUMERATED: the item of this name.
 pub(crate) fn item_shown(root: &[Item], ext: &Option<Vec<Item>>, json: &Json) -> Option<Value>
-    requires few { length root.now + length (more_labels (more_labels_of ext.now)) ≤ 256 }
+    requires few { length root.now + length (more_labels (more_labels_of ext.now)) ≤ most_items }
     ensures { option_map datum_of result ≡ item_in (names_of_items root.now ext.now) (view json.now) }
 {
     let index = item_index(root, ext, json.as_str()?)?;

@@ -3,6 +3,7 @@ ghost use Rattle.std.specs.Prelude.{◌≡◌, ◌↔◌, ◌≤◌, ◌<◌, �
 ghost use Rattle.std.specs.List.{list_any};
 ghost use Rattle.serde_json.specs.Find.{as_object, get_member};
 ghost use Rattle.serde_json.specs.View.{view, members_view};
+ghost use Rattle.asn_values.specs.Profile.{most_alternatives};
 ghost use Rattle.asn_values.specs.Shape.{more_alternatives, count};
 ghost use Rattle.asn_values.specs.View.{more_fields_of, more_alternatives_of, fields_seen, alternatives_seen};
 ghost use Rattle.asn_view.specs.Names.{index_of};
@@ -14,10 +15,11 @@ use serde_json::{Map, Value as Json};
 
 /// The index of the alternative of this name, root and then additions.
 pub(crate) fn alternative_index(root: &[Alt], ext: &Option<Vec<Alt>>, name: &str) -> Option<usize>
-    requires few { length root.now + count (more_alternatives (more_alternatives_of ext.now)) ≤ 63 }
+    requires few { length root.now + count (more_alternatives (more_alternatives_of ext.now))
+        ≤ most_alternatives }
     ensures index { result
         ≡ index_of name.now (choice_names (alternatives_seen root.now) (more_alternatives_of ext.now)) }
-    ensures inside { IfSome result (λ p. p < 63) }
+    ensures inside { IfSome result (λ p. p < most_alternatives) }
 {
     asn_view::alternative_index(root, ext, name)
 }

@@ -3,10 +3,8 @@
 use crate::fault::ModuleFault;
 use crate::places::{Place, marked, name_at, place_at};
 use asn_notation::{Lexeme, SyntaxFault, first_token, read_notation, skip_blank};
+use asn_values::profile::MAX_LEVELS;
 use std::alloc::{AllocError, Global};
-
-/// The most types inside one another in an assignment.
-const MOST_LEVELS: u32 = 32;
 
 /// Tokens that could stand somewhere, and how each is called.
 const TOKENS: [(&str, &str); 24] = [
@@ -77,7 +75,7 @@ fn token_at(alloc: Global, text: &str, at: usize) -> Result<String, AllocError> 
 /// Whether a module can go on with a token after a text.
 fn may_follow(alloc: Global, before: &str, token: &str) -> Result<bool, AllocError> {
     let text = format!(in alloc; "{before} {token}")?;
-    match read_notation(alloc, &text, MOST_LEVELS) {
+    match read_notation(alloc, &text, MAX_LEVELS) {
         Ok(_) => Ok(true),
         Err(SyntaxFault::Unexpected { left }) => Ok(left == 0),
         Err(SyntaxFault::Memory) => Err(AllocError),

@@ -3,7 +3,7 @@ use Rattle.std.specs.Prelude.{◌≡◌, ◌≢◌, ◌-◌, ◌+◌, ◌^◌, �
 use Rattle.std.specs.List.{AllByRecursion}
 use Rattle.std.specs.Int.RustNames.{int_lt}
 use Rattle.asn_values.specs.Shape.{Label}
-use Rattle.asn_values.specs.Profile.{most_additions, most_alternatives, most_items, is_not_32_bits}
+use Rattle.asn_values.specs.Profile.{most_item_additions, most_alternatives, most_items, is_not_32_bits}
 use Rattle.asn_bits.specs.Numbers.{bits}
 use Rattle.asn_rules.specs.Components.{number_at}
 use Rattle.asn_rules.specs.IntegerSets.{magnitude_of}
@@ -19,7 +19,7 @@ use Rattle.asn_newer.specs.Loose.{LooseCoding}
 -- which with the items of the root are its items
 pub record IsIndexToCome (root additions : List Label) (n : ℕ) : Type 0 where
   pub past : length additions ≤ n
-  pub few : n < most_additions
+  pub few : n < most_item_additions
   pub room : length root + n < most_items
 
 abbrev pub IsUnknownIndex : List Label → List Label → ℤ → Type 0

@@ -9,11 +9,9 @@ use crate::halt::Halt;
 use crate::leaves::ReadVersions;
 use asn_bits::BitCursor;
 use asn_rules::internal::Stop;
+use asn_values::profile::MAX_ADDITIONS;
 use asn_walk::{PresenceBits, ReadLeaves};
 use std::alloc::AllocError;
-
-/// The most extension additions of a type.
-const MOST_ADDITIONS: u32 = 64;
 
 /// Reads the presence bits of extension additions, of which one at least is present: as many as the sender's type has,
 /// from 1 to 64. `likely` is the count that is tried first, that of the receiver's type, and 0 where it has none.
@@ -37,7 +35,7 @@ pub fn read_any_bitmap<R: ReadVersions>(
         return Ok(presence);
     }
     let mut is_short = false;
-    for count in 1..MOST_ADDITIONS + 1 {
+    for count in 1..MAX_ADDITIONS as u32 + 1 {
         match try_count::<R>(count, &mut is_short, units) {
             Ok(Some(presence)) => return Ok(presence),
             Ok(None) => {}

@@ -2,7 +2,7 @@
 ghost use Rattle.std.specs.Prelude.{◌≡◌, ◌<◌, ◌≤◌, ◌^◌, IfOk, IfErr, OnOk, length};
 ghost use Rattle.asn_values.specs.Datum.{alternative};
 ghost use Rattle.asn_values.specs.Parts.{AreAllOfProfile};
-ghost use Rattle.asn_values.specs.Profile.{InProfile};
+ghost use Rattle.asn_values.specs.Profile.{InProfile, most_alternatives};
 ghost use Rattle.asn_values.specs.Shape.{choice, closed_choice, marked_choice};
 ghost use Rattle.asn_values.specs.View.{datum_of, alternatives_seen};
 ghost use Rattle.asn_walk.specs.Reading.{Reads};
@@ -91,7 +91,7 @@ fn read_root_alternative<R: ReadVersions>(
     requires at_unit { R.rules.at_unit units.old }
     requires of_profile { AreAllOfProfile (alternatives_seen root.now) }
     requires inside { index < length root.now }
-    requires few { index ≤ 63 }
+    requires few { index ≤ most_alternatives }
     ensures at_unit { OnOk result (R.rules.at_unit units.new) }
     ensures done { IfOk result (λ v. Reads R.rules (ReadingAfter (skipped_at_seen skipped.old.items)
         (LooseRoot (loose_by R.rules R.loose) index (alternatives_seen root.now) index))
@@ -117,8 +117,8 @@ fn read_added_alternative<R: ReadVersions>(
 ) -> Result<Value, Halt>
     requires at_unit { R.rules.at_unit units.old }
     requires of_profile { AreAllOfProfile (alternatives_seen added.now) }
-    requires few { tag ≤ 63 }
-    requires few_added { index ≤ 63 }
+    requires few { tag ≤ most_alternatives }
+    requires few_added { index ≤ most_alternatives }
     ensures at_unit { OnOk result (R.rules.at_unit units.new) }
     ensures done { IfOk result (λ v. Reads R.rules (ReadingAfter (skipped_at_seen skipped.old.items)
         (LooseAdded (loose_by R.rules R.loose) tag index (alternatives_seen added.now) index))

@@ -1,6 +1,6 @@
 //! What a set of encoding rules gives to the reader of messages of newer and older senders, beside its parts.
 ghost use Rattle.std.specs.Prelude.{◌≡◌, ◌≤◌, ◌↔◌, ℕ, List, IfOk, IfErr, IsTrue, OnOk};
-ghost use Rattle.asn_values.specs.Profile.{InProfile};
+ghost use Rattle.asn_values.specs.Profile.{InProfile, most_alternatives};
 ghost use Rattle.asn_values.specs.Shape.{enumerated, marked_labels};
 ghost use Rattle.asn_values.specs.View.{labels_seen};
 ghost use Rattle.asn_walk.specs.Reading.{Reads};
@@ -31,7 +31,7 @@ pub trait ReadVersions: ReadLeaves + OtherVersions {
     /// alternatives in the root.
     fn is_index_past(root: usize, units: &BitCursor<'_>) -> bool
         requires at_unit { Self.rules.at_unit units.now }
-        requires few { root ≤ 63 }
+        requires few { root ≤ most_alternatives }
         ensures { IsTrue result ↔ Self.index_past root (Self.rules.to_units units.now) };
 
     /// Reads the number that tells an item that an ENUMERATED with an extension mark has not.

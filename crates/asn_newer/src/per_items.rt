@@ -6,6 +6,7 @@ use crate::leaves::ReadVersions;
 use asn_bits::BitCursor;
 use asn_per::Per;
 use asn_values::Item;
+use asn_values::profile::{MAX_ALTERNATIVES, MAX_ITEM_ADDITIONS, MAX_ITEMS};
 
 #[tactic(auto, unfolding(crate::specs::Rules::per_loose))]
 impl ReadVersions for Per {
@@ -26,11 +27,11 @@ impl ReadVersions for Per {
         let Some(number) = units.peek_number(8) else {
             return false;
         };
-        number + root as u64 >= 191
+        number + root as u64 >= 128 + MAX_ALTERNATIVES as u64
     }
 
-    /// A bit 1 and a normally small number, 0 and 6 bits: the index among the additions. The profile has 64 additions
-    /// and, with the root, 256 items.
+    /// A bit 1 and a normally small number, 0 and 6 bits: the index among the additions, of which the profile has as
+    /// many, and as many items with the root, as its limits say.
     fn read_unknown_item(
         root: &[Item],
         additions: &[Item],
@@ -49,7 +50,7 @@ impl ReadVersions for Per {
             return Err(Halt::Refused);
         }
         let items_before = root.len() as u64 + index;
-        if index > 63 || items_before > 255 {
+        if index >= MAX_ITEM_ADDITIONS as u64 || items_before >= MAX_ITEMS as u64 {
             return Err(Halt::TooMany);
         }
         Ok(i128::from(index))

@@ -31,12 +31,10 @@ use crate::items::read_any_item;
 use crate::leaves::ReadVersions;
 use crate::path::{PathStep, SkippedAt, put_inside};
 use asn_bits::BitCursor;
+use asn_values::profile::MAX_ADDITIONS;
 use asn_values::{AsnType, Field, Size, Value};
 use asn_walk::{PresenceBits, ReadLeaves, bitmap_width};
 use std::alloc::Global;
-
-/// The most extension additions of a SEQUENCE.
-const MOST_ADDITIONS: usize = 64;
 
 /// The most elements of a SEQUENCE OF for which capacity is reserved at once: an announced count alone must not
 /// allocate more.
@@ -173,7 +171,7 @@ fn read_marked<R: ReadVersions>(
 {
     R::keep_walk_laws();
     let width = bitmap_width(root);
-    let preamble = R::read_preamble(width, Some(MOST_ADDITIONS), units)?;
+    let preamble = R::read_preamble(width, Some(MAX_ADDITIONS), units)?;
     let mut entries = Vec::with_capacity(alloc, root.len() + additions.len())?;
     let presence = PresenceBits {
         bitmap: preamble.bitmap,

@@ -1,6 +1,7 @@
 -- Which trees a text may have: numbers of the profile, lists that are not empty, and no more levels than allowed.
-use Rattle.std.specs.Prelude.{ℕ, zero, suc, ◌<◌, ◌^◌, ⊤, ℤ, pos, negsuc, length, IfSome}
+use Rattle.std.specs.Prelude.{ℕ, zero, suc, ◌<◌, ◌+◌, ⊤, ℤ, pos, negsuc, length, IfSome}
 use Rattle.std.specs.List.{AllByRecursion}
+use Rattle.asn_values.specs.Fits.{highest_number, offset_of_zero}
 use Rattle.asn_notation.specs.declared.notation.Limits.{Limits}
 use Rattle.asn_notation.specs.declared.notation.Limits.TheVariants.{One, Between}
 use Rattle.asn_notation.specs.declared.notation.SizeNotation.{SizeNotation}
@@ -15,8 +16,8 @@ use Rattle.asn_notation.specs.Tree.{Tree, Components, More, Alternatives, MoreAl
 use Rattle.asn_notation.specs.Tree.{ModuleTree}
 
 abbrev pub IsInt : ℤ → Type 0
-IsInt (pos n) = n < 2 ^ 63
-IsInt (negsuc n) = n < 2 ^ 63
+IsInt (pos n) = n < highest_number + 1
+IsInt (negsuc n) = n < offset_of_zero
 
 abbrev pub AreLimits : Limits → Type 0
 AreLimits (One z) = IsInt z
@@ -24,11 +25,11 @@ AreLimits (Between low high) = IfSome low IsInt × IfSome high IsInt
 
 abbrev pub IsSizeEnd : SizeEnd → Type 0
 IsSizeEnd Same = ⊤
-IsSizeEnd (To n) = n < 2 ^ 63
+IsSizeEnd (To n) = n < highest_number + 1
 IsSizeEnd ToMax = ⊤
 
 abbrev pub IsSize : SizeNotation → Type 0
-IsSize s = (s.low < 2 ^ 63) × IsSizeEnd s.high
+IsSize s = (s.low < highest_number + 1) × IsSizeEnd s.high
 
 abbrev pub IsListSize : ListSize → Type 0
 IsListSize list_size.Any = ⊤

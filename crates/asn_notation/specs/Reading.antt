@@ -1,7 +1,8 @@
 -- Reading tokens from left to right: what is read, and the tokens after it; None where no text goes on so.
-use Rattle.std.specs.Prelude.{◌≡◌, ℕ, zero, suc, ◌^◌, ◌<◌, ℤ, pos, neg_ℤ, Bool, true, false, not, ◌&&◌, List, [], ◌∷◌}
+use Rattle.std.specs.Prelude.{◌≡◌, ℕ, zero, suc, ◌+◌, ◌^◌, ◌<◌, ℤ, pos, neg_ℤ, Bool, true, false, not, ◌&&◌, List, [], ◌∷◌}
 use Rattle.std.specs.Prelude.{◌++◌, length, drop, Option, Some, None, Result, MatchResult, nat_lt, nat_le}
 use Rattle.std.specs.Prelude.{if◌then◌else◌, IfOk}
+use Rattle.asn_values.specs.Fits.{highest_number, offset_of_zero}
 use Rattle.std.specs.Borrow.{Bor}
 use denote.Enum.Bare.{sameb}
 use Rattle.asn_notation.specs.declared.token.Word.{Word}
@@ -103,7 +104,7 @@ number_at (identifier x ∷ ts) = None
 number_at (name x ∷ ts) = None
 number_at (word v ∷ ts) = None
 number_at (out_of_profile ∷ ts) = None
-number_at (number n ∷ ts) = if nat_lt n (2 ^ 63) then Some (n, ts) else None
+number_at (number n ∷ ts) = if nat_lt n (highest_number + 1) then Some (n, ts) else None
 number_at (negative n ∷ ts) = None
 number_at (too_large ∷ ts) = None
 number_at (illegal ∷ ts) = None
@@ -116,8 +117,8 @@ int_at (identifier x ∷ ts) = None
 int_at (name x ∷ ts) = None
 int_at (word v ∷ ts) = None
 int_at (out_of_profile ∷ ts) = None
-int_at (number n ∷ ts) = if nat_lt n (2 ^ 63) then Some (pos n, ts) else None
-int_at (negative n ∷ ts) = if nat_lt 0 n && nat_le n (2 ^ 63) then Some (neg_ℤ (pos n), ts) else None
+int_at (number n ∷ ts) = if nat_lt n (highest_number + 1) then Some (pos n, ts) else None
+int_at (negative n ∷ ts) = if nat_lt 0 n && nat_le n offset_of_zero then Some (neg_ℤ (pos n), ts) else None
 int_at (too_large ∷ ts) = None
 int_at (illegal ∷ ts) = None
 int_at (sign u ∷ ts) = None

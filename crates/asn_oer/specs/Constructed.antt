@@ -52,8 +52,7 @@ abbrev pub Alternative : Alternatives → MoreAlternatives → ℕ → Datum →
 Alternative root more t =
     elim (nat_lt t (count root)) [ true ↦ OneOf Values root t | false ↦ OneOfMore more (t - count root) ]
 
--- the octet of a context-specific tag: 128 and the tag ("encoding of tags"); a type of the profile has at most 63
--- alternatives
+-- the octet of a context-specific tag: 128 and the tag, as long as that is below 63 ("encoding of tags")
 abbrev pub Tags : Alternatives → MoreAlternatives → ℕ → List Chunk → Type 0
 Tags root more = Plain (InDigits 256 1 (Between 128 (127 + (count root + count (more_alternatives more)))))
 

@@ -3,7 +3,7 @@ use Rattle.std.specs.Prelude.{◌≡◌, ◌-◌, ◌^◌, ◌<◌, ◌≤◌, �
 use Rattle.std.specs.Int.RustNames.{int_le, int_lt}
 use Rattle.asn_values.specs.Datum.{Datum, truth, nothing, number, item}
 use Rattle.asn_values.specs.Shape.{Range, Label}
-use Rattle.asn_values.specs.Fits.{FitsNumber}
+use Rattle.asn_values.specs.Fits.{FitsNumber, highest_number}
 use Rattle.asn_values.specs.Profile.{int_eq}
 use Rattle.asn_rules.specs.Chunks.{Chunk}
 use Rattle.asn_rules.specs.Components.{number_at}
@@ -62,11 +62,10 @@ abbrev pub SignedIn : Range → Option ℕ → ℤ → ℤ → ℤ → List Chun
 SignedIn b (Some k) low high = FixedSigned k low high
 SignedIn b None low high = CountedSigned (FitsNumber b)
 
--- the integers of the range b, by its bounds: unsigned where the low one is not negative; the highest integer of
--- the profile is 2 ^ 63 - 1
+-- the integers of the range b, by its bounds: unsigned where the low one is not negative
 abbrev pub BoundedIntegers : Range → Option ℤ → Option ℤ → ℤ → List Chunk → Type 0
 BoundedIntegers b (Some (pos low)) (Some high) = UnsignedIn (unsigned_octets high) low (magnitude_of high)
-BoundedIntegers b (Some (pos low)) None = CountedUnsigned low 9223372036854775807
+BoundedIntegers b (Some (pos low)) None = CountedUnsigned low highest_number
 BoundedIntegers b (Some (negsuc low)) (Some high) = SignedIn b (signed_size (negsuc low) high) (negsuc low) high
 BoundedIntegers b (Some (negsuc low)) None = CountedSigned (FitsNumber b)
 BoundedIntegers b None high = CountedSigned (FitsNumber b)

@@ -5,7 +5,7 @@ use Rattle.asn_values.specs.declared.types.Item.{Item}
 use Rattle.asn_values.specs.declared.types.TextKind.{TextKind}
 use Rattle.asn_values.specs.Shape.{Range, SizeRange, bit_string, octet_string, restricted, integer, boolean, marked_labels, Alphabet, ia5, numeric, visible}
 use Rattle.asn_values.specs.View.{alphabet_of, label_of}
-use Rattle.asn_values.specs.Fits.{lowest_integer}
+use Rattle.asn_values.specs.Fits.{lowest_integer, integer_count}
 use Rattle.asn_bits.specs.Numbers.{above, bits}
 use Rattle.asn_bits.specs.Sink.{bit_of}
 use Rattle.asn_rules.specs.Chunks.{Chunk}
@@ -83,7 +83,7 @@ low_offset (Some low) = above lowest_integer low
 
 -- how many lie at a high bound or below it
 abbrev pub high_offset : Option ℤ → ℕ
-high_offset None = 2 ^ 64
+high_offset None = integer_count
 high_offset (Some high) = above lowest_integer high + 1
 
 -- one number alone

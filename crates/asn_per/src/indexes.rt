@@ -1,5 +1,6 @@
 //! The index of an item of an ENUMERATED or an alternative of a CHOICE: of the root, or of the extension additions.
 ghost use Rattle.std.specs.Prelude.{◌≡◌, ◌≤◌, ◌<◌, ◌-◌, IfOk, IfErr, OnOk, Some};
+ghost use Rattle.asn_values.specs.Profile.{most_items, most_item_additions};
 ghost use Rattle.asn_bits.specs.Numbers.{width};
 ghost use Rattle.asn_rules.specs.NumberSets.{NumberIn};
 ghost use Rattle.asn_rules.specs.PlainReading.{ReadsPlain, StopsPlain};
@@ -26,8 +27,8 @@ pub(crate) fn write_index<S: Sink>(
     index: Index,
     sink: &mut S,
 ) -> Result<(), S::Fault>
-    requires few { root ≤ 256 }
-    requires within { IsIndexWithin root (Some 64) (index_seen index) }
+    requires few { root ≤ most_items }
+    requires within { IsIndexWithin root (Some most_item_additions) (index_seen index) }
     ensures { OnOk result (S.pushes sink.old sink.new (index_bits root marked (index_seen index))) }
 {
     match index {

@@ -1,6 +1,6 @@
 -- Integers by how far they lie above the lowest one of the profile, and their spellings in two's complement.
 use Rattle.std.specs.Prelude.{◌≡◌, ◌≤◌, ◌<◌, ◌+◌, ◌-◌, ◌*◌, ◌^◌, ◌⊎◌, ◌≤ℤ◌, ◌+ℤ◌, ℕ, ℤ, pos, true, false, nat_lt, List, Result, IfOk}
-use Rattle.asn_values.specs.Fits.{lowest_integer, highest_integer}
+use Rattle.asn_values.specs.Fits.{lowest_integer, highest_integer, offset_of_zero, integer_count}
 use Rattle.asn_bits.specs.Numbers.{above}
 use Rattle.asn_bits.specs.Sets.{Among, InDigits}
 use Rattle.asn_rules.specs.Chunks.{Chunk}
@@ -21,8 +21,9 @@ HasInteger s z = (lowest_integer ≤ℤ z) × (z ≤ℤ highest_integer) × HasO
 -- the offsets begin with that of the lowest integer and end with that of the highest, or they lack one number at most
 -- and do one of these
 abbrev pub IsOpen : OffsetSet → Type 0
-IsOpen s = (s.end ≤ 2 ^ 64)
-    × (((s.start ≡ 0) × (s.end ≡ 2 ^ 64)) ⊎ ((s.from ≤ s.below + 1) × ((s.start ≡ 0) ⊎ (s.end ≡ 2 ^ 64))))
+IsOpen s = (s.end ≤ integer_count)
+    × (((s.start ≡ 0) × (s.end ≡ integer_count))
+    ⊎ ((s.from ≤ s.below + 1) × ((s.start ≡ 0) ⊎ (s.end ≡ integer_count))))
 
 -- an integer of the set in the fewest octets of two's complement after their count (X.691, "unconstrained whole
 -- number")
@@ -52,14 +53,16 @@ least_magnitude_of count = elim (nat_lt 1 count) [ true ↦ 2 ^ (8 * (count - 1)
 
 -- n is an offset from the first to before the end, less that of 0 and raised by `up`
 abbrev pub IsRaised : ℕ → ℕ → ℕ → ℕ → Type 0
-IsRaised first end up n = (first + up ≤ n + 2 ^ 63) × (n + 2 ^ 63 < end + up)
+IsRaised first end up n = (first + up ≤ n + offset_of_zero) × (n + offset_of_zero < end + up)
 
 -- the old numbers, and the offsets from the first to before the end, each less that of 0 and raised by `up`
 pub record AreShifted (old new : List (ℕ × ℕ)) (s : OffsetSet) (first end up : ℕ) : Type 0 where
   pub there : (n : ℕ) → Among new n
-      → Among old n ⊎ ((first + up ≤ n + 2 ^ 63) × (n + 2 ^ 63 < end + up) × HasOffset s (n + 2 ^ 63 - up))
+      → Among old n
+      ⊎ ((first + up ≤ n + offset_of_zero) × (n + offset_of_zero < end + up) × HasOffset s (n + offset_of_zero - up))
   pub kept : (n : ℕ) → Among old n → Among new n
-  pub added : (n : ℕ) → first + up ≤ n + 2 ^ 63 → n + 2 ^ 63 < end + up → HasOffset s (n + 2 ^ 63 - up) → Among new n
+  pub added : (n : ℕ) → first + up ≤ n + offset_of_zero → n + offset_of_zero < end + up
+      → HasOffset s (n + offset_of_zero - up) → Among new n
 
 -- the numbers of the intervals stand for the integers of the set in this count of octets
 pub record AreStanding (s : OffsetSet) (count : ℕ) (is : List (ℕ × ℕ)) : Type 0 where

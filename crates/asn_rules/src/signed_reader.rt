@@ -1,7 +1,7 @@
 //! The reader of integers in the fewest octets of two's complement (X.691, "unconstrained whole number").
 
 ghost use Rattle.std.specs.Prelude.{◌≡◌, ◌≤◌, ◌<◌, ◌+◌, ◌-◌, ◌*◌, ◌^◌, ◌⊎◌, ℕ, pos, ◌+ℤ◌, length, IsTrue, IsNone, IfSome};
-ghost use Rattle.asn_values.specs.Fits.{lowest_integer};
+ghost use Rattle.asn_values.specs.Fits.{lowest_integer, offset_of_zero, integer_count};
 ghost use Rattle.asn_bits.specs.Sets.{Among};
 ghost use Rattle.asn_rules.specs.Counted.{signed_number};
 ghost use Rattle.asn_rules.specs.Languages.{Spells};
@@ -257,8 +257,8 @@ fn numbers_of_count(set: OffsetSet, count: u32) -> Intervals
 /// Adds the offsets of the set in `first..end`, less that of 0 and raised by `up`.
 fn add_shifted(numbers: Intervals, set: OffsetSet, first: u128, end: u128, up: u128) -> Intervals
     requires room { length numbers ≤ 2 }
-    requires low { 2 ^ 63 ≤ first + up }
-    requires high { end + up ≤ 2 ^ 63 + 2 ^ 64 }
+    requires low { offset_of_zero ≤ first + up }
+    requires high { end + up ≤ offset_of_zero + integer_count }
     ensures numbers { AreShifted numbers result set first end up }
     ensures room { length result ≤ length numbers + 2 }
 {
@@ -270,11 +270,12 @@ fn add_shifted(numbers: Intervals, set: OffsetSet, first: u128, end: u128, up: u
 /// Adds the offsets in `first..end`, less that of 0 and raised by `up`.
 fn add_interval(numbers: Intervals, first: u128, end: u128, up: u128) -> Intervals
     requires room { length numbers < 4 }
-    requires low { 2 ^ 63 ≤ first + up }
-    requires high { end + up ≤ 2 ^ 63 + 2 ^ 64 }
+    requires low { offset_of_zero ≤ first + up }
+    requires high { end + up ≤ offset_of_zero + integer_count }
     ensures there { (n : ℕ) → Among result n → Among numbers n ⊎ IsRaised first end up n }
     ensures kept { (n : ℕ) → Among numbers n → Among result n }
-    ensures added { (n : ℕ) → first + up ≤ n + 2 ^ 63 → n + 2 ^ 63 < end + up → Among result n }
+    ensures added { (n : ℕ) → first + up ≤ n + offset_of_zero → n + offset_of_zero < end + up
+        → Among result n }
     ensures room { length result ≤ length numbers + 1 }
 {
     if first < end {

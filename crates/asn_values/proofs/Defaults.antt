@@ -19,7 +19,7 @@ below_itself : (z : ℤ) → int_lt z z ≡ true → ⊥
 below_itself (pos n) e = omega (arith, ltb-true n n e)
 below_itself (negsuc n) e = omega (arith, ltb-true n n e)
 
-le_also : (x y z : ℤ) → int_le x y ≡ true → int_le y z ≡ true → int_le x z ≡ true
+pub le_also : (x y z : ℤ) → int_le x y ≡ true → int_le y z ≡ true → int_le x z ≡ true
 le_also (pos a) (pos b) (pos c) p q = le-leb a c (omega (arith, leb-true a b p, leb-true b c q))
 le_also (pos a) (pos b) (negsuc c) p q = absurd (true≢false (sym q))
 le_also (pos a) (negsuc b) z p q = absurd (true≢false (sym p))
@@ -33,13 +33,13 @@ le_both (pos a) (negsuc b) p q = absurd (true≢false (sym p))
 le_both (negsuc a) (pos b) p q = absurd (true≢false (sym q))
 le_both (negsuc a) (negsuc b) p q = ap negsuc (omega (arith, leb-true b a p, leb-true a b q))
 
-not_below : (x y : ℤ) → int_lt x y ≡ false → int_le y x ≡ true
+pub not_below : (x y : ℤ) → int_lt x y ≡ false → int_le y x ≡ true
 not_below (pos a) (pos b) e = le-leb b a (ltb-false a b e)
 not_below (pos a) (negsuc b) e = refl
 not_below (negsuc a) (pos b) e = absurd (true≢false e)
 not_below (negsuc a) (negsuc b) e = le-leb a b (ltb-false b a e)
 
-le_not_below : (x y : ℤ) → int_le y x ≡ true → int_lt x y ≡ false
+pub le_not_below : (x y : ℤ) → int_le y x ≡ true → int_lt x y ≡ false
 le_not_below (pos a) (pos b) e = go (nat_lt a b) refl
   where
     go : (t : Bool) → nat_lt a b ≡ t → t ≡ false
@@ -101,12 +101,15 @@ outside z p q = rw (p, q) refl
 not_less : (a b : ℤ) → int_lt a b ≡ false → b ≤ℤ a
 not_less a b e = lt_z_no (subst (λ t. T (not t)) (sym e) tt)
 
-order_of : (a b : ℤ) → b ≤ℤ a → int_lt a b ≡ false
-order_of a b h = le_not_below a b (from (int_le b a) h.le)
+pub le_true : (a b : ℤ) → a ≤ℤ b → int_le a b ≡ true
+le_true a b h = from (int_le a b) h.le
   where
     from : (t : Bool) → T t → t ≡ true
     from true h = refl
     from false h = absurd h
+
+order_of : (a b : ℤ) → b ≤ℤ a → int_lt a b ≡ false
+order_of a b h = le_not_below a b (le_true b a h)
 
 inside : (b : Range) → (m : b.extensible ≡ false) → is_outside b.low ≡ false → is_outside b.high ≡ false → (z : ℤ) → int_le (lowest_of b.low) z ≡ true → int_le z (highest_of b.high) ≡ true → FitsNumber b z
 inside b m ol oh z p q =

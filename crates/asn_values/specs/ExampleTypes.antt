@@ -1,6 +1,7 @@
 -- The types and values that the worked examples share, each with its notation (X.680).
 use Prim.Native.String.{String}
-use Rattle.std.specs.Prelude.{◌+◌, ◌-◌, ◌*◌, ℕ, zero, suc, ℤ, pos, negsuc, Bool, true, false, List, [], ◌∷◌, map, Option, Some, None, nat_lt, ◌==◌, codes}
+use Rattle.std.specs.Prelude.{◌+◌, ◌+ℤ◌, ◌-◌, ◌*◌, ℕ, zero, suc, ℤ, pos, negsuc, Bool, true, false, List, [], ◌∷◌, map, Option, Some, None, nat_lt, ◌==◌, codes}
+use Rattle.asn_values.specs.Fits.{lowest_integer, highest_integer}
 use Rattle.asn_values.specs.Datum.{Datum, truth, number, item, components, elements, components_of, elements_of}
 use Rattle.asn_values.specs.Shape.{Range, SizeRange, ia5, Shape, boolean, null, integer, enumerated, octet_string, restricted, sequence, sequence_of, choice, Label, must, optional, default, closed_labels, marked_labels, Fields, no_fields, field, closed, marked, Alternatives, no_alternatives, one_of, closed_choice, marked_choice}
 
@@ -230,3 +231,12 @@ large_type n =
 abbrev pub doubled : ℕ → Shape
 doubled zero = boolean
 doubled (suc n) = sequence (component (codes "a") (doubled n) (component (codes "b") (doubled n) no_fields)) closed
+
+-- ---- past the limits
+
+-- the integer after the highest of the profile, and the one before the lowest
+abbrev pub past_the_highest : ℤ
+past_the_highest = highest_integer +ℤ pos 1
+
+abbrev pub before_the_lowest : ℤ
+before_the_lowest = lowest_integer +ℤ negsuc 0

@@ -1,5 +1,5 @@
 -- Which values a type has (X.680), within the limits of the profile.
-use Rattle.std.specs.Prelude.{◌≤◌, ◌<◌, ◌+◌, ◌-◌, ℕ, zero, suc, ℤ, pos, negsuc, ◌≤ℤ◌, Bool, true, ◌&&◌, ◌||◌, List, [], ◌∷◌, length, take, drop, Option, Some, None, IsTrue, nat_lt, nat_le, IsUtf8, MatchBool, ⊤, ◌==◌}
+use Rattle.std.specs.Prelude.{◌≤◌, ◌<◌, ◌+◌, ◌-◌, ℕ, zero, suc, ℤ, pos, negsuc, ◌≤ℤ◌, Bool, true, ◌&&◌, ◌||◌, List, [], ◌∷◌, length, take, drop, Option, Some, None, IsTrue, nat_lt, nat_le, IsUtf8, MatchBool, ⊤, ◌==◌, unsigned_abs}
 use Rattle.std.specs.List.{AllByRecursion}
 use Rattle.std.specs.Int.RustNames.{int_le}
 use Rattle.asn_values.specs.Datum.{Datum, truth, nothing, number, item, bit_list, octet_list, characters, unicode, components, elements, alternative, component_list, element_list}
@@ -17,6 +17,34 @@ lowest_integer = negsuc 9223372036854775807
 
 abbrev pub highest_integer : ℤ
 highest_integer = pos 9223372036854775807
+
+-- the highest as a number without a sign, how far 0 lies above the lowest, and how many there are
+abbrev pub highest_number : ℕ
+highest_number = unsigned_abs highest_integer
+
+abbrev pub offset_of_zero : ℕ
+offset_of_zero = unsigned_abs lowest_integer
+
+abbrev pub integer_count : ℕ
+integer_count = offset_of_zero + highest_number + 1
+
+-- the limits that another profile may have higher
+pub record Limits : Type 0 where
+  -- the highest integer
+  pub highest : ℤ
+  -- the most alternatives of a CHOICE, and the most extension additions of an ENUMERATED
+  pub alternatives : ℕ
+  pub item_additions : ℕ
+
+-- each limit of the second profile is that of the first, or above it
+pub record AreWider (l m : Limits) : Type 0 where
+  pub highest : l.highest ≤ℤ m.highest
+  pub alternatives : l.alternatives ≤ m.alternatives
+  pub item_additions : l.item_additions ≤ m.item_additions
+
+-- those of this profile
+abbrev pub limits : Limits
+limits = record { highest = highest_integer; alternatives = 63; item_additions = 64 }
 
 -- ---- numbers and lengths
 
@@ -41,8 +69,11 @@ abbrev pub in_size : SizeRange → ℕ → Bool
 in_size s n = nat_le s.low n && not_above s.high n
 
 -- an integer of the profile, in the root or, where the range is extensible, outside it
+abbrev pub FitsNumberUnder : Limits → Range → ℤ → Type 0
+FitsNumberUnder l b z = (lowest_integer ≤ℤ z) × (z ≤ℤ l.highest) × IsTrue (b.extensible || in_range b z)
+
 abbrev pub FitsNumber : Range → ℤ → Type 0
-FitsNumber b z = (lowest_integer ≤ℤ z) × (z ≤ℤ highest_integer) × IsTrue (b.extensible || in_range b z)
+FitsNumber = FitsNumberUnder limits
 
 -- a length of the profile, in the root or, where the size is extensible, outside it
 abbrev pub FitsLength : SizeRange → ℕ → Type 0
@@ -113,44 +144,61 @@ FitsDemand P (default e) None = ⊥
 
 abbrev mutual
   -- d is a value of the type
-  pub Fits : Shape → Datum → Type 0
-  Fits boolean d = IsTruth d
-  Fits null d = IsNothing d
-  Fits (integer b) d = IsNumber (FitsNumber b) d
-  Fits (enumerated root more) d = IsItem (λ p. p < length root + length (more_labels more)) d
-  Fits (bit_string s) d = IsBits (λ bs. FitsLength s (length bs)) d
-  Fits (octet_string s) d = IsOctets (λ os. FitsLength s (length os) × AllByRecursion (λ o. o < 256) os) d
-  Fits (restricted k s) d = IsText (λ cs. FitsLength s (length cs) × AllByRecursion (λ c. IsTrue (is_of_kind k c)) cs) d
-  Fits utf8_string d = IsUnicode (λ os. (length os ≤ max_len) × IsUtf8 os) d
-  Fits (sequence root more) d =
-      IsComponents (λ es. FitsEach root (take (length (demands root)) es)
-      × FitsMore more (drop (length (demands root)) es)) d
-  Fits (sequence_of t s) d = IsElements (λ ds. FitsLength s (length ds) × AllByRecursion (λ e. Fits t e) ds) d
-  Fits (choice root more) d =
-      IsAlternative (λ t e. MatchBool (nat_lt t (count root)) (FitsAlternative root t e)
-      (FitsMoreAlternatives more (t - count root) e)) d
+  pub FitsUnder : Limits → Shape → Datum → Type 0
+  FitsUnder l boolean d = IsTruth d
+  FitsUnder l null d = IsNothing d
+  FitsUnder l (integer b) d = IsNumber (FitsNumberUnder l b) d
+  FitsUnder l (enumerated root more) d = IsItem (λ p. p < length root + length (more_labels more)) d
+  FitsUnder l (bit_string s) d = IsBits (λ bs. FitsLength s (length bs)) d
+  FitsUnder l (octet_string s) d = IsOctets (λ os. FitsLength s (length os) × AllByRecursion (λ o. o < 256) os) d
+  FitsUnder l (restricted k s) d =
+      IsText (λ cs. FitsLength s (length cs) × AllByRecursion (λ c. IsTrue (is_of_kind k c)) cs) d
+  FitsUnder l utf8_string d = IsUnicode (λ os. (length os ≤ max_len) × IsUtf8 os) d
+  FitsUnder l (sequence root more) d =
+      IsComponents (λ es. FitsEachUnder l root (take (length (demands root)) es)
+      × FitsMoreUnder l more (drop (length (demands root)) es)) d
+  FitsUnder l (sequence_of t s) d =
+      IsElements (λ ds. FitsLength s (length ds) × AllByRecursion (λ e. FitsUnder l t e) ds) d
+  FitsUnder l (choice root more) d =
+      IsAlternative (λ t e. MatchBool (nat_lt t (count root)) (FitsAlternativeUnder l root t e)
+      (FitsMoreAlternativesUnder l more (t - count root) e)) d
 
   -- one entry for each component
-  pub FitsEach : Fields → List (Option Datum) → Type 0
-  FitsEach no_fields [] = ⊤
-  FitsEach no_fields (e ∷ es) = ⊥
-  FitsEach (field name demand t fs) [] = ⊥
-  FitsEach (field name demand t fs) (e ∷ es) = FitsDemand (λ d. Fits t d) demand e × FitsEach fs es
+  pub FitsEachUnder : Limits → Fields → List (Option Datum) → Type 0
+  FitsEachUnder l no_fields [] = ⊤
+  FitsEachUnder l no_fields (e ∷ es) = ⊥
+  FitsEachUnder l (field name demand t fs) [] = ⊥
+  FitsEachUnder l (field name demand t fs) (e ∷ es) = FitsDemand (λ d. FitsUnder l t d) demand e × FitsEachUnder l fs es
 
-  pub FitsMore : MoreFields → List (Option Datum) → Type 0
-  FitsMore closed [] = ⊤
-  FitsMore closed (e ∷ es) = ⊥
-  FitsMore (marked fs) es = FitsEach fs es
+  pub FitsMoreUnder : Limits → MoreFields → List (Option Datum) → Type 0
+  FitsMoreUnder l closed [] = ⊤
+  FitsMoreUnder l closed (e ∷ es) = ⊥
+  FitsMoreUnder l (marked fs) es = FitsEachUnder l fs es
 
   -- a value of the alternative at that index; the tags count the alternatives from 0, root first
-  pub FitsAlternative : Alternatives → ℕ → Datum → Type 0
-  FitsAlternative no_alternatives t d = ⊥
-  FitsAlternative (one_of name shape alts) zero d = Fits shape d
-  FitsAlternative (one_of name shape alts) (suc t) d = FitsAlternative alts t d
+  pub FitsAlternativeUnder : Limits → Alternatives → ℕ → Datum → Type 0
+  FitsAlternativeUnder l no_alternatives t d = ⊥
+  FitsAlternativeUnder l (one_of name shape alts) zero d = FitsUnder l shape d
+  FitsAlternativeUnder l (one_of name shape alts) (suc t) d = FitsAlternativeUnder l alts t d
 
-  pub FitsMoreAlternatives : MoreAlternatives → ℕ → Datum → Type 0
-  FitsMoreAlternatives closed_choice t d = ⊥
-  FitsMoreAlternatives (marked_choice alts) t d = FitsAlternative alts t d
+  pub FitsMoreAlternativesUnder : Limits → MoreAlternatives → ℕ → Datum → Type 0
+  FitsMoreAlternativesUnder l closed_choice t d = ⊥
+  FitsMoreAlternativesUnder l (marked_choice alts) t d = FitsAlternativeUnder l alts t d
+
+abbrev pub Fits : Shape → Datum → Type 0
+Fits = FitsUnder limits
+
+abbrev pub FitsEach : Fields → List (Option Datum) → Type 0
+FitsEach = FitsEachUnder limits
+
+abbrev pub FitsMore : MoreFields → List (Option Datum) → Type 0
+FitsMore = FitsMoreUnder limits
+
+abbrev pub FitsAlternative : Alternatives → ℕ → Datum → Type 0
+FitsAlternative = FitsAlternativeUnder limits
+
+abbrev pub FitsMoreAlternatives : MoreAlternatives → ℕ → Datum → Type 0
+FitsMoreAlternatives = FitsMoreAlternativesUnder limits
 
 -- the entries of a SEQUENCE; the tag and value of a CHOICE
 abbrev pub FitsSequence : Fields → MoreFields → List (Option Datum) → Type 0

@@ -7,9 +7,9 @@ use Rattle.std.proofs.Math.Facts.{yes_leb}
 use Rattle.std.specs.Int.Signed.{le_z_yes}
 use Rattle.asn_values.specs.Datum.{truth, nothing, number, item, bit_list, octet_list, characters, unicode, alternative, unknown_item, unknown_alternative}
 use Rattle.asn_values.specs.Shape.{boolean, null, integer, bit_string, octet_string, restricted, ia5, numeric, visible, utf8_string, sequence_of}
-use Rattle.asn_values.specs.Fits.{Fits, max_len}
+use Rattle.asn_values.specs.Fits.{Fits, highest_integer, max_len}
 use Rattle.asn_values.specs.Profile.{EmptyRange, SizeTooLarge, DuplicateName, BadEnumeration, UselessMark, BadDefault, ZeroWidthElement, AdditionNotOptional, TooMany, TooDeep, InProfile}
-use Rattle.asn_values.specs.ExampleTypes.{hex, bits_of, between, number_from, any_number, between_or_more, exactly, size_between, any_size, size_between_or_more, entries, items, note_type, twice_extended_type, outer_type, extended_choice, colours}
+use Rattle.asn_values.specs.ExampleTypes.{hex, bits_of, between, number_from, any_number, between_or_more, exactly, size_between, any_size, size_between_or_more, entries, items, note_type, twice_extended_type, outer_type, extended_choice, colours, past_the_highest}
 
 -- ---- simple types
 
@@ -28,7 +28,7 @@ pub eight_fits_after_a_marker : Fits (integer (between_or_more (pos 0) (pos 7)))
 eight_fits_after_a_marker = (le_z_yes tt, le_z_yes tt, refl)
 
 -- INTEGER (-5..MAX)
-pub the_greatest_integer_fits : Fits (integer (number_from (negsuc 4))) (number (pos 9223372036854775807))
+pub the_greatest_integer_fits : Fits (integer (number_from (negsuc 4))) (number highest_integer)
 the_greatest_integer_fits = (le_z_yes tt, le_z_yes tt, refl)
 
 -- ENUMERATED { red(0), green(5), blue(200), ..., grey(300) }: four items
@@ -94,7 +94,7 @@ eight_does_not_fit : Fits (integer (between (pos 0) (pos 7))) (number (pos 8)) �
 eight_does_not_fit p = true≢false (sym p.2)
 
 -- INTEGER, whose values end with the profile's
-pub no_number_past_the_profile_fits : Fits (integer any_number) (number (pos 9223372036854775808)) → ⊥
+pub no_number_past_the_profile_fits : Fits (integer any_number) (number past_the_highest) → ⊥
 no_number_past_the_profile_fits p = p.1.le
 
 -- four items

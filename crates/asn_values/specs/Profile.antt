@@ -5,7 +5,7 @@ use Rattle.std.specs.Int.RustNames.{int_le, int_lt}
 use Rattle.asn_values.specs.Datum.{Datum, truth, number, item}
 use Rattle.asn_values.specs.Shape.{Range, SizeRange, Shape, boolean, null, integer, enumerated, bit_string, octet_string, restricted, utf8_string, sequence, sequence_of, choice, Demand, must, optional, default, MoreLabels, closed_labels, marked_labels, more_labels, Fields, no_fields, field, MoreFields, closed, marked, more_fields, demands, field_names, Alternatives, no_alternatives, one_of, MoreAlternatives, closed_choice, marked_choice, more_alternatives, alternative_names, count}
 use Rattle.asn_values.specs.Measures.{depth, nodes}
-use Rattle.asn_values.specs.Fits.{lowest_integer, highest_integer, at_least, at_most, in_range}
+use Rattle.asn_values.specs.Fits.{Limits, limits, lowest_integer, highest_integer, at_least, at_most, in_range}
 
 -- ---- every node of a type
 
@@ -42,9 +42,12 @@ abbrev mutual
 
 -- ---- EmptyRange: a low bound above the high one, a bound outside the profile, no item or alternative in the root
 
+abbrev pub is_outside_under : Limits → Option ℤ → Bool
+is_outside_under l None = false
+is_outside_under l (Some z) = int_lt z lowest_integer || int_lt l.highest z
+
 abbrev pub is_outside : Option ℤ → Bool
-is_outside None = false
-is_outside (Some z) = int_lt z lowest_integer || int_lt highest_integer z
+is_outside = is_outside_under limits
 
 abbrev pub low_above_high : Option ℤ → Option ℤ → Bool
 low_above_high (Some low) high = not (at_most high low)
@@ -57,15 +60,18 @@ size_above s = above s.high
     above None = false
     above (Some high) = nat_lt high s.low
 
+abbrev pub empty_range_under : Limits → Shape → Bool
+empty_range_under l (integer b) = low_above_high b.low b.high || (is_outside_under l b.low || is_outside_under l b.high)
+empty_range_under l (enumerated root more) = length root == 0
+empty_range_under l (bit_string s) = size_above s
+empty_range_under l (octet_string s) = size_above s
+empty_range_under l (restricted k s) = size_above s
+empty_range_under l (sequence_of t s) = size_above s
+empty_range_under l (choice root more) = count root == 0
+empty_range_under l _ = false
+
 abbrev pub empty_range : Shape → Bool
-empty_range (integer b) = low_above_high b.low b.high || (is_outside b.low || is_outside b.high)
-empty_range (enumerated root more) = length root == 0
-empty_range (bit_string s) = size_above s
-empty_range (octet_string s) = size_above s
-empty_range (restricted k s) = size_above s
-empty_range (sequence_of t s) = size_above s
-empty_range (choice root more) = count root == 0
-empty_range _ = false
+empty_range = empty_range_under limits
 
 -- ---- SizeTooLarge: a SIZE bound above 65535
 
@@ -151,9 +157,12 @@ abbrev pub is_every_length : Option SizeRange → Bool
 is_every_length None = false
 is_every_length (Some s) = s.extensible && (s.low == 0 && not (is_some s.high))
 
+abbrev pub useless_mark_under : Limits → Shape → Bool
+useless_mark_under l (integer b) = b.extensible && (at_least b.low lowest_integer && at_most b.high l.highest)
+useless_mark_under l t = is_every_length (size_of t)
+
 abbrev pub useless_mark : Shape → Bool
-useless_mark (integer b) = b.extensible && (at_least b.low lowest_integer && at_most b.high highest_integer)
-useless_mark t = is_every_length (size_of t)
+useless_mark = useless_mark_under limits
 
 -- ---- BadDefault: a DEFAULT on another type than BOOLEAN, ENUMERATED or INTEGER, on one with an extension mark or one
 -- value only, or no value of it
@@ -163,26 +172,39 @@ abbrev pub lowest_of : Option ℤ → ℤ
 lowest_of None = lowest_integer
 lowest_of (Some low) = low
 
+abbrev pub highest_of_under : Limits → Option ℤ → ℤ
+highest_of_under l None = l.highest
+highest_of_under l (Some high) = high
+
 abbrev pub highest_of : Option ℤ → ℤ
-highest_of None = highest_integer
-highest_of (Some high) = high
+highest_of = highest_of_under limits
 
 -- a BOOLEAN, ENUMERATED or INTEGER without a mark, of more than one value, and a value of it
+abbrev pub good_default_under : Limits → Shape → Datum → Bool
+good_default_under l boolean (truth b) = true
+good_default_under l (integer b) (number z) =
+    not b.extensible
+    && (in_range b z && (not (is_outside_under l (Some z)) && int_lt (lowest_of b.low) (highest_of_under l b.high)))
+good_default_under l (enumerated root closed_labels) (item p) = nat_lt p (length root) && nat_lt 1 (length root)
+good_default_under l _ _ = false
+
 abbrev pub good_default : Shape → Datum → Bool
-good_default boolean (truth b) = true
-good_default (integer b) (number z) =
-    not b.extensible && (in_range b z && (not (is_outside (Some z)) && int_lt (lowest_of b.low) (highest_of b.high)))
-good_default (enumerated root closed_labels) (item p) = nat_lt p (length root) && nat_lt 1 (length root)
-good_default _ _ = false
+good_default = good_default_under limits
+
+abbrev pub bad_default_at_under : Limits → Fields → Bool
+bad_default_at_under l no_fields = false
+bad_default_at_under l (field name (default d) t fs) = not (good_default_under l t d) || bad_default_at_under l fs
+bad_default_at_under l (field name _ t fs) = bad_default_at_under l fs
 
 abbrev pub bad_default_at : Fields → Bool
-bad_default_at no_fields = false
-bad_default_at (field name (default d) t fs) = not (good_default t d) || bad_default_at fs
-bad_default_at (field name _ t fs) = bad_default_at fs
+bad_default_at = bad_default_at_under limits
+
+abbrev pub bad_default_under : Limits → Shape → Bool
+bad_default_under l (sequence root more) = bad_default_at_under l root || bad_default_at_under l (more_fields more)
+bad_default_under l _ = false
 
 abbrev pub bad_default : Shape → Bool
-bad_default (sequence root more) = bad_default_at root || bad_default_at (more_fields more)
-bad_default _ = false
+bad_default = bad_default_under limits
 
 -- ---- ZeroWidthElement: a SEQUENCE OF whose element has an empty encoding in PER
 
@@ -265,11 +287,15 @@ most_items = 256
 abbrev pub most_components : ℕ
 most_components = 64
 
+-- extension additions of a SEQUENCE, and of an ENUMERATED
 abbrev pub most_additions : ℕ
 most_additions = 64
 
+abbrev pub most_item_additions : ℕ
+most_item_additions = limits.item_additions
+
 abbrev pub most_alternatives : ℕ
-most_alternatives = 63
+most_alternatives = limits.alternatives
 
 -- of the types inside a type, itself counted, and of levels of them
 abbrev pub most_nodes : ℕ
@@ -278,13 +304,16 @@ most_nodes = 10000
 abbrev pub most_levels : ℕ
 most_levels = 32
 
-abbrev pub too_many_here : Shape → Bool
-too_many_here (enumerated root more) =
-    nat_lt most_items (length root + length (more_labels more)) || nat_lt most_additions (length (more_labels more))
-too_many_here (sequence root more) =
+abbrev pub too_many_here_under : Limits → Shape → Bool
+too_many_here_under l (enumerated root more) =
+    nat_lt most_items (length root + length (more_labels more)) || nat_lt l.item_additions (length (more_labels more))
+too_many_here_under l (sequence root more) =
     nat_lt most_components (length (demands root)) || nat_lt most_additions (length (demands (more_fields more)))
-too_many_here (choice root more) = nat_lt most_alternatives (count root + count (more_alternatives more))
-too_many_here _ = false
+too_many_here_under l (choice root more) = nat_lt l.alternatives (count root + count (more_alternatives more))
+too_many_here_under l _ = false
+
+abbrev pub too_many_here : Shape → Bool
+too_many_here = too_many_here_under limits
 
 -- ---- all of them
 
@@ -294,18 +323,24 @@ pub data Condition : Type 0 where
   BadDefault ZeroWidthElement AdditionNotOptional TooMany TooDeep : Condition
 
 -- the condition holds somewhere in the type
+abbrev pub has_under : Limits → Condition → Shape → Bool
+has_under l EmptyRange t = somewhere (empty_range_under l) t
+has_under l SizeTooLarge t = somewhere size_too_large t
+has_under l DuplicateName t = somewhere duplicate_name t
+has_under l BadEnumeration t = somewhere bad_enumeration t
+has_under l UselessMark t = somewhere (useless_mark_under l) t
+has_under l BadDefault t = somewhere (bad_default_under l) t
+has_under l ZeroWidthElement t = somewhere zero_width_element t
+has_under l AdditionNotOptional t = somewhere addition_not_optional t
+has_under l TooMany t = somewhere (too_many_here_under l) t || nat_lt most_nodes (nodes t)
+has_under l TooDeep t = nat_lt most_levels (depth t)
+
 abbrev pub has : Condition → Shape → Bool
-has EmptyRange t = somewhere empty_range t
-has SizeTooLarge t = somewhere size_too_large t
-has DuplicateName t = somewhere duplicate_name t
-has BadEnumeration t = somewhere bad_enumeration t
-has UselessMark t = somewhere useless_mark t
-has BadDefault t = somewhere bad_default t
-has ZeroWidthElement t = somewhere zero_width_element t
-has AdditionNotOptional t = somewhere addition_not_optional t
-has TooMany t = somewhere too_many_here t || nat_lt most_nodes (nodes t)
-has TooDeep t = nat_lt most_levels (depth t)
+has = has_under limits
 
 -- a type of the profile
+abbrev pub InProfileUnder : Limits → Shape → Type 0
+InProfileUnder l t = (c : Condition) → IsFalse (has_under l c t)
+
 abbrev pub InProfile : Shape → Type 0
-InProfile t = (c : Condition) → IsFalse (has c t)
+InProfile = InProfileUnder limits

@@ -1,9 +1,10 @@
 -- Types in which each condition of the profile holds or does not hold.
-use Rattle.std.specs.Prelude.{◌≡◌, pos, negsuc, true, false, [], ◌∷◌, Some, None, refl, codes}
+use Rattle.std.specs.Prelude.{◌≡◌, ◌+◌, ◌-◌, ◌+ℤ◌, pos, negsuc, true, false, [], ◌∷◌, Some, None, refl, codes}
 use Rattle.asn_values.specs.Datum.{truth, nothing, number, item, octet_list}
 use Rattle.asn_values.specs.Shape.{boolean, null, integer, enumerated, bit_string, octet_string, restricted, ia5, utf8_string, sequence, sequence_of, choice, closed_labels, marked_labels, no_fields, closed, marked, no_alternatives, one_of, closed_choice, marked_choice}
-use Rattle.asn_values.specs.Profile.{EmptyRange, SizeTooLarge, DuplicateName, BadEnumeration, UselessMark, BadDefault, ZeroWidthElement, AdditionNotOptional, TooMany, TooDeep, has}
-use Rattle.asn_values.specs.ExampleTypes.{between, number_from, number_to, any_number, between_or_more, exactly, size_between, size_from, any_size, size_between_or_more, label, component, optional_component, default_component, alternatives_of, optionals_of, labels_from, extended_type, extended_choice, unsorted_enumeration, large_type, lists_around, doubled}
+use Rattle.asn_values.specs.Fits.{lowest_integer, highest_integer}
+use Rattle.asn_values.specs.Profile.{EmptyRange, SizeTooLarge, DuplicateName, BadEnumeration, UselessMark, BadDefault, ZeroWidthElement, AdditionNotOptional, TooMany, TooDeep, has, most_components, most_additions, most_item_additions, most_alternatives, most_items}
+use Rattle.asn_values.specs.ExampleTypes.{between, number_from, number_to, any_number, between_or_more, exactly, size_between, size_from, any_size, size_between_or_more, label, component, optional_component, default_component, alternatives_of, optionals_of, labels_from, extended_type, extended_choice, unsorted_enumeration, large_type, lists_around, doubled, past_the_highest, before_the_lowest}
 
 -- ---- EmptyRange
 
@@ -15,17 +16,17 @@ a_low_bound_above_the_high_one = refl
 a_range_of_one_number : has EmptyRange (integer (between (pos 7) (pos 7))) ≡ false
 a_range_of_one_number = refl
 
--- INTEGER (0..9223372036854775808)
-a_bound_past_the_integers_of_the_profile : has EmptyRange (integer (between (pos 0) (pos 9223372036854775808))) ≡ true
+-- INTEGER from 0 to one above the highest
+a_bound_past_the_integers_of_the_profile : has EmptyRange (integer (between (pos 0) past_the_highest)) ≡ true
 a_bound_past_the_integers_of_the_profile = refl
 
--- INTEGER (-9223372036854775809..0)
-a_bound_below_the_integers_of_the_profile : has EmptyRange (integer (between (negsuc 9223372036854775808) (pos 0)))
+-- INTEGER from one below the lowest to 0
+a_bound_below_the_integers_of_the_profile : has EmptyRange (integer (between before_the_lowest (pos 0)))
     ≡ true
 a_bound_below_the_integers_of_the_profile = refl
 
--- INTEGER (-9223372036854775808..9223372036854775807)
-all_integers_of_the_profile : has EmptyRange (integer (between (negsuc 9223372036854775807) (pos 9223372036854775807)))
+-- INTEGER from the lowest to the highest
+all_integers_of_the_profile : has EmptyRange (integer (between lowest_integer highest_integer))
     ≡ false
 all_integers_of_the_profile = refl
 
@@ -176,14 +177,14 @@ a_mark_on_a_range_without_bounds : has UselessMark (integer (record { low = None
     ≡ true
 a_mark_on_a_range_without_bounds = refl
 
--- INTEGER (-9223372036854775808..9223372036854775807, ...)
+-- INTEGER from the lowest to the highest, with a mark
 a_mark_on_all_integers_of_the_profile : has UselessMark
-    (integer (between_or_more (negsuc 9223372036854775807) (pos 9223372036854775807))) ≡ true
+    (integer (between_or_more lowest_integer highest_integer)) ≡ true
 a_mark_on_all_integers_of_the_profile = refl
 
--- INTEGER (-9223372036854775807..MAX, ...)
+-- INTEGER from one above the lowest to MAX, with a mark
 a_mark_on_all_but_one_integer : has UselessMark
-    (integer (record { low = Some (negsuc 9223372036854775806); high = None; extensible = true })) ≡ false
+    (integer (record { low = Some (lowest_integer +ℤ pos 1); high = None; extensible = true })) ≡ false
 a_mark_on_all_but_one_integer = refl
 
 -- INTEGER
@@ -222,9 +223,9 @@ a_number_past_the_range_as_default : has BadDefault
     ≡ true
 a_number_past_the_range_as_default = refl
 
--- INTEGER DEFAULT 9223372036854775808
+-- INTEGER DEFAULT one above the highest
 a_number_past_the_profile_as_default : has BadDefault
-    (sequence (default_component (codes "a") (number (pos 9223372036854775808)) (integer any_number) no_fields) closed)
+    (sequence (default_component (codes "a") (number past_the_highest) (integer any_number) no_fields) closed)
     ≡ true
 a_number_past_the_profile_as_default = refl
 
@@ -234,22 +235,22 @@ a_default_of_the_only_number : has BadDefault
     ≡ true
 a_default_of_the_only_number = refl
 
--- INTEGER (9223372036854775807..MAX) has one value in the profile
+-- INTEGER from the highest to MAX has one value in the profile
 a_default_of_the_last_number_of_the_profile : has BadDefault
-    (sequence (default_component (codes "a") (number (pos 9223372036854775807))
-    (integer (number_from (pos 9223372036854775807))) no_fields) closed) ≡ true
+    (sequence (default_component (codes "a") (number highest_integer)
+    (integer (number_from highest_integer)) no_fields) closed) ≡ true
 a_default_of_the_last_number_of_the_profile = refl
 
--- INTEGER (MIN..-9223372036854775808) has one value in the profile
+-- INTEGER from MIN to the lowest has one value in the profile
 a_default_of_the_first_number_of_the_profile : has BadDefault
-    (sequence (default_component (codes "a") (number (negsuc 9223372036854775807))
-    (integer (number_to (negsuc 9223372036854775807))) no_fields) closed) ≡ true
+    (sequence (default_component (codes "a") (number lowest_integer)
+    (integer (number_to lowest_integer)) no_fields) closed) ≡ true
 a_default_of_the_first_number_of_the_profile = refl
 
--- INTEGER (9223372036854775806..MAX)
+-- INTEGER from one below the highest to MAX
 a_default_of_the_last_two_numbers : has BadDefault
-    (sequence (default_component (codes "a") (number (pos 9223372036854775807))
-    (integer (number_from (pos 9223372036854775806))) no_fields) closed) ≡ false
+    (sequence (default_component (codes "a") (number highest_integer)
+    (integer (number_from (highest_integer +ℤ negsuc 0))) no_fields) closed) ≡ false
 a_default_of_the_last_two_numbers = refl
 
 -- INTEGER DEFAULT 0
@@ -399,37 +400,41 @@ an_addition_of_a_choice_needs_no_word = refl
 
 -- ---- TooMany
 
-64_components : has TooMany (sequence (optionals_of 64 boolean) closed) ≡ false
-64_components = refl
+the_most_components : has TooMany (sequence (optionals_of most_components boolean) closed) ≡ false
+the_most_components = refl
 
-65_components : has TooMany (sequence (optionals_of 65 boolean) closed) ≡ true
-65_components = refl
+one_component_more : has TooMany (sequence (optionals_of (most_components + 1) boolean) closed) ≡ true
+one_component_more = refl
 
-64_additions : has TooMany (sequence no_fields (marked (optionals_of 64 boolean))) ≡ false
-64_additions = refl
+the_most_additions : has TooMany (sequence no_fields (marked (optionals_of most_additions boolean))) ≡ false
+the_most_additions = refl
 
-65_additions : has TooMany (sequence no_fields (marked (optionals_of 65 boolean))) ≡ true
-65_additions = refl
+one_addition_more : has TooMany (sequence no_fields (marked (optionals_of (most_additions + 1) boolean))) ≡ true
+one_addition_more = refl
 
--- 60 in the root and 3 additions
-63_alternatives : has TooMany (choice (alternatives_of 60 null) (marked_choice (alternatives_of 3 null))) ≡ false
-63_alternatives = refl
+-- all but 3 in the root, and 3 additions
+the_most_alternatives : has TooMany
+    (choice (alternatives_of (most_alternatives - 3) null) (marked_choice (alternatives_of 3 null))) ≡ false
+the_most_alternatives = refl
 
--- 60 in the root and 4 additions
-64_alternatives : has TooMany (choice (alternatives_of 60 null) (marked_choice (alternatives_of 4 null))) ≡ true
-64_alternatives = refl
+one_alternative_more : has TooMany
+    (choice (alternatives_of (most_alternatives - 3) null) (marked_choice (alternatives_of 4 null))) ≡ true
+one_alternative_more = refl
 
-256_items : has TooMany (enumerated (labels_from 0 256) closed_labels) ≡ false
-256_items = refl
+the_most_items : has TooMany (enumerated (labels_from 0 most_items) closed_labels) ≡ false
+the_most_items = refl
 
-257_items : has TooMany (enumerated (labels_from 0 257) closed_labels) ≡ true
-257_items = refl
+one_item_more : has TooMany (enumerated (labels_from 0 (most_items + 1)) closed_labels) ≡ true
+one_item_more = refl
 
-256_items_with_64_additions : has TooMany (enumerated (labels_from 0 192) (marked_labels (labels_from 192 64))) ≡ false
-256_items_with_64_additions = refl
+the_most_items_and_additions : has TooMany
+    (enumerated (labels_from 0 (most_items - most_item_additions))
+    (marked_labels (labels_from (most_items - most_item_additions) most_item_additions))) ≡ false
+the_most_items_and_additions = refl
 
-65_additional_items : has TooMany (enumerated (labels_from 0 1) (marked_labels (labels_from 1 65))) ≡ true
-65_additional_items = refl
+one_additional_item_more : has TooMany
+    (enumerated (labels_from 0 1) (marked_labels (labels_from 1 (most_item_additions + 1)))) ≡ true
+one_additional_item_more = refl
 
 -- 1 + 2 * (1 + 64 * 65) + (1 + 25 * 65) + 51
 10000_nodes : has TooMany (large_type 50) ≡ false

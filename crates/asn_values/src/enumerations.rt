@@ -9,7 +9,7 @@ ghost use Rattle.asn_values.specs.Profile.{duplicate_name, bad_enumeration, too_
 ghost use Rattle.asn_values.specs.View.{more_labels_of, labels_seen, numbers_seen, enumerated_seen};
 
 use crate::names;
-use crate::profile::{MAX_ADDITIONS, MAX_ITEMS};
+use crate::profile::{MAX_ITEM_ADDITIONS, MAX_ITEMS};
 use crate::tables::is_number_twice;
 use crate::types::Item;
 use std::alloc::Global;
@@ -56,7 +56,7 @@ pub(crate) fn is_too_many(root: &[Item], ext: &Option<Vec<Item>>) -> bool
     ensures { result ≡ too_many_here (enumerated_seen root.now ext.now) }
 {
     let added = additions(ext).len();
-    MAX_ADDITIONS < added || MAX_ITEMS - added < root.len()
+    MAX_ITEM_ADDITIONS < added || MAX_ITEMS - added < root.len()
 }
 
 /// Whether an item has this index, the items counted from 0 as they are written, the additions last (X.680,

@@ -1,6 +1,6 @@
 //! The numbers of the profile, each once: its integers, its limits of lengths and types, and the blocks of X.691.
 ghost use Rattle.std.specs.Prelude.{◌≡◌, ◌+ℤ◌, pos};
-ghost use Rattle.asn_values.specs.Fits.{lowest_integer, highest_integer, max_len};
+ghost use Rattle.asn_values.specs.Fits.{lowest_integer, highest_integer, offset_of_zero, integer_count, max_len};
 ghost use Rattle.asn_values.specs.Profile as limits;
 
 /// The lowest integer of the profile, -2^63.
@@ -25,11 +25,14 @@ pub const MAX_SIZE_BOUND: u32 = 65_535;
 /// The most components of a SEQUENCE before its extension marker.
 pub const MAX_COMPONENTS: usize = 64;
 
-/// The most extension additions of a SEQUENCE, and of an ENUMERATED.
+/// The most extension additions of a SEQUENCE.
 pub const MAX_ADDITIONS: usize = 64;
 
 /// The most alternatives of a CHOICE, those of the root and the additions together.
 pub const MAX_ALTERNATIVES: usize = 63;
+
+/// The most extension additions of an ENUMERATED.
+pub const MAX_ITEM_ADDITIONS: usize = 64;
 
 /// The most items of an ENUMERATED, those of the root and the additions together.
 pub const MAX_ITEMS: usize = 256;
@@ -51,11 +54,14 @@ pub fn numbers_are_those_of_the_definitions()
     ensures lowest { LOWEST_INTEGER ≡ lowest_integer }
     ensures highest { HIGHEST_INTEGER ≡ highest_integer }
     ensures integers { lowest_integer +ℤ pos INTEGER_COUNT ≡ highest_integer +ℤ pos 1 }
+    ensures count { INTEGER_COUNT ≡ integer_count }
     ensures zero { lowest_integer +ℤ pos OFFSET_OF_ZERO ≡ pos 0 }
+    ensures offset { OFFSET_OF_ZERO ≡ offset_of_zero }
     ensures lengths { MAX_LEN ≡ max_len }
     ensures sizes { MAX_SIZE_BOUND ≡ limits.largest_size_bound }
     ensures components { MAX_COMPONENTS ≡ limits.most_components }
     ensures additions { MAX_ADDITIONS ≡ limits.most_additions }
+    ensures item_additions { MAX_ITEM_ADDITIONS ≡ limits.most_item_additions }
     ensures alternatives { MAX_ALTERNATIVES ≡ limits.most_alternatives }
     ensures items { MAX_ITEMS ≡ limits.most_items }
     ensures levels { MAX_LEVELS ≡ limits.most_levels }

@@ -8,7 +8,7 @@ use mir.Val.{to_z, of_z}
 use Rattle.std.specs.List.{list_any}
 use Rattle.std.specs.Int.RustNames.{int_lt}
 use Rattle.asn_values.specs.declared.types.Item.{Item}
-use Rattle.asn_values.specs.Profile.{InProfile, BadEnumeration, TooMany, is_not_32_bits, too_many_here, most_items, most_additions, most_nodes}
+use Rattle.asn_values.specs.Profile.{InProfile, BadEnumeration, TooMany, is_not_32_bits, too_many_here, most_items, most_item_additions, most_nodes}
 use Rattle.asn_values.specs.Measures.{nodes}
 use Rattle.asn_values.specs.Shape.{Label, MoreLabels, enumerated, marked_labels, more_labels}
 use Rattle.asn_values.specs.View.{label_of}
@@ -81,4 +81,4 @@ added_number root items p d good l h =
 pub few_items : (root : List Label) (more : MoreLabels) → InProfile (enumerated root more)
     → length (root ++ more_labels more) ≤ 256
 few_items root more good =
-    omega (arith, length-append root (more_labels more), ltb-false most_items (length root + length (more_labels more)) (left_false (nat_lt most_items (length root + length (more_labels more))) (nat_lt most_additions (length (more_labels more))) (left_false (too_many_here (enumerated root more)) (nat_lt most_nodes (nodes (enumerated root more))) (good TooMany))))
+    omega (arith, length-append root (more_labels more), ltb-false most_items (length root + length (more_labels more)) (left_false (nat_lt most_items (length root + length (more_labels more))) (nat_lt most_item_additions (length (more_labels more))) (left_false (too_many_here (enumerated root more)) (nat_lt most_nodes (nodes (enumerated root more))) (good TooMany))))

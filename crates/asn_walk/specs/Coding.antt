@@ -3,6 +3,7 @@
 use Rattle.std.specs.Prelude.{◌≡◌, ◌+◌, ◌^◌, ◌<◌, ◌≤◌, ◌⊎◌, ℕ, zero, suc, Bool, true, false, List, [], ◌∷◌, ◌++◌, length, Option, Some, None, ⊤, is_some}
 use mathlib.Core.Logic.{inl, inr}
 use Rattle.asn_values.specs.Datum.{Datum, components, components_of, elements, elements_of, alternative}
+use Rattle.asn_values.specs.Profile.{most_alternatives}
 use Rattle.asn_values.specs.Shape.{SizeRange, Shape, Fields, no_fields, field, MoreFields, closed, marked, more_fields, demands, Alternatives, no_alternatives, one_of, MoreAlternatives, closed_choice, marked_choice, more_alternatives, count}
 use Rattle.asn_values.specs.View.{datum_of}
 use Rattle.asn_bits.specs.Numbers.{bits}
@@ -134,8 +135,8 @@ IsIndexWithin root (Some more) (inr n) = n < more
 
 -- there are few of both
 abbrev pub AreFew : ℕ → Option ℕ → Type 0
-AreFew root None = root ≤ 63
-AreFew root (Some more) = root + more ≤ 63
+AreFew root None = root ≤ most_alternatives
+AreFew root (Some more) = root + more ≤ most_alternatives
 
 abbrev pub IndexOf : Coding → ℕ → Option ℕ → ℕ ⊎ ℕ → List Chunk → Type 0
 IndexOf c root more = SpelledBy (IsIndexWithin root more) (λ i. ones (c.index root (is_some more) i))

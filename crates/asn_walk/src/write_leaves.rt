@@ -2,7 +2,7 @@
 ghost use Rattle.std.specs.Prelude.{◌≡◌, ◌≤◌, ◌<◌, ◌-◌, ◌^◌, ◌++◌, List, Some, IfOk, OnOk};
 ghost use Rattle.asn_values.specs.Datum.{number};
 ghost use Rattle.asn_values.specs.Fits.{FitsLength, FitsNumber};
-ghost use Rattle.asn_values.specs.Profile.{InProfile};
+ghost use Rattle.asn_values.specs.Profile.{InProfile, most_alternatives};
 ghost use Rattle.asn_values.specs.Shape.{integer};
 ghost use Rattle.asn_values.specs.View.{shape_of, range_of, size_range_of};
 ghost use Rattle.asn_bits.specs.Numbers.{bits};
@@ -82,15 +82,15 @@ pub trait WriteLeaves {
             (WritesUnits S.pushes rules sink.old sink.new (rules.addition_bitmap (bits count bitmap))) };
 
     /// Writes which alternative of a CHOICE is chosen, of `root` in the root and of the extension additions, where it
-    /// is `marked`. There are at most 63 in all.
+    /// is `marked`. There are no more in all than the profile allows.
     fn write_index<S: Sink>(
         root: usize,
         marked: bool,
         index: Index,
         sink: &mut S,
     ) -> Result<(), S::Fault>
-        requires few { root ≤ 63 }
-        requires within { IsIndexWithin root (Some (63 - root)) (index_seen index) }
+        requires few { root ≤ most_alternatives }
+        requires within { IsIndexWithin root (Some (most_alternatives - root)) (index_seen index) }
         ensures { OnOk result
             (WritesUnits S.pushes rules sink.old sink.new (rules.index root marked (index_seen index))) };
 

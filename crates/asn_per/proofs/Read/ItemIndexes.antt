@@ -9,7 +9,7 @@ use mir.Syntax.{w64}
 use mir.Val.{to_z, of_z}
 use Rattle.asn_values.specs.declared.types.Item.{Item}
 use Rattle.asn_values.specs.Shape.{Label, MoreLabels, enumerated, more_labels}
-use Rattle.asn_values.specs.Profile.{InProfile, EmptyRange, BadEnumeration, TooMany, is_not_32_bits, too_many_here, most_items, most_additions, most_nodes}
+use Rattle.asn_values.specs.Profile.{InProfile, EmptyRange, BadEnumeration, TooMany, is_not_32_bits, too_many_here, most_items, most_item_additions, most_nodes}
 use Rattle.asn_values.specs.Measures.{nodes}
 use Rattle.asn_values.specs.View.{label_of}
 use Rattle.asn_values.proofs.Parts.{left_false}
@@ -29,7 +29,7 @@ root_items root more good =
     let w = good_items root more (good BadEnumeration) in
     record {
       some = some root (good EmptyRange);
-      few = omega (arith, ltb-false most_items (length root + length (more_labels more)) (left_false (nat_lt most_items (length root + length (more_labels more))) (nat_lt most_additions (length (more_labels more))) (left_false (too_many_here (enumerated root more)) (nat_lt most_nodes (nodes (enumerated root more))) (good TooMany))));
+      few = omega (arith, ltb-false most_items (length root + length (more_labels more)) (left_false (nat_lt most_items (length root + length (more_labels more))) (nat_lt most_item_additions (length (more_labels more))) (left_false (too_many_here (enumerated root more)) (nat_lt most_nodes (nodes (enumerated root more))) (good TooMany))));
       once = w.root_once;
       narrow = first root w.bits_32;
     }

@@ -5,7 +5,7 @@ use Rattle.std.proofs.lemmas.Bool.{ltb-true, ltb-false, lt-ltb, le-ltb}
 use Rattle.asn_values.specs.Datum.{Datum, item}
 use Rattle.asn_values.specs.Shape.{Label, MoreLabels, closed_labels, marked_labels, more_labels, enumerated}
 use Rattle.asn_values.specs.Fits.{Fits}
-use Rattle.asn_values.specs.Profile.{InProfile, BadEnumeration, TooMany, int_eq, has_twice, too_many_here, most_nodes, most_items, most_additions}
+use Rattle.asn_values.specs.Profile.{InProfile, BadEnumeration, TooMany, int_eq, has_twice, too_many_here, most_nodes, most_items, most_item_additions}
 use Rattle.asn_values.specs.Measures.{nodes}
 use Rattle.asn_values.proofs.Parts.{left_false, right_false}
 use Rattle.asn_rules.specs.Chunks.{Chunk, ones}
@@ -105,7 +105,7 @@ root_once root more good = left_false _ _ (good BadEnumeration)
 pub few_additions : (root : List Label) (more : MoreLabels) → InProfile (enumerated root more) → length (more_labels more) ≤ 64
 few_additions root more good =
     let here : too_many_here (enumerated root more) ≡ false = left_false (too_many_here (enumerated root more)) (nat_lt most_nodes (nodes (enumerated root more))) (good TooMany) in
-    ltb-false most_additions (length (more_labels more)) (right_false (nat_lt most_items (length root + length (more_labels more))) (nat_lt most_additions (length (more_labels more))) here)
+    ltb-false most_item_additions (length (more_labels more)) (right_false (nat_lt most_items (length root + length (more_labels more))) (nat_lt most_item_additions (length (more_labels more))) here)
 
 -- ENUMERATED
 pub items_compose : (root : List Label) (more : MoreLabels) → InProfile (enumerated root more) → Same (Items root more) (Values (enumerated root more))

@@ -1,5 +1,5 @@
 //! Items of ENUMERATED, each with its number (X.680, "enumerated type").
-use crate::limits::{MOST_ADDITIONS, MOST_ITEMS, within};
+use crate::limits::{MOST_ITEM_ADDITIONS, MOST_ITEMS, within};
 use crate::membering::after_exception;
 use crate::numbers::{Scope, Values};
 use asn_published_read::refusal::{Refusal, Why, refused};
@@ -224,12 +224,12 @@ pub fn items_of<'t>(
         renumbered: false,
     };
     put_apart(all.as_slice(), &mut items)?;
-    if let Some(item) = items.additions.get(MOST_ADDITIONS) {
+    if let Some(item) = items.additions.get(MOST_ITEM_ADDITIONS) {
         within(
             item.line,
             "additional items",
             items.additions.len(),
-            MOST_ADDITIONS,
+            MOST_ITEM_ADDITIONS,
         )?;
     }
     check_range(items.root.as_slice())?;

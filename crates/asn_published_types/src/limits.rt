@@ -4,24 +4,31 @@ ghost use Rattle.asn_published_read.specs.declared.refusal.Refusal.TheVariants a
 ghost use Rattle.asn_published_read.specs.declared.refusal.Why.TheVariants as why;
 
 use asn_published_read::refusal::{Refusal, Why, refused};
+use asn_values::profile::{
+    MAX_ADDITIONS, MAX_ALTERNATIVES, MAX_COMPONENTS, MAX_ITEM_ADDITIONS, MAX_ITEMS, MAX_LEVELS,
+    MAX_TYPES,
+};
 
 /// How many levels a type may have.
-pub const MOST_LEVELS: usize = 32;
+pub const MOST_LEVELS: usize = MAX_LEVELS as usize;
 
 /// How many nodes a type may have.
-pub const MOST_NODES: usize = 10000;
+pub const MOST_NODES: usize = MAX_TYPES as usize;
 
 /// How many components a SEQUENCE may have before its extension marker.
-pub const MOST_COMPONENTS: usize = 64;
+pub const MOST_COMPONENTS: usize = MAX_COMPONENTS;
 
-/// How many extension additions a SEQUENCE or an ENUMERATED may have.
-pub const MOST_ADDITIONS: usize = 64;
+/// How many extension additions a SEQUENCE may have.
+pub const MOST_ADDITIONS: usize = MAX_ADDITIONS;
+
+/// How many extension additions an ENUMERATED may have.
+pub const MOST_ITEM_ADDITIONS: usize = MAX_ITEM_ADDITIONS;
 
 /// How many alternatives a CHOICE may have.
-pub const MOST_ALTERNATIVES: usize = 63;
+pub const MOST_ALTERNATIVES: usize = MAX_ALTERNATIVES;
 
 /// How many items an ENUMERATED may have.
-pub(crate) const MOST_ITEMS: usize = 256;
+pub(crate) const MOST_ITEMS: usize = MAX_ITEMS;
 
 /// How many nodes are written of all types at least, before others are refused.
 const MOST_OF_ALL: usize = 500000;

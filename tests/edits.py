@@ -31,7 +31,9 @@ tests/edits/tried has for each crate a sum of what its edits were tried over: th
 definitions below it, and the logic of the kit. A run over a crate notes it there where every edit was refused, and
 tests/edits/alone.txt says which edits had to be tried alone, and why. --due tries the crates whose sum is not noted, and
 of the others those whose turn it is by the number of commits, so that each is tried again within four merges. The turns
-take about as long as one another, by estimate (`TURNS`).
+take about as long as one another, by estimate (`TURNS`). A change of a definition on which all stands makes the edits of
+every crate due, more than a merge has the time for: so --due tries no more than `MOST`, those that are due before those
+whose turn it is, and tells which crates it leaves. What is left is not noted, and so stays due.
 """
 import functools
 import os
@@ -57,6 +59,8 @@ TURNS = (
     "asn_oer asn_rules asn_newer asn_walk asn_tool asn_first tulvorn uses_tulvorn".split(),
     "asn_walk_read asn_per asn_walk_feed asn_window".split(),
 )
+# how many edits one merge has the time for, beside the proofs of all crates
+MOST = 600
 # the seconds that a check of edits may take, and three times as many beside proofs, which come first
 LIMIT = 1200
 # whether nothing that earlier checks kept is taken
@@ -550,6 +554,31 @@ def has_turn(name, number):
     return turn == number % (len(TURNS) + 1)
 
 
+def in_time(crates, edits, number):
+    """Those of the crates whose edits a merge has the time for: the first one is another at each number of commits."""
+    first = number % max(len(crates), 1)
+    taken, count = [], 0
+    for crate in crates[first:] + crates[:first]:
+        if not taken or count + len(edits[crate.name]) <= MOST:
+            taken.append(crate)
+            count += len(edits[crate.name])
+    return taken
+
+
+def due_of(chosen, edits, sums):
+    """The crates that --due tries, those that it leaves to their turn, and those that are due and have to wait."""
+    known, number = noted(), number_of_commits()
+    changed = [it for it in chosen if known.get(it.name) != sums[it.name]]
+    in_turn = [it for it in chosen if it not in changed and has_turn(it.name, number)]
+    tried = in_time(changed, edits, number)
+    for crate in in_turn:
+        if sum(len(edits[it.name]) for it in [*tried, crate]) <= MOST:
+            tried.append(crate)
+    waiting = [it.name for it in changed if it not in tried]
+    left = [it.name for it in chosen if it not in tried and it.name not in waiting]
+    return [it for it in chosen if it in tried], left, waiting
+
+
 def lanes():
     """How many checks go side by side: one a processor, and no more than memory holds."""
     return max(1, min(rt.processors(), int(rt.free() // 4_500_000_000)))
@@ -616,7 +645,7 @@ def try_all(chosen, edits, is_beside=False):
     return results
 
 
-def summary(results, edits, left):
+def summary(results, edits, left, waiting):
     tried = sum(len(it.edits) for it in results)
     bad = {label: why for it in results for label, why in it.bad.items()}
     alone = sum(len(it.alone) for it in results)
@@ -630,6 +659,8 @@ def summary(results, edits, left):
         say(f"refused by a name or a limit alone, which says little of a contract, so that others are wanted in their place: {' '.join(weak)}")
     if left:
         say(f"tried before as they stand, and left to their turn: {' '.join(left)}")
+    if waiting:
+        say(f"changed, and left to the next merge, since one has the time for {MOST} edits: {' '.join(waiting)}")
     say(f"{tried - len(bad)} passed, {len(bad)} failed")
     return 1 if bad else 0
 
@@ -738,15 +769,13 @@ def main(words):
                 say(f"{edit.label}: {edit.fault or ', '.join(name for name, _ in edit.functions) or 'more than bodies of functions'}")
         return 0
     sums = {it.name: sum_of(it, edits[it.name]) for it in crates if it.name in edits}
-    left = []
+    left, waiting = [], []
     if "--due" in words:
-        known, number = noted(), number_of_commits()
-        due = [it for it in chosen if known.get(it.name) != sums[it.name] or has_turn(it.name, number)]
-        left, chosen = [it.name for it in chosen if it not in due], due
+        chosen, left, waiting = due_of(chosen, edits, sums)
     results = try_all(chosen, edits, "--beside" in words)
     if "--due" not in words and not single and not ANEW:
         note(results, sums)
-    return summary(results, edits, left)
+    return summary(results, edits, left, waiting)
 
 
 if __name__ == "__main__":

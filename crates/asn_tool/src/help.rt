@@ -136,9 +136,10 @@ writes `ok 1` and `! refused at bit 8: padding`.
 
 With blanks, 0x and a comment, where m.asn has that module:
   echo '0xa0  # the number 5' | asn_tool check --type T --rules per --module m.asn --in hex
-writes `ok 1`. With --stats standard error has, behind the answers, how many octets the messages have, how many messages
+writes `ok 1`. With --stats standard error has, after the answers, how many octets the messages have, how many messages
 there are of each alternative of a CHOICE, and how many are refused for each reason, a line each, as `octets: 1`,
-`alternative cam: 12` and `refused padding: 1`.";
+`alternative cam: 12` and `refused padding: 1`. Until then, where standard error is a terminal, a line tells there how many
+messages are answered so far, and how many that is a second.";
 
 /// Of `encode`.
 pub static ENCODE: &str = "\

@@ -19,6 +19,7 @@ mod look;
 mod looking;
 mod messages;
 mod newer_json;
+mod options;
 mod paths;
 mod piped;
 mod program;

@@ -4,7 +4,7 @@ use Rattle.clap.specs.Words.{rule_of}
 use Rattle.clap.specs.declared.builder.Arg.{Arg}
 use Rattle.clap.specs.declared.builder.ValueParser.TheVariants.{Signed}
 use Rattle.asn_tool.specs.Command.{option_rule}
-use Rattle.asn_tool.proofs.words.number_option.Goals as goal
+use Rattle.asn_tool.proofs.options.number_option.Goals as goal
 
 pub returns-clause-rule : goal.returns-clause-rule
 returns-clause-rule c =

@@ -2,7 +2,7 @@ use Rattle.std.proofs.Common.{rules, ap, codes, Some, ◌≡◌, ◌∙◌}
 use Rattle.clap.specs.Words.{rule_of}
 use Rattle.clap.specs.declared.builder.Arg.{Arg}
 use Rattle.asn_tool.specs.Command.{TakesNames, given_names, names_rule}
-use Rattle.asn_tool.proofs.words.given_option.Goals as goal
+use Rattle.asn_tool.proofs.options.given_option.Goals as goal
 
 pub returns-clause-rule : goal.returns-clause-rule
 returns-clause-rule c =

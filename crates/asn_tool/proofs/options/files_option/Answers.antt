@@ -3,7 +3,7 @@ use Rattle.clap.specs.Words.{rule_of}
 use Rattle.clap.specs.declared.builder.Arg.{Arg}
 use Rattle.asn_tool.specs.Command.{option_rule, some_values}
 use Rattle.asn_tool.proofs.Exactly.{exactly}
-use Rattle.asn_tool.proofs.words.files_option.Goals as goal
+use Rattle.asn_tool.proofs.options.files_option.Goals as goal
 
 pub returns-clause-rule : goal.returns-clause-rule
 returns-clause-rule c =

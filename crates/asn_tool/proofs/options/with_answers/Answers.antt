@@ -3,7 +3,7 @@ use Rattle.std.proofs.lemmas.Result.{IfOk-weaker}
 use Rattle.clap.specs.Words.{app_of, with_rule}
 use Rattle.clap.specs.declared.builder.Command.TheViews.{out-Command}
 use Rattle.asn_tool.specs.Command.{version_rules, with_rules}
-use Rattle.asn_tool.proofs.words.with_answers.Goals as goal
+use Rattle.asn_tool.proofs.options.with_answers.Goals as goal
 
 pub returns-clause-shape : goal.returns-clause-shape
 returns-clause-shape c =

@@ -2,7 +2,7 @@ use Rattle.std.proofs.Common.{ap, ap₂, false, ◌≡◌, ◌∙◌, ◌||◌}
 use Rattle.std.proofs.lemmas.Result.{IfOk-weaker}
 use Rattle.clap.specs.Words.{app_of, with_rule}
 use Rattle.clap.specs.declared.builder.Command.TheViews.{out-Command}
-use Rattle.asn_tool.proofs.words.with_versions.Goals as goal
+use Rattle.asn_tool.proofs.options.with_versions.Goals as goal
 
 pub returns-clause-shape : goal.returns-clause-shape
 returns-clause-shape c =

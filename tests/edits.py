@@ -60,7 +60,7 @@ TURNS = (
     "asn_walk_read asn_per asn_walk_feed asn_window".split(),
 )
 # how many edits one merge has the time for, beside the proofs of all crates
-MOST = 600
+MOST = 450
 # the seconds that a check of edits may take, and three times as many beside proofs, which come first
 LIMIT = 1200
 # whether nothing that earlier checks kept is taken

@@ -1,6 +1,7 @@
 pub mod Datum
 pub mod Shape
 pub mod Fits
+pub mod Older
 pub mod Received
 pub mod Measures
 pub mod Profile

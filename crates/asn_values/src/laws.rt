@@ -1,8 +1,9 @@
 //! What holds of the definitions alone.
 ghost use Rattle.asn_values.specs.Datum.{Datum};
 ghost use Rattle.asn_values.specs.Defaults.{DefaultsAreJudged};
-ghost use Rattle.asn_values.specs.Fits.{Limits, AreWider, FitsUnder};
-ghost use Rattle.asn_values.specs.Profile.{InProfileUnder};
+ghost use Rattle.asn_values.specs.Fits.{Limits, AreWider, limits, FitsUnder, Fits};
+ghost use Rattle.asn_values.specs.Older.{older_limits};
+ghost use Rattle.asn_values.specs.Profile.{InProfileUnder, InProfile};
 ghost use Rattle.asn_values.specs.Shape.{Shape};
 
 /// What the test of a DEFAULT lets pass are the values of types without an extension marker that
@@ -20,4 +21,12 @@ pub fn values_fit_wider_limits()
 /// cite.
 pub fn types_keep_under_wider_limits()
     ensures { (l m : Limits) → AreWider l m → (t : Shape) → InProfileUnder l t → InProfileUnder m t }
+{}
+
+/// No limit of the profile is below that of the one before it. So each type of that profile is one of this, and each
+/// value of it is a value of it here. The call does nothing: its clauses are what proofs cite.
+pub fn older_types_and_values_stay()
+    ensures wider { AreWider older_limits limits }
+    ensures types { (t : Shape) → InProfileUnder older_limits t → InProfile t }
+    ensures values { (t : Shape) (v : Datum) → FitsUnder older_limits t v → Fits t v }
 {}

@@ -44,7 +44,7 @@ pub record AreWider (l m : Limits) : Type 0 where
 
 -- those of this profile
 abbrev pub limits : Limits
-limits = record { highest = highest_integer; alternatives = 63; item_additions = 64 }
+limits = record { highest = highest_integer; alternatives = 200; item_additions = 200 }
 
 -- ---- numbers and lengths
 

@@ -29,10 +29,10 @@ pub const MAX_COMPONENTS: usize = 64;
 pub const MAX_ADDITIONS: usize = 64;
 
 /// The most alternatives of a CHOICE, those of the root and the additions together.
-pub const MAX_ALTERNATIVES: usize = 63;
+pub const MAX_ALTERNATIVES: usize = 200;
 
 /// The most extension additions of an ENUMERATED.
-pub const MAX_ITEM_ADDITIONS: usize = 64;
+pub const MAX_ITEM_ADDITIONS: usize = 200;
 
 /// The most items of an ENUMERATED, those of the root and the additions together.
 pub const MAX_ITEMS: usize = 256;

@@ -1,14 +1,8 @@
 //! How many bits values have in PER (X.691).
 
-use crate::extent::{Extent, octets_in, width_of};
+use crate::extent::{Extent, integer_octets, octets_above, width_above, width_of};
 use asn_values::profile::HIGHEST_INTEGER;
 use asn_values::{Alt, AsnType, Bounds, Field, Need, Size, TextKind};
-
-/// The bits of an INTEGER of 64 signed bits without bounds: an octet of length, and at most eight.
-const UNBOUNDED: Extent = Extent {
-    least: 16,
-    greatest: Some(72),
-};
 
 /// How many bits the values of the type have in PER, without what fills up a complete encoding.
 #[cycle(bits)]
@@ -74,22 +68,23 @@ fn marked(known: Extent, index: u64, is_closed: bool, added: Extent) -> Extent {
 fn number_bits(bounds: &Bounds) -> Extent {
     let known = match (bounds.low, bounds.high) {
         (Some(low), Some(high)) => {
-            let span = u64::try_from(high.saturating_sub(low)).unwrap_or(u64::MAX);
-            Extent::fixed(width_of(span))
+            Extent::fixed(width_above(low, high))
         }
-        (Some(low), None) => {
-            let span = u64::try_from(HIGHEST_INTEGER.saturating_sub(low)).unwrap_or(u64::MAX);
-            Extent {
-                least: 16,
-                greatest: Some(octets_in(span).saturating_mul(8).saturating_add(8)),
-            }
-        }
-        (None, _) => UNBOUNDED,
+        (Some(low), None) => counted_bits(octets_above(low, HIGHEST_INTEGER)),
+        (None, _) => counted_bits(integer_octets()),
     };
     if bounds.ext {
-        return Extent::fixed(1).and(known.or(UNBOUNDED));
+        return Extent::fixed(1).and(known.or(counted_bits(integer_octets())));
     }
     known
+}
+
+/// Of a number in at most this many octets: an octet of length, and one at least.
+fn counted_bits(most: u64) -> Extent {
+    Extent {
+        least: 16,
+        greatest: Some(most.saturating_mul(8).saturating_add(8)),
+    }
 }
 
 /// Of as many items as the size says, each of which has these bits, with what tells their count.

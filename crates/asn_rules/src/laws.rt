@@ -8,6 +8,7 @@ ghost use Rattle.asn_rules.specs.Chunks.{Chunk};
 ghost use Rattle.asn_rules.specs.CodecLaws.{DecodesTheEncoded, EncodesTheDecoded, OnlyMemoryIsWanting, EqualExactly, TellsTheRest, RestFollowsOneFront, TellsTheCut, DecodersAgree};
 ghost use Rattle.asn_rules.specs.Laws.{AreOctets, RulesLaws, WholesTell, LiveIsClosed, BeginningsAreLive, BeginningsAreNotRefused, OneAnswer};
 ghost use Rattle.asn_rules.specs.Live.{Fielding};
+ghost use Rattle.asn_rules.specs.Older.{StaysEncoding, EncodesAsBefore, OnlyMemoryIsWantingAsBefore, DecodesAsBefore};
 ghost use Rattle.asn_rules.specs.Pieces.{KeepsAllOctets, AnswersAllOctets, SettlesLaterAnswers, CutsDoNotMatter};
 ghost use Rattle.asn_rules.specs.Reading.{RulesTell};
 
@@ -85,6 +86,21 @@ pub fn session_laws<R: Rules>()
     ensures answers_all { AnswersAllOctets R.ruling R.took }
     ensures settles_later { SettlesLaterAnswers R.ruling R.took }
     ensures cuts_do_not_matter { CutsDoNotMatter R.ruling R.took }
+{
+    R::keep_laws();
+}
+
+/// What was the encoding of a value under the limits of the profile before this one is so still, and encoders and
+/// decoders keep it. The call does nothing: its clauses are what proofs cite.
+///
+/// - `stays`: such octets are the encoding of the value.
+/// - `encodes`: an encoder gives these octets for it. `only_memory`: an encoder that gives none had no memory.
+/// - `decodes`: to these octets a decoder answers that value, or `Memory`.
+pub fn older_encodings_stay<R: Rules>()
+    ensures stays { StaysEncoding R.ruling }
+    ensures encodes { EncodesAsBefore R.ruling }
+    ensures only_memory { OnlyMemoryIsWantingAsBefore R.ruling }
+    ensures decodes { DecodesAsBefore R.ruling }
 {
     R::keep_laws();
 }

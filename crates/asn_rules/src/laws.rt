@@ -96,11 +96,11 @@ pub fn session_laws<R: Rules>()
 /// - `stays`: such octets are the encoding of the value.
 /// - `encodes`: an encoder gives these octets for it. `only_memory`: an encoder that gives none had no memory.
 /// - `decodes`: to these octets a decoder answers that value, or `Memory`.
-pub fn older_encodings_stay<R: Rules>()
-    ensures stays { StaysEncoding R.ruling }
-    ensures encodes { EncodesAsBefore R.ruling }
-    ensures only_memory { OnlyMemoryIsWantingAsBefore R.ruling }
-    ensures decodes { DecodesAsBefore R.ruling }
+pub fn older_encodings_stay<E: Rules>()
+    ensures stays { StaysEncoding E.ruling }
+    ensures encodes { EncodesAsBefore E.ruling }
+    ensures only_memory { OnlyMemoryIsWantingAsBefore E.ruling }
+    ensures decodes { DecodesAsBefore E.ruling }
 {
-    R::keep_laws();
+    E::keep_laws();
 }

@@ -11,6 +11,10 @@ program, is short rather than quick, and judges nothing: it encodes values that 
 """
 import json, re, sys
 
+# the limits of the profile: its highest integer, the alternatives of a CHOICE, the extension additions of an ENUMERATED.
+# The spellings below do not know them: what is past them is not encoded
+HIGHEST, ALTERNATIVES, ITEM_ADDITIONS = (1 << 63) - 1, 63, 64
+
 TOKEN = re.compile(r'--.*?(?:--|$)|::=|\.\.\.|\.\.|[{}(),]|-?[0-9]+|[A-Za-z][A-Za-z0-9]*(?:-[A-Za-z0-9]+)*', re.M)
 
 
@@ -189,8 +193,8 @@ class Per:
         return self.general([format(o, '08b') for o in self.whole(ty, value)])
 
     def small(self, n):
-        assert n < 64
-        return format(n, '07b')
+        """A normally small number: in 6 bits, or after a 1 its fewest octets and their count."""
+        return format(n, '07b') if n < 64 else '1' + self.general([format(o, '08b') for o in unsigned(n)])
 
     def bits(self, ty, v):
         kind = ty['kind']
@@ -203,6 +207,7 @@ class Per:
         if kind == 'INTEGER':
             low, high, mark = ty['range']
             inside = (low is None or low <= v) and (high is None or v <= high)
+            assert -1 << 63 <= v <= HIGHEST
             front = '' if not mark else '0' if inside else '1'
             if not inside or low is None:
                 return front + self.general([format(o, '08b') for o in signed(v)])
@@ -211,6 +216,7 @@ class Per:
             return front + self.number(v - low, high - low + 1)
         if kind == 'ENUMERATED':
             every = numbered(ty['root'] + (ty['more'] or []))
+            assert len(ty['more'] or []) <= ITEM_ADDITIONS
             root = sorted(every[:len(ty['root'])], key=lambda item: item[1])
             names = [name for name, _ in root]
             front = '' if ty['more'] is None else '0' if v in names else '1'
@@ -232,6 +238,7 @@ class Per:
         if kind == 'CHOICE':
             (name, inner), = v.items()
             names = [alternative[0] for alternative in ty['root']]
+            assert len(names) + len(ty['more'] or []) <= ALTERNATIVES
             if name in names:
                 i = names.index(name)
                 front = '' if ty['more'] is None else '0'
@@ -263,6 +270,17 @@ class Oer:
     def length(n):
         return bytes([n]) if n < 128 else bytes([0x80 + len(unsigned(n))]) + unsigned(n)
 
+    @staticmethod
+    def tag(n):
+        """A context-specific tag: in the 6 low bits, or after six ones there in base 128."""
+        if n < 63:
+            return bytes([0x80 + n])
+        digits = [n % 128]
+        while n >= 128:
+            n //= 128
+            digits.append(0x80 + n % 128)
+        return bytes([0xbf] + digits[::-1])
+
     def counted(self, data):
         return self.length(len(data)) + data
 
@@ -285,6 +303,7 @@ class Oer:
             return b''
         if kind == 'INTEGER':
             low, high, mark = ty['range']
+            assert -1 << 63 <= v <= HIGHEST
             if mark:
                 low = high = None
             if low is not None and low >= 0:
@@ -298,6 +317,7 @@ class Oer:
             return self.counted(signed(v))
         if kind == 'ENUMERATED':
             n = dict(numbered(ty['root'] + (ty['more'] or [])))[v]
+            assert len(ty['more'] or []) <= ITEM_ADDITIONS
             return bytes([n]) if 0 <= n < 128 else bytes([0x80 + len(signed(n))]) + signed(n)
         if kind == 'BIT':
             low, high, mark = ty['size']
@@ -314,9 +334,10 @@ class Oer:
             return self.counted(unsigned(len(v))) + b''.join(self.whole(ty['of'], item) for item in v)
         if kind == 'CHOICE':
             (name, inner), = v.items()
-            tag = [alternative[0] for alternative in ty['root'] + (ty['more'] or [])].index(name)
-            assert tag < 63
-            front = bytes([0x80 + tag])
+            every = [alternative[0] for alternative in ty['root'] + (ty['more'] or [])]
+            assert len(every) <= ALTERNATIVES
+            tag = every.index(name)
+            front = self.tag(tag)
             if tag < len(ty['root']):
                 return front + self.whole(ty['root'][tag][1], inner)
             return front + self.counted(self.whole(ty['more'][tag - len(ty['root'])][1], inner))

@@ -1,7 +1,7 @@
 //! How the parts of a value are chosen: the least of them, the greatest, or as a seed says.
 ghost use Rattle.std.specs.Prelude.{◌≤◌, ◌<◌};
 
-use asn_values::profile::{HIGHEST_INTEGER, LOWEST_INTEGER};
+use asn_values::profile::{HIGHEST_INTEGER, INTEGER_COUNT, LOWEST_INTEGER};
 use asn_values::{Bounds, Size};
 
 /// How many items strings and lists may have beyond the least number of each, all together.
@@ -105,10 +105,28 @@ impl Choices {
         let low = bounds.low.unwrap_or(LOWEST_INTEGER);
         let high = bounds.high.unwrap_or(HIGHEST_INTEGER);
         if bounds.ext && self.next() % 4 == 0 {
-            return LOWEST_INTEGER.saturating_add(i128::from(self.next()));
+            return self.any_number();
         }
-        let span = u64::try_from(high.saturating_sub(low)).unwrap_or(0);
-        low.saturating_add(i128::from(self.pick(0, span)))
+        match u64::try_from(high.saturating_sub(low)) {
+            Ok(span) => low.saturating_add(i128::from(self.pick(0, span))),
+            Err(_) => self.far_number(low, high),
+        }
+    }
+
+    /// An integer of the profile, as near to the lowest in all of them as the next number of the sequence is to 0.
+    fn any_number(&mut self) -> i128 {
+        let part = u128::from(self.next()).saturating_mul(INTEGER_COUNT >> 32) >> 32;
+        LOWEST_INTEGER.saturating_add(i128::try_from(part).unwrap_or(0))
+    }
+
+    /// An integer between bounds that are further apart than 64 bits tell: one of those that are not, from one of both.
+    fn far_number(&mut self, low: i128, high: i128) -> i128 {
+        if self.coin() {
+            let left = u64::MAX - self.pick(0, u64::MAX);
+            high.saturating_sub(i128::from(left))
+        } else {
+            low.saturating_add(i128::from(self.pick(0, u64::MAX)))
+        }
     }
 
     /// A length, in items, for this size; more than its low bound only as far as there is room. Where an extension marker

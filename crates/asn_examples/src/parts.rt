@@ -3,7 +3,7 @@ ghost use Rattle.std.specs.Prelude.{◌≡◌, ◌≤◌, ◌<◌, ◌+◌, IfOk
 ghost use Rattle.std.specs.List.{AllByRecursion};
 ghost use Rattle.asn_values.specs.Fits.{Fits, FitsDemand};
 ghost use Rattle.asn_values.specs.Parts.{AreOfProfile, AreAllOfProfile};
-ghost use Rattle.asn_values.specs.Profile.{InProfile};
+ghost use Rattle.asn_values.specs.Profile.{InProfile, most_alternatives};
 ghost use Rattle.asn_values.specs.View.{shape_of, datum_of, part_of_field, fields_seen, alternatives_seen, entries_seen};
 ghost use Rattle.asn_examples.specs.Made.{AddsFitting, IsChosen};
 
@@ -129,7 +129,7 @@ fn chosen(
 ) -> Result<Value, AllocError>
     requires of_profile { AreAllOfProfile (alternatives_seen alternatives.now) }
     requires some { 0 < length alternatives.now }
-    requires few { first + length alternatives.now ≤ 63 }
+    requires few { first + length alternatives.now ≤ most_alternatives }
     ensures { IfOk result (λ v. IsChosen (alternatives_seen alternatives.now) first
         (length alternatives.now) (datum_of v)) }
 {

@@ -1,5 +1,7 @@
 //! How many units the encodings of the values of a type have, least and most.
 
+use asn_values::profile::HIGHEST_INTEGER;
+
 /// A least and a greatest number of units.
 #[derive(Clone, Copy, Debug, PartialEq, Eq)]
 pub struct Extent {
@@ -92,4 +94,20 @@ pub(crate) fn width_of(number: u64) -> u64 {
 /// The fewest octets that a number has, one at least.
 pub(crate) fn octets_in(number: u64) -> u64 {
     filled(width_of(number))
+}
+
+/// The fewest bits of an offset of an integer of the profile from another, none where it is below it.
+pub(crate) fn width_above(low: i128, high: i128) -> u64 {
+    let offset = u128::try_from(high.saturating_sub(low)).unwrap_or(0);
+    u64::from(128 - offset.leading_zeros())
+}
+
+/// The fewest octets of such an offset, one at least.
+pub(crate) fn octets_above(low: i128, high: i128) -> u64 {
+    filled(width_above(low, high))
+}
+
+/// The most octets that an integer of the profile has in two's complement.
+pub(crate) fn integer_octets() -> u64 {
+    filled(width_above(0, HIGHEST_INTEGER).saturating_add(1))
 }

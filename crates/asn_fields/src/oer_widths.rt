@@ -1,7 +1,8 @@
 //! How many octets values have in OER (X.696).
 
-use crate::extent::{Extent, octets_in};
+use crate::extent::{Extent, integer_octets, octets_above, octets_in};
 use crate::per_widths::one_more;
+use asn_values::profile::HIGHEST_INTEGER;
 use asn_values::{Alt, AsnType, Bounds, Field, Item, Need, Size};
 
 /// How many octets the values of the type have in OER.
@@ -47,9 +48,9 @@ pub(crate) fn octets_of(ty: &AsnType) -> Extent {
             let known = alternatives_octets(root);
             let all = match ext {
                 None => known,
-                Some(additions) => open_alternatives_octets(known, additions),
+                Some(additions) => open_alternatives_octets(known, root.len(), additions),
             };
-            Extent::fixed(1).and(all.unwrap_or(Extent::fixed(0)))
+            all.unwrap_or(Extent::fixed(1))
         }
     }
 }
@@ -66,45 +67,67 @@ fn counts_of(size: &Size) -> (u64, Option<u64>) {
     (u64::from(size.low), high)
 }
 
-/// Of an INTEGER with these bounds: 1, 2, 4 or 8 octets where both bounds are there, else a length and at most eight.
+/// Of an INTEGER with these bounds: 1, 2, 4 or 8 octets where both bounds are there and such numbers have no more; else a
+/// length, and as many octets as the number has.
 fn number_octets(bounds: &Bounds) -> Extent {
-    let counted = Extent {
-        least: 2,
-        greatest: Some(9),
-    };
+    match fixed_octets(bounds) {
+        Some(octets) => Extent::fixed(octets),
+        None => Extent {
+            least: 2,
+            greatest: Some(most_octets(bounds).saturating_add(1)),
+        },
+    }
+}
+
+/// How many octets each number of these bounds has, where they have no length.
+pub(crate) fn fixed_octets(bounds: &Bounds) -> Option<u64> {
     match (bounds.low, bounds.high) {
-        (Some(low), Some(high)) if !bounds.ext => Extent::fixed(if low >= 0 {
-            width_from_zero(high)
-        } else {
-            width_signed(low, high)
-        }),
-        _ => counted,
+        (Some(low), Some(high)) if !bounds.ext => {
+            if low >= 0 {
+                width_from_zero(high)
+            } else {
+                width_signed(low, high)
+            }
+        }
+        _ => None,
     }
 }
 
-/// The octets of numbers from 0 to this one.
-fn width_from_zero(high: i128) -> u64 {
+/// The most octets of a number after a length: without a sign where a low bound holds that is not below 0.
+fn most_octets(bounds: &Bounds) -> u64 {
+    match bounds.low {
+        Some(low) if low >= 0 && !bounds.ext => octets_above(0, HIGHEST_INTEGER),
+        _ => integer_octets(),
+    }
+}
+
+/// The octets of numbers from 0 to this one, where 1, 2, 4 or 8 are enough.
+fn width_from_zero(high: i128) -> Option<u64> {
     if high < 0x100 {
-        1
+        Some(1)
     } else if high < 0x1_0000 {
-        2
+        Some(2)
     } else if high < 0x1_0000_0000 {
-        4
+        Some(4)
+    } else if high < 0x1_0000_0000_0000_0000 {
+        Some(8)
     } else {
-        8
+        None
     }
 }
 
-/// The octets of numbers from this one, which is below 0, to that one.
-fn width_signed(low: i128, high: i128) -> u64 {
+/// The octets of numbers from this one, which is below 0, to that one, where 1, 2, 4 or 8 are enough.
+fn width_signed(low: i128, high: i128) -> Option<u64> {
     if low >= -0x80 && high < 0x80 {
-        1
+        Some(1)
     } else if low >= -0x8000 && high < 0x8000 {
-        2
+        Some(2)
     } else if low >= -0x8000_0000 && high < 0x8000_0000 {
-        4
+        Some(4)
+    } else if low >= -0x8000_0000_0000_0000 && high < 0x8000_0000_0000_0000 {
+        Some(8)
     } else {
-        8
+        None
     }
 }
 
@@ -207,24 +230,40 @@ fn additions_octets(fields: &[Field]) -> Extent {
     all
 }
 
-/// Of one of these alternatives.
+/// Of the tag and the value of one of these alternatives.
 #[cycle(octets)]
 fn alternatives_octets(alternatives: &[Alt]) -> Option<Extent> {
     let mut any = None;
-    for alternative in alternatives {
-        any = one_more(any, octets_of(&alternative.ty));
+    for (index, alternative) in alternatives.iter().enumerate() {
+        any = one_more(any, tag_octets(index).and(octets_of(&alternative.ty)));
     }
     any
 }
 
-/// Of one of some, where there is one, or of one of these, in an open type field.
+/// Of one of some, where there is one, or of one of these after `before` others, in an open type field.
 #[cycle(octets)]
-fn open_alternatives_octets(any: Option<Extent>, alternatives: &[Alt]) -> Option<Extent> {
+fn open_alternatives_octets(
+    any: Option<Extent>,
+    before: usize,
+    alternatives: &[Alt],
+) -> Option<Extent> {
     let mut any = any;
-    for alternative in alternatives {
-        any = one_more(any, open_octets(octets_of(&alternative.ty)));
+    for (index, alternative) in alternatives.iter().enumerate() {
+        let tag = tag_octets(before.saturating_add(index));
+        any = one_more(any, tag.and(open_octets(octets_of(&alternative.ty))));
     }
     any
+}
+
+/// The octets of the tag of the alternative at an index: one, or from 63 on one and those of the index in base 128.
+fn tag_octets(index: usize) -> Extent {
+    Extent::fixed(if index < 63 {
+        1
+    } else if index < 128 {
+        2
+    } else {
+        3
+    })
 }
 
 /// Of an open type field around this many octets.

@@ -1,14 +1,8 @@
 //! How many bits values have in PER (X.691).
 
-use crate::extent::{Extent, octets_in, width_of};
+use crate::extent::{Extent, integer_octets, octets_above, width_above, width_of};
 use asn_values::profile::HIGHEST_INTEGER;
 use asn_values::{Alt, AsnType, Bounds, Field, Need, Size, TextKind};
-
-/// The bits of an INTEGER of 64 signed bits without bounds: an octet of length, and at most eight.
-const UNBOUNDED: Extent = Extent {
-    least: 16,
-    greatest: Some(72),
-};
 
 /// How many bits the values of the type have in PER, without what fills up a complete encoding.
 #[cycle(bits)]
@@ -21,7 +15,7 @@ pub(crate) fn bits_of(ty: &AsnType) -> Extent {
             let known = Extent::fixed(width_of((root.len() as u64).saturating_sub(1)));
             match ext {
                 None => known,
-                Some(additions) => marked(known, 7, additions.is_empty(), Extent::fixed(0)),
+                Some(additions) => marked(known, additions.len(), Extent::fixed(0)),
             }
         }
         AsnType::Bits(size) => sized_bits(size, Extent::fixed(1)),
@@ -50,46 +44,49 @@ pub(crate) fn bits_of(ty: &AsnType) -> Extent {
             let known = Extent::fixed(index).and(alternatives_bits(root));
             match ext {
                 None => known,
-                Some(additions) => marked(
-                    known,
-                    7,
-                    additions.is_empty(),
-                    open_alternatives_bits(additions),
-                ),
+                Some(additions) => {
+                    marked(known, additions.len(), open_alternatives_bits(additions))
+                }
             }
         }
     }
 }
 
-/// After an extension bit what the root has, or an index of this many bits and what an addition has, where there is one.
-fn marked(known: Extent, index: u64, is_closed: bool, added: Extent) -> Extent {
+/// After an extension bit what the root has, or the index of one of this many additions and what it has, where there are
+/// some. An index is a normally small number: 7 bits, or from 64 on a bit, an octet of length and one more octet.
+fn marked(known: Extent, additions: usize, added: Extent) -> Extent {
     let mark = Extent::fixed(1);
-    if is_closed {
+    if additions == 0 {
         return mark.and(known);
     }
-    mark.and(known.or(Extent::fixed(index).and(added)))
+    let index = Extent {
+        least: 7,
+        greatest: Some(if additions > 64 { 17 } else { 7 }),
+    };
+    mark.and(known.or(index.and(added)))
 }
 
 /// Of an INTEGER with these bounds.
 fn number_bits(bounds: &Bounds) -> Extent {
     let known = match (bounds.low, bounds.high) {
         (Some(low), Some(high)) => {
-            let span = u64::try_from(high.saturating_sub(low)).unwrap_or(u64::MAX);
-            Extent::fixed(width_of(span))
+            Extent::fixed(width_above(low, high))
         }
-        (Some(low), None) => {
-            let span = u64::try_from(HIGHEST_INTEGER.saturating_sub(low)).unwrap_or(u64::MAX);
-            Extent {
-                least: 16,
-                greatest: Some(octets_in(span).saturating_mul(8).saturating_add(8)),
-            }
-        }
-        (None, _) => UNBOUNDED,
+        (Some(low), None) => counted_bits(octets_above(low, HIGHEST_INTEGER)),
+        (None, _) => counted_bits(integer_octets()),
     };
     if bounds.ext {
-        return Extent::fixed(1).and(known.or(UNBOUNDED));
+        return Extent::fixed(1).and(known.or(counted_bits(integer_octets())));
     }
     known
+}
+
+/// Of a number in at most this many octets: an octet of length, and one at least.
+fn counted_bits(most: u64) -> Extent {
+    Extent {
+        least: 16,
+        greatest: Some(most.saturating_mul(8).saturating_add(8)),
+    }
 }
 
 /// Of as many items as the size says, each of which has these bits, with what tells their count.

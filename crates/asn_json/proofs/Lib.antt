@@ -9,3 +9,5 @@ pub mod ReadKinds
 pub mod ReadParts
 pub mod NameIndexes
 pub mod WrittenParts
+pub mod Wider
+pub mod Older

@@ -6,13 +6,13 @@ use Rattle.serde_json.specs.Data.{Data, Items, no_items, item, Members, no_membe
 use Rattle.serde_json.specs.Find.{as_array, as_object, get_member}
 use Rattle.asn_values.specs.Datum.{Datum}
 use Rattle.asn_values.specs.Shape.{Shape, boolean, null, integer, enumerated, bit_string, octet_string, restricted, utf8_string, sequence, sequence_of, choice, Demand, must, optional, default, Fields, no_fields, field, MoreFields, closed, marked, Alternatives, no_alternatives, one_of, MoreAlternatives, closed_choice, marked_choice, count}
-use Rattle.asn_values.specs.Fits.{Fits}
+use Rattle.asn_values.specs.Fits.{Limits, limits, Fits}
 use Rattle.asn_json.specs.declared.fault.JsonFault.{JsonFault}
 use Rattle.asn_json.specs.declared.fault.JsonFault.TheVariants as fault
 use Rattle.asn_view.specs.Names.{index_of}
 use Rattle.asn_json.specs.Paths.{here, to_member, to_element, below}
 use Rattle.asn_json.specs.Written.{item_names}
-use Rattle.asn_json.specs.Shown.{only_member, truth_in, nothing_in, number_in, item_in, bits_in, octets_in, characters_in, unicode_in, choice_names, component_names, value_of}
+use Rattle.asn_json.specs.Shown.{only_member, truth_in, nothing_in, number_in_under, item_in, bits_in, octets_in, characters_in, unicode_in, choice_names, component_names, value_of_under}
 
 -- one, at the node itself, where no value is read
 abbrev pub unless_read : Option Datum → List (List ℕ)
@@ -49,52 +49,73 @@ abbrev pub member_errors : (ℕ → Data → List (List ℕ)) → List (List ℕ
 member_errors f names found = errors_within (λ m. errors_of_member f names m) found
 
 abbrev mutual
-  pub errors : Shape → Data → List (List ℕ)
-  errors boolean j = unless_read (truth_in j)
-  errors null j = unless_read (nothing_in j)
-  errors (integer b) j = unless_read (number_in j)
-  errors (enumerated root more) j = unless_read (item_in (item_names root more) j)
-  errors (bit_string s) j = unless_read (bits_in j)
-  errors (octet_string s) j = unless_read (octets_in j)
-  errors (restricted k s) j = unless_read (characters_in j)
-  errors utf8_string j = unless_read (unicode_in j)
-  errors (sequence root more) j =
+  pub errors_under : Limits → Shape → Data → List (List ℕ)
+  errors_under l boolean j = unless_read (truth_in j)
+  errors_under l null j = unless_read (nothing_in j)
+  errors_under l (integer b) j = unless_read (number_in_under l j)
+  errors_under l (enumerated root more) j = unless_read (item_in (item_names root more) j)
+  errors_under l (bit_string s) j = unless_read (bits_in j)
+  errors_under l (octet_string s) j = unless_read (octets_in j)
+  errors_under l (restricted k s) j = unless_read (characters_in j)
+  errors_under l utf8_string j = unless_read (unicode_in j)
+  errors_under l (sequence root more) j =
       errors_within (λ ms.
-      field_errors root ms ++ (added_errors more ms ++ unknown_errors (component_names root more) ms)) (as_object j)
-  errors (sequence_of t s) j = errors_within (λ ds. element_errors (λ e. errors t e) 0 ds) (as_array j)
-  errors (choice root more) j =
+      field_errors_under l root ms ++ (added_errors_under l more ms ++ unknown_errors (component_names root more) ms)) (as_object j)
+  errors_under l (sequence_of t s) j = errors_within (λ ds. element_errors (λ e. errors_under l t e) 0 ds) (as_array j)
+  errors_under l (choice root more) j =
       member_errors (λ p e.
-      if nat_lt p (count root) then errors_at root p e else added_errors_at more (p - count root) e)
+      if nat_lt p (count root) then errors_at_under l root p e else added_errors_at_under l more (p - count root) e)
       (choice_names root more) (only_member j)
 
   -- those of the components, in their order
-  pub field_errors : Fields → Members → List (List ℕ)
-  field_errors no_fields ms = []
-  field_errors (field name demand t fs) ms =
-      entry_errors name demand (λ j. errors t j) (get_member name ms) ++ field_errors fs ms
+  pub field_errors_under : Limits → Fields → Members → List (List ℕ)
+  field_errors_under l no_fields ms = []
+  field_errors_under l (field name demand t fs) ms =
+      entry_errors name demand (λ j. errors_under l t j) (get_member name ms) ++ field_errors_under l fs ms
 
-  pub added_errors : MoreFields → Members → List (List ℕ)
-  added_errors closed ms = []
-  added_errors (marked fs) ms = field_errors fs ms
+  pub added_errors_under : Limits → MoreFields → Members → List (List ℕ)
+  added_errors_under l closed ms = []
+  added_errors_under l (marked fs) ms = field_errors_under l fs ms
 
   -- those of a value of the alternative at this index
-  pub errors_at : Alternatives → ℕ → Data → List (List ℕ)
-  errors_at no_alternatives p j = here
-  errors_at (one_of name t alts) zero j = errors t j
-  errors_at (one_of name t alts) (suc p) j = errors_at alts p j
+  pub errors_at_under : Limits → Alternatives → ℕ → Data → List (List ℕ)
+  errors_at_under l no_alternatives p j = here
+  errors_at_under l (one_of name t alts) zero j = errors_under l t j
+  errors_at_under l (one_of name t alts) (suc p) j = errors_at_under l alts p j
 
-  pub added_errors_at : MoreAlternatives → ℕ → Data → List (List ℕ)
-  added_errors_at closed_choice p j = here
-  added_errors_at (marked_choice alts) p j = errors_at alts p j
+  pub added_errors_at_under : Limits → MoreAlternatives → ℕ → Data → List (List ℕ)
+  added_errors_at_under l closed_choice p j = here
+  added_errors_at_under l (marked_choice alts) p j = errors_at_under l alts p j
+
+abbrev pub errors : Shape → Data → List (List ℕ)
+errors = errors_under limits
+
+abbrev pub field_errors : Fields → Members → List (List ℕ)
+field_errors = field_errors_under limits
+
+abbrev pub added_errors : MoreFields → Members → List (List ℕ)
+added_errors = added_errors_under limits
+
+abbrev pub errors_at : Alternatives → ℕ → Data → List (List ℕ)
+errors_at = errors_at_under limits
+
+abbrev pub added_errors_at : MoreAlternatives → ℕ → Data → List (List ℕ)
+added_errors_at = added_errors_at_under limits
 
 -- the paths of all errors, from the whole value on
+abbrev pub bad_under : Limits → Shape → Data → List (List ℕ)
+bad_under l t j = below (codes "$") (errors_under l t j)
+
 abbrev pub bad : Shape → Data → List (List ℕ)
-bad t j = below (codes "$") (errors t j)
+bad = bad_under limits
 
 -- the JSON is of the type's shape, and shows v
-pub record Shown (t : Shape) (j : Data) (v : Datum) : Type 0 where
-  pub no_errors : bad t j ≡ []
-  pub is : v ≡ value_of t j
+pub record ShownUnder (l : Limits) (t : Shape) (j : Data) (v : Datum) : Type 0 where
+  pub no_errors : bad_under l t j ≡ []
+  pub is : v ≡ value_of_under l t j
+
+abbrev pub Shown : Shape → Data → Datum → Type 0
+Shown = ShownUnder limits
 
 -- what a fault of reading tells: the first error, or that there is none and the JSON shows no value of the type
 abbrev pub Refused : Shape → Data → JsonFault → Type 0

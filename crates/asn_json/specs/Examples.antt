@@ -1,11 +1,12 @@
 -- JSON of values, and values and errors of JSON, worked out by hand.
-use Rattle.std.specs.Prelude.{◌≡◌, pos, negsuc, true, [], ◌∷◌, Some, None, refl, codes, decimal}
+use Rattle.std.specs.Prelude.{◌≡◌, ◌+◌, pos, negsuc, true, [], ◌∷◌, Some, None, refl, codes, decimal}
 use Rattle.std.proofs.Common.{arith}
 use Rattle.std.proofs.Math.Utf8.{encode}
 use Rattle.std.proofs.lemmas.Fmt.{decimal_digit}
 use Rattle.serde_json.specs.Data.{boolean, number, string, array, object, unsigned, negative, no_items, item, no_members, member}
 use Rattle.asn_values.specs.Datum.{truth, bit_list, characters, alternative}
 use Rattle.asn_values.specs.Datum as datum
+use Rattle.asn_values.specs.Fits.{highest_number}
 use Rattle.asn_values.specs.Shape.{Label, enumerated, marked_labels, bit_string, integer, sequence_of, choice, one_of, no_alternatives, marked_choice}
 use Rattle.asn_values.specs.Shape as shape
 use Rattle.asn_values.specs.ExampleTypes.{bits_of, any_number, any_size, entries, label, note_type}
@@ -65,11 +66,11 @@ grey_value = refl
 pub bits_json : json_of (bit_string any_size) (bit_list (bits_of "101")) ≡ string (codes "101")
 bits_json = refl
 
--- INTEGER: 2 ^ 63 is none of the profile, so it is an error of shape
-pub largest_integer : errors (integer any_number) (number (unsigned 9223372036854775807)) ≡ []
+-- INTEGER: one above the highest is none of the profile, so it is an error of shape
+pub largest_integer : errors (integer any_number) (number (unsigned highest_number)) ≡ []
 largest_integer = refl
 
-pub integer_past_the_profile : bad (integer any_number) (number (unsigned 9223372036854775808)) ≡ codes "$" ∷ []
+pub integer_past_the_profile : bad (integer any_number) (number (unsigned (highest_number + 1))) ≡ codes "$" ∷ []
 integer_past_the_profile = refl
 
 pub negative_value : value_of (integer any_number) (number (negative (negsuc 4))) ≡ datum.number (negsuc 4)

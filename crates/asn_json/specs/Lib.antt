@@ -1,6 +1,7 @@
 pub mod Errors
 pub mod Examples
 pub mod Laws
+pub mod Older
 pub mod Parts
 pub mod Paths
 pub mod Readers

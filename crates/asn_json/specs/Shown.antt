@@ -8,9 +8,9 @@ use Rattle.serde_json.specs.Find.{as_null, as_bool, as_number, as_integer, as_st
 use Rattle.asn_values.specs.Datum.{Datum, truth, nothing, number, bit_list, octet_list, characters, unicode, components, components_of, elements, elements_of, alternative}
 use Rattle.asn_values.specs.Datum as datum
 use Rattle.asn_values.specs.Shape.{Shape, boolean, null, integer, enumerated, bit_string, octet_string, restricted, utf8_string, sequence, sequence_of, choice, Demand, must, optional, default, Fields, no_fields, field, MoreFields, closed, marked, more_fields, field_names, Alternatives, no_alternatives, one_of, MoreAlternatives, closed_choice, marked_choice, more_alternatives, alternative_names, count}
-use Rattle.asn_values.specs.Fits.{in_range}
+use Rattle.asn_values.specs.Fits.{Limits, limits, in_range}
 use Rattle.asn_view.specs.Names.{index_of}
-use Rattle.asn_json.specs.Written.{integers, item_names}
+use Rattle.asn_json.specs.Written.{integers_under, item_names}
 
 -- ---- types without parts: the value, where the JSON is of the shape
 
@@ -21,11 +21,14 @@ abbrev pub nothing_in : Data → Option Datum
 nothing_in j = option_map (λ _. nothing) (as_null j)
 
 -- an integer, as serde_json keeps them, that is one of the profile
-abbrev pub if_integer : ℤ → Option Datum
-if_integer z = if in_range integers z then Some (number z) else None
+abbrev pub if_integer_under : Limits → ℤ → Option Datum
+if_integer_under l z = if in_range (integers_under l) z then Some (number z) else None
+
+abbrev pub number_in_under : Limits → Data → Option Datum
+number_in_under l j = option_and_then (if_integer_under l) (option_and_then as_integer (as_number j))
 
 abbrev pub number_in : Data → Option Datum
-number_in j = option_and_then if_integer (option_and_then as_integer (as_number j))
+number_in = number_in_under limits
 
 -- the name of an item
 abbrev pub item_in : List (List ℕ) → Data → Option Datum
@@ -108,38 +111,53 @@ component_names root more = field_names root ++ field_names (more_fields more)
 
 abbrev mutual
   -- the value that the JSON shows
-  pub value_of : Shape → Data → Datum
-  value_of boolean j = or_nothing (truth_in j)
-  value_of null j = nothing
-  value_of (integer b) j = or_nothing (number_in j)
-  value_of (enumerated root more) j = or_nothing (item_in (item_names root more) j)
-  value_of (bit_string s) j = or_nothing (bits_in j)
-  value_of (octet_string s) j = or_nothing (octets_in j)
-  value_of (restricted k s) j = or_nothing (characters_in j)
-  value_of utf8_string j = or_nothing (unicode_in j)
-  value_of (sequence root more) j =
-      or_nothing (option_map (λ ms. of_entries (entries root ms ++ added_entries more ms)) (as_object j))
-  value_of (sequence_of t s) j = or_nothing (option_map (λ ds. of_elements (λ e. value_of t e) ds) (as_array j))
-  value_of (choice root more) j =
+  pub value_of_under : Limits → Shape → Data → Datum
+  value_of_under l boolean j = or_nothing (truth_in j)
+  value_of_under l null j = nothing
+  value_of_under l (integer b) j = or_nothing (number_in_under l j)
+  value_of_under l (enumerated root more) j = or_nothing (item_in (item_names root more) j)
+  value_of_under l (bit_string s) j = or_nothing (bits_in j)
+  value_of_under l (octet_string s) j = or_nothing (octets_in j)
+  value_of_under l (restricted k s) j = or_nothing (characters_in j)
+  value_of_under l utf8_string j = or_nothing (unicode_in j)
+  value_of_under l (sequence root more) j =
+      or_nothing (option_map (λ ms. of_entries (entries_under l root ms ++ added_entries_under l more ms)) (as_object j))
+  value_of_under l (sequence_of t s) j = or_nothing (option_map (λ ds. of_elements (λ e. value_of_under l t e) ds) (as_array j))
+  value_of_under l (choice root more) j =
       member_value (λ p e.
-      if nat_lt p (count root) then value_at root p e else added_value_at more (p - count root) e)
+      if nat_lt p (count root) then value_at_under l root p e else added_value_at_under l more (p - count root) e)
       (choice_names root more) (only_member j)
 
   -- the entries of a SEQUENCE, one for each component
-  pub entries : Fields → Members → List (Option Datum)
-  entries no_fields ms = []
-  entries (field name demand t fs) ms = entry_of demand (λ j. value_of t j) (get_member name ms) ∷ entries fs ms
+  pub entries_under : Limits → Fields → Members → List (Option Datum)
+  entries_under l no_fields ms = []
+  entries_under l (field name demand t fs) ms = entry_of demand (λ j. value_of_under l t j) (get_member name ms) ∷ entries_under l fs ms
 
-  pub added_entries : MoreFields → Members → List (Option Datum)
-  added_entries closed ms = []
-  added_entries (marked fs) ms = entries fs ms
+  pub added_entries_under : Limits → MoreFields → Members → List (Option Datum)
+  added_entries_under l closed ms = []
+  added_entries_under l (marked fs) ms = entries_under l fs ms
 
   -- the value of the alternative at this index
-  pub value_at : Alternatives → ℕ → Data → Datum
-  value_at no_alternatives p j = nothing
-  value_at (one_of name t alts) zero j = value_of t j
-  value_at (one_of name t alts) (suc p) j = value_at alts p j
+  pub value_at_under : Limits → Alternatives → ℕ → Data → Datum
+  value_at_under l no_alternatives p j = nothing
+  value_at_under l (one_of name t alts) zero j = value_of_under l t j
+  value_at_under l (one_of name t alts) (suc p) j = value_at_under l alts p j
 
-  pub added_value_at : MoreAlternatives → ℕ → Data → Datum
-  added_value_at closed_choice p j = nothing
-  added_value_at (marked_choice alts) p j = value_at alts p j
+  pub added_value_at_under : Limits → MoreAlternatives → ℕ → Data → Datum
+  added_value_at_under l closed_choice p j = nothing
+  added_value_at_under l (marked_choice alts) p j = value_at_under l alts p j
+
+abbrev pub value_of : Shape → Data → Datum
+value_of = value_of_under limits
+
+abbrev pub entries : Fields → Members → List (Option Datum)
+entries = entries_under limits
+
+abbrev pub added_entries : MoreFields → Members → List (Option Datum)
+added_entries = added_entries_under limits
+
+abbrev pub value_at : Alternatives → ℕ → Data → Datum
+value_at = value_at_under limits
+
+abbrev pub added_value_at : MoreAlternatives → ℕ → Data → Datum
+added_value_at = added_value_at_under limits

@@ -11,7 +11,7 @@ use Rattle.asn_values.specs.Datum.{Datum, truth, item, bit_list, octet_list, cha
 use Rattle.asn_values.specs.Datum as datum
 use Rattle.asn_values.specs.Shape.{Range, Shape, integer, enumerated, bit_string, octet_string, restricted, utf8_string, sequence, sequence_of, choice, Label, MoreLabels, more_labels, Fields, no_fields, field, MoreFields, closed, marked, demands, Alternatives, no_alternatives, one_of, MoreAlternatives, closed_choice, marked_choice, count}
 use Rattle.asn_values.specs.Shape as shape
-use Rattle.asn_values.specs.Fits.{lowest_integer, highest_integer, in_range}
+use Rattle.asn_values.specs.Fits.{Limits, limits, lowest_integer, in_range}
 use Rattle.asn_values.specs.Received.{FitsReceived}
 use Rattle.asn_json.specs.declared.fault.JsonFault.{JsonFault}
 use Rattle.asn_json.specs.declared.fault.JsonFault.TheVariants as fault
@@ -23,9 +23,12 @@ abbrev pub json_truth : Datum → Data
 json_truth (truth b) = boolean b
 json_truth _ = null
 
--- all integers of the profile
+-- all integers of a profile
+abbrev pub integers_under : Limits → Range
+integers_under l = record { low = Some lowest_integer; high = Some l.highest; extensible = false }
+
 abbrev pub integers : Range
-integers = record { low = Some lowest_integer; high = Some highest_integer; extensible = false }
+integers = integers_under limits
 
 -- an integer
 abbrev pub json_number : Datum → Data

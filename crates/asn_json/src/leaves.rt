@@ -24,10 +24,12 @@ pub(crate) const INTEGERS: Bounds = Bounds {
 pub(crate) fn number_json(integer: i128) -> Json
     ensures { view result ≡ json_number (number integer) }
 {
-    if is_between(&INTEGERS, integer) {
+    if !is_between(&INTEGERS, integer) {
+        Json::Null
+    } else if integer < 0 {
         Json::from(integer as i64)
     } else {
-        Json::Null
+        Json::from(integer as u64)
     }
 }
 

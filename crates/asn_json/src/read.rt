@@ -7,6 +7,7 @@ ghost use Rattle.asn_values.specs.Parts.{AreOfProfile, AreAllOfProfile, IsGoodDe
 ghost use Rattle.asn_values.specs.Profile.{InProfile};
 ghost use Rattle.asn_values.specs.View.{shape_of, datum_of, part_of_field, fields_seen, alternatives_seen};
 ghost use Rattle.asn_json.specs.Errors.{Shown, Refused, errors};
+ghost use Rattle.asn_json.specs.Older.{ReadsAsBefore};
 ghost use Rattle.asn_json.specs.Parts.{ShowsComponents, component_errors, ShowsComponent, errors_of_component, key_errors, ShowsArray, array_errors, alternative_errors, TellsBelow};
 ghost use Rattle.asn_json.specs.Paths.{to_member};
 ghost use Rattle.asn_json.specs.Readers.{TellsFirst, Shows, ShowsEntry, errors_of_entry, ShowsAt};
@@ -37,6 +38,8 @@ pub fn from_json(alloc: Global, ty: &Checked, json: &Json) -> Result<Value, Json
     ensures shown { IfOk result (λ v. Shown (shape_of ty.now) (view json.now) (datum_of v)) }
     ensures fits { IfOk result (λ v. Fits (shape_of ty.now) (datum_of v)) }
     ensures refused { IfErr result (λ fault. Refused (shape_of ty.now) (view json.now) fault) }
+    // of JSON that showed a value under the limits of the profile before this one
+    ensures older { ReadsAsBefore (shape_of ty.now) (view json.now) result }
 {
     match value_shown(alloc, ty, json) {
         Ok(value) => {

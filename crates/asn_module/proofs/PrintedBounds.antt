@@ -1,8 +1,9 @@
 -- Bounds and sizes as they are printed: they mean the same again, fit the grammar, and have a text.
-use Rattle.std.proofs.Common.{◌≡◌, ◌<◌, ◌^◌, ℕ, suc, ℤ, pos, negsuc, Bool, true, false, cond, List, [], ◌∷◌, ◌++◌, Option, Some, None, refl, ap, arith}
+use Rattle.std.proofs.Common.{◌≡◌, ◌<◌, ◌+◌, ◌^◌, ℕ, suc, ℤ, pos, negsuc, Bool, true, false, cond, List, [], ◌∷◌, ◌++◌, Option, Some, None, refl, ap, arith}
 use Rattle.std.proofs.lemmas.Bool.Decides.{nat_tests}
 use Rattle.std.specs.Prelude.{◌||◌, nat_lt, is_some, IfSome}
 use Rattle.std.specs.List.{AllByRecursion}
+use Rattle.asn_values.specs.Fits.{highest_number}
 use Rattle.asn_values.specs.Shape as s
 use Rattle.asn_values.specs.Shape.{Shape, Range, SizeRange, Alphabet}
 use Rattle.asn_values.specs.Profile.{is_outside, large_size, is_large}
@@ -34,17 +35,20 @@ pub record Means (look : List ℕ → Option Meant) (tree : Tree) (shape : Shape
 
 -- ---- numbers
 
+high_enough : (n : ℕ) → nat_lt highest_number n ≡ false → n < highest_number + 1
+high_enough n e = grind (arith, nat_tests)
+
 low_enough : (n : ℕ) → nat_lt 9223372036854775807 n ≡ false → n < 2 ^ 63
 low_enough n e = grind (arith, nat_tests)
 
 pub is_int : (z : ℤ) → is_outside (Some z) ≡ false → IsInt z
-is_int (pos n) e = low_enough n e
+is_int (pos n) e = high_enough n e
 is_int (negsuc n) e = low_enough n (left_false (nat_lt 9223372036854775807 n) false e)
 
 pub int_words : (z : ℤ) → IsInt z → AreWords (g.int z)
 int_words (pos n) h = (wider n h, tt)
   where
-    wider : (n : ℕ) → n < 2 ^ 63 → n < 2 ^ 64
+    wider : (n : ℕ) → n < highest_number + 1 → n < 2 ^ 64
     wider n h = omega arith
 int_words (negsuc n) h = ((omega arith, wider n h), tt)
   where

@@ -7,6 +7,7 @@ use Rattle.std.specs.Prelude.{◌||◌, ◌&&◌, ◌==◌, nat_lt, IfSome, byte
 use Rattle.std.specs.List.{AllByRecursion, list_all, list_any}
 use Rattle.asn_values.specs.Datum as datum
 use Rattle.asn_values.specs.Datum.{Datum}
+use Rattle.asn_values.specs.Fits.{highest_number}
 use Rattle.asn_values.specs.Shape as s
 use Rattle.asn_values.specs.Shape.{Shape, Label, MoreLabels, Demand, more_labels}
 use Rattle.asn_values.specs.Profile.{is_small_letter, is_letter_or_digit, goes_on, is_identifier, has_twice, bad_names, is_not_32_bits, int_eq, bad_enumeration, duplicate_name, empty_range, too_many_here, good_default, is_outside}
@@ -62,7 +63,7 @@ identifier_words (c ∷ cs) e =
 pub item_is_int : (z : ℤ) → is_not_32_bits z ≡ false → is_outside (Some z) ≡ false
 item_is_int (pos n) e = wider n e
   where
-    wider : (n : ℕ) → nat_lt 2147483647 n ≡ false → nat_lt 9223372036854775807 n ≡ false
+    wider : (n : ℕ) → nat_lt 2147483647 n ≡ false → nat_lt highest_number n ≡ false
     wider n e = grind (arith, nat_tests)
 item_is_int (negsuc n) e = rw (wider n (left_false (nat_lt 2147483647 n) false e)) refl
   where

@@ -9,10 +9,13 @@ use crate::fault::SyntaxFault;
 use crate::lexer::{after_first, first_token};
 use crate::notation::{Constraint, Limits, ListSize, RangeNotation, SizeEnd, SizeNotation};
 use crate::token::{Lexeme, Sign, Word};
-use asn_values::profile::HIGHEST_INTEGER;
+use asn_values::profile::{HIGHEST_INTEGER, OFFSET_OF_ZERO};
 
 /// The largest number of the profile.
 const LARGEST: u64 = HIGHEST_INTEGER as u64;
+
+/// The largest number after a minus sign: how far the profile's numbers go below 0.
+const LARGEST_NEGATIVE: u64 = OFFSET_OF_ZERO as u64;
 
 #[tactic(auto, unfolding(crate::specs::Reading::begins_sign))]
 pub(crate) fn begins_sign(sign: Sign, text: &str) -> bool
@@ -118,7 +121,7 @@ pub(crate) fn int_at<'t>(text: &'t str) -> Result<(i128, &'t str), SyntaxFault>
     match first_token(text) {
         Some((lexeme, rest)) => match lexeme {
             Lexeme::Number(number) if number <= LARGEST => Ok((i128::from(number), rest)),
-            Lexeme::Negative(number) if 0 < number && number <= LARGEST + 1 => Ok((
+            Lexeme::Negative(number) if 0 < number && number <= LARGEST_NEGATIVE => Ok((
                 -i128::from(number),
                 rest,
             )),

@@ -1,7 +1,7 @@
 //! DEFAULTs that the profile takes.
 use crate::writer::{Known, Writer};
 use asn_published_read::refusal::Refusal;
-use asn_published_types::bounds::{Numbers, numbers_between};
+use asn_published_types::bounds::{Numbers, is_integer, numbers_between};
 use asn_published_types::info::Base;
 use asn_published_types::items::items_of;
 use asn_published_types::numbers::Scope;
@@ -74,7 +74,7 @@ impl<'t> Writer<'t> {
             _ => return Ok(None),
         };
         let is_taken = match numbers_between(&self.last.left, false, 0) {
-            Ok(Numbers::All) => i64::try_from(number).is_ok(),
+            Ok(Numbers::All) => is_integer(number),
             Ok(Numbers::Between(low, high)) => is_one_of_more(number, low, high),
             _ => false,
         };

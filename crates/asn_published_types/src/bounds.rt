@@ -4,40 +4,41 @@ ghost use Rattle.asn_published_types.specs.Left.{IsBetween, IsLeft};
 
 use crate::ranges::{Range, Ranges};
 use asn_published_read::refusal::{Refusal, Why, refused};
+use asn_values::profile::{HIGHEST_INTEGER, LOWEST_INTEGER, MAX_SIZE_BOUND};
 use std::alloc::{AllocError, Global};
-
-/// The lowest and the highest number of 64 bits with a sign.
-const LOWEST: i128 = -9223372036854775808;
-
-const HIGHEST: i128 = 9223372036854775807;
 
 /// The highest number of 64 bits without a sign.
 const HIGHEST_UNSIGNED: i128 = 18446744073709551615;
 
 /// The highest finite bound of a size of the profile.
-const HIGHEST_SIZE: i128 = 65535;
+const HIGHEST_SIZE: i128 = MAX_SIZE_BOUND as i128;
 
 /// What a set of numbers becomes.
 #[derive(Clone, Copy, PartialEq, Eq)]
 pub enum Numbers {
     All,
-    /// 0 to 2^64 - 1.
+    /// 0 to 2^64 - 1, where these are not all integers of the profile.
     Unsigned,
     Between(Option<i128>, Option<i128>),
 }
 
-/// Whether a bound is none, or one of 64 bits.
+/// Whether a bound is none, or an integer of the profile.
 fn fits(bound: Option<i128>) -> bool {
     match bound {
         None => true,
-        Some(number) => i64::try_from(number).is_ok(),
+        Some(number) => is_integer(number),
     }
 }
 
-/// Whether a range has all numbers of 64 bits with a sign, and no others but where it has no bound.
+/// Whether the profile has the integer.
+pub fn is_integer(number: i128) -> bool {
+    LOWEST_INTEGER <= number && number <= HIGHEST_INTEGER
+}
+
+/// Whether a range has all integers of the profile, and no others but where it has no bound.
 fn is_every_number(range: Range) -> bool {
-    (range.low.is_none() || range.low == Some(LOWEST))
-        && (range.high.is_none() || range.high == Some(HIGHEST))
+    (range.low.is_none() || range.low == Some(LOWEST_INTEGER))
+        && (range.high.is_none() || range.high == Some(HIGHEST_INTEGER))
 }
 
 /// The range that a set of numbers, marked or not, becomes.
@@ -61,13 +62,13 @@ pub fn numbers_between(left: &Option<Ranges>, marked: bool, line: u32) -> Result
     if hull.low.is_none() && hull.high.is_none() {
         return Ok(Numbers::All);
     }
+    if fits(hull.low) && fits(hull.high) {
+        return Ok(Numbers::Between(hull.low, hull.high));
+    }
     if hull.low == Some(0) && hull.high == Some(HIGHEST_UNSIGNED) && !marked {
         return Ok(Numbers::Unsigned);
     }
-    if !fits(hull.low) || !fits(hull.high) {
-        return Err(refused(line, Why::Bounds));
-    }
-    Ok(Numbers::Between(hull.low, hull.high))
+    Err(refused(line, Why::Bounds))
 }
 
 /// The lowest and highest length of a set, and whether the highest was given up.

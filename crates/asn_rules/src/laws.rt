@@ -8,6 +8,7 @@ ghost use Rattle.asn_rules.specs.Chunks.{Chunk};
 ghost use Rattle.asn_rules.specs.CodecLaws.{DecodesTheEncoded, EncodesTheDecoded, OnlyMemoryIsWanting, EqualExactly, TellsTheRest, RestFollowsOneFront, TellsTheCut, DecodersAgree};
 ghost use Rattle.asn_rules.specs.Laws.{AreOctets, RulesLaws, WholesTell, LiveIsClosed, BeginningsAreLive, BeginningsAreNotRefused, OneAnswer};
 ghost use Rattle.asn_rules.specs.Live.{Fielding};
+ghost use Rattle.asn_rules.specs.Older.{StaysEncoding, EncodesAsBefore, OnlyMemoryIsWantingAsBefore, DecodesAsBefore};
 ghost use Rattle.asn_rules.specs.Pieces.{KeepsAllOctets, AnswersAllOctets, SettlesLaterAnswers, CutsDoNotMatter};
 ghost use Rattle.asn_rules.specs.Reading.{RulesTell};
 
@@ -87,4 +88,19 @@ pub fn session_laws<R: Rules>()
     ensures cuts_do_not_matter { CutsDoNotMatter R.ruling R.took }
 {
     R::keep_laws();
+}
+
+/// What was the encoding of a value under the limits of the profile before this one is so still, and encoders and
+/// decoders keep it. The call does nothing: its clauses are what proofs cite.
+///
+/// - `stays`: such octets are the encoding of the value.
+/// - `encodes`: an encoder gives these octets for it. `only_memory`: an encoder that gives none had no memory.
+/// - `decodes`: to these octets a decoder answers that value, or `Memory`.
+pub fn older_encodings_stay<E: Rules>()
+    ensures stays { StaysEncoding E.ruling }
+    ensures encodes { EncodesAsBefore E.ruling }
+    ensures only_memory { OnlyMemoryIsWantingAsBefore E.ruling }
+    ensures decodes { DecodesAsBefore E.ruling }
+{
+    E::keep_laws();
 }

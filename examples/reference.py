@@ -189,8 +189,8 @@ class Per:
         return self.general([format(o, '08b') for o in self.whole(ty, value)])
 
     def small(self, n):
-        assert n < 64
-        return format(n, '07b')
+        """A normally small number: 0 and 6 bits, or 1 and a semi-constrained number."""
+        return format(n, '07b') if n < 64 else '1' + self.general([format(o, '08b') for o in unsigned(n)])
 
     def bits(self, ty, v):
         kind = ty['kind']
@@ -267,6 +267,17 @@ class Oer:
         return self.length(len(data)) + data
 
     @staticmethod
+    def tag(n):
+        """A context-specific tag: one octet, or 191 and the tag in base 128, in as few octets as there can be."""
+        if n < 63:
+            return bytes([0x80 + n])
+        digits = [n % 128]
+        while n >= 128:
+            n //= 128
+            digits.insert(0, 0x80 + n % 128)
+        return bytes([0xbf] + digits)
+
+    @staticmethod
     def filled(bits):
         bits += '0' * (-len(bits) % 8)
         return bytes(int(bits[i:i + 8], 2) for i in range(0, len(bits), 8))
@@ -315,8 +326,7 @@ class Oer:
         if kind == 'CHOICE':
             (name, inner), = v.items()
             tag = [alternative[0] for alternative in ty['root'] + (ty['more'] or [])].index(name)
-            assert tag < 63
-            front = bytes([0x80 + tag])
+            front = self.tag(tag)
             if tag < len(ty['root']):
                 return front + self.whole(ty['root'][tag][1], inner)
             return front + self.counted(self.whole(ty['more'][tag - len(ty['root'])][1], inner))

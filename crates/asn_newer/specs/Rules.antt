@@ -1,5 +1,5 @@
 -- What PER and OER say of items that a type has not.
-use Rattle.std.specs.Prelude.{◌≡◌, ◌≢◌, ◌-◌, ◌+◌, ◌^◌, ◌<◌, ◌≤◌, ℕ, ℤ, pos, negsuc, List, ◌∷◌, ◌++◌, length, IsTrue, IsFalse}
+use Rattle.std.specs.Prelude.{◌≡◌, ◌≢◌, ◌-◌, ◌+◌, ◌*◌, ◌^◌, ◌<◌, ◌≤◌, ◌⊎◌, ℕ, ℤ, pos, negsuc, List, ◌∷◌, ◌++◌, length, IsTrue, IsFalse}
 use Rattle.std.specs.List.{AllByRecursion}
 use Rattle.std.specs.Int.RustNames.{int_lt}
 use Rattle.asn_values.specs.Shape.{Label}
@@ -39,14 +39,37 @@ pub record IsCountPast (us : List ℕ) : Type 0 where
   pub rest : List ℕ
   pub split : us ≡ 1 ∷ rest
 
--- an alternative past the profile: the extension bit, which is 1, and the bits of its index, as one number, from which
--- the index follows by taking 128 away
-pub record IsIndexPast (root : ℕ) (us : List ℕ) : Type 0 where
+-- normally small numbers of which none is below `most` begin so: with 0, and a number in 6 bits
+pub record IsShortPast (most : ℕ) (us : List ℕ) : Type 0 where
   pub number : ℕ
   pub rest : List ℕ
-  pub fits : number < 2 ^ 8
-  pub past : 128 + most_alternatives ≤ root + number
-  pub split : us ≡ bits 8 number ++ rest
+  pub fits : number < 64
+  pub past : most ≤ number
+  pub split : us ≡ 0 ∷ (bits 6 number ++ rest)
+
+-- with 1, where none from 64 on is below it
+pub record IsEachLongPast (most : ℕ) (us : List ℕ) : Type 0 where
+  pub rest : List ℕ
+  pub past : most ≤ 64
+  pub split : us ≡ 1 ∷ rest
+
+-- else with 1, and two octets as one number: the length of the number in octets, and the first of these
+pub record IsLongPast (most : ℕ) (us : List ℕ) : Type 0 where
+  pub number : ℕ
+  pub rest : List ℕ
+  pub fits : number < 2 ^ 16
+  pub some : 64 < most
+  pub past : 256 + most ≤ number
+  pub split : us ≡ 1 ∷ (bits 16 number ++ rest)
+
+abbrev pub IsSmallPast : ℕ → List ℕ → Type 0
+IsSmallPast most us = IsShortPast most us ⊎ (IsEachLongPast most us ⊎ IsLongPast most us)
+
+-- an alternative past the profile: the extension bit, which is 1, and an index among the additions
+pub record IsIndexPast (root : ℕ) (us : List ℕ) : Type 0 where
+  pub index : List ℕ
+  pub past : IsSmallPast (most_alternatives - root) index
+  pub split : us ≡ 1 ∷ index
 
 -- ---- OER: the number ("encoding of enumerated types")
 
@@ -72,7 +95,24 @@ pub record IsLengthPast (us : List ℕ) : Type 0 where
   pub definite : length ≢ 128
   pub split : us ≡ length ∷ rest
 
--- a tag past the profile begins so: those up to 62 are one octet, and others have 191 in front
-pub record IsTagPast (root : ℕ) (us : List ℕ) : Type 0 where
+-- tags of which none is of the profile begin so: with 191, and the tag as one octet
+pub record IsShortTagPast (us : List ℕ) : Type 0 where
+  pub tag : ℕ
   pub rest : List ℕ
-  pub split : us ≡ 191 ∷ rest
+  pub fits : tag < 128
+  pub past : most_alternatives ≤ tag
+  pub split : us ≡ 191 ∷ tag ∷ rest
+
+-- or with 191, and the first two octets of the tag in base 128: the first is not 128, the digit 0, and the second may be
+-- the last, which is below 128
+pub record IsLongTagPast (us : List ℕ) : Type 0 where
+  pub first : ℕ
+  pub second : ℕ
+  pub rest : List ℕ
+  pub goes_on : 128 < first
+  pub past : most_alternatives ≤ 128 * (first - 128) + second
+  pub split : us ≡ 191 ∷ first ∷ second ∷ rest
+
+-- they count the alternatives of the root too
+abbrev pub IsTagPast : ℕ → List ℕ → Type 0
+IsTagPast root us = IsShortTagPast us ⊎ IsLongTagPast us

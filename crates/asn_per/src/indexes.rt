@@ -112,7 +112,7 @@ fn read_root_index(count: usize, bits: &mut BitCursor<'_>) -> Result<usize, Stop
 /// Reads a normally small number below `count`: 0, and the number in 6 bits. It is seldom asked for; inlined, it would
 /// make `read` of `asn_walk_read` too large to be inlined itself.
 #[inline(never)]
-fn read_small_number(count: usize, bits: &mut BitCursor<'_>) -> Result<usize, Stop>
+pub fn read_small_number(count: usize, bits: &mut BitCursor<'_>) -> Result<usize, Stop>
     requires { 0 < count }
     ensures done { Reads result (λ n. n) (SmallBelow count) bits.old bits.new }
     ensures stop { StopsIn result (SmallBelow count) bits.old }

@@ -1,5 +1,6 @@
 -- Where the readers of PER stand, and what they cite at each exit.
 pub mod IndexReading
+pub mod SmallReading
 pub mod EnumeratedTypes
 pub mod ItemIndexes
 pub mod ItemReading

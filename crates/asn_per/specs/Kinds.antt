@@ -38,9 +38,13 @@ of_either (inr a) = a
 abbrev pub Below : ℕ → ℕ → ℕ → List Chunk → Type 0
 Below k values = Plain (InSet k (λ n. n < values))
 
--- the numbers below a count of at most 64: 0, and 6 bits ("normally small non-negative whole number")
+-- the numbers from 64 on and below a count, under the length of their octets ("semi-constrained whole number")
+abbrev pub LargeBelow : ℕ → ℕ → List Chunk → Type 0
+LargeBelow values = Map number_of (Counted 2 8 (Least (λ n. (64 ≤ n) × (n < values))))
+
+-- the numbers below a count: 0, and 6 bits; or 1, and one of the others ("normally small non-negative whole number")
 abbrev pub SmallBelow : ℕ → ℕ → List Chunk → Type 0
-SmallBelow values = Below 7 values
+SmallBelow values = Map of_either (Fork (Below 6 values) (LargeBelow values))
 
 -- ---- BOOLEAN and NULL
 

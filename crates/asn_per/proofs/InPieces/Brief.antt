@@ -5,7 +5,7 @@ use Rattle.std.proofs.lemmas.Int.{ints}
 use Rattle.std.proofs.lemmas.List.{length-replicate}
 use Rattle.asn_values.specs.Datum.{Datum}
 use Rattle.asn_values.specs.Fits.{lowest_integer, highest_integer}
-use Rattle.asn_values.specs.Profile.{InProfile, good_default}
+use Rattle.asn_values.specs.Profile.{InProfile, good_default, most_alternatives}
 use Rattle.asn_values.specs.Shape.{Range, SizeRange, Shape, boolean, null, integer, enumerated, bit_string, Label, MoreLabels, closed_labels, marked_labels}
 use Rattle.asn_bits.specs.Numbers.{bits, width, above, octet_count, signed_octet_count}
 use Rattle.asn_bits.proofs.Above.{pos-above}
@@ -22,7 +22,7 @@ use Rattle.asn_rules.specs.Padding.{AreUnits, Fixed}
 use Rattle.asn_rules.specs.Live.{Fielding}
 use Rattle.asn_rules.proofs.Languages.Parts.{plain_spells}
 use Rattle.asn_per.specs.Indexes.{IndexesOf}
-use Rattle.asn_per.specs.Kinds.{Values, Below, Ranged, Integers, Items}
+use Rattle.asn_per.specs.Kinds.{Values, Below, SmallBelow, Ranged, Integers, Items}
 use Rattle.asn_per.specs.ListsAhead.{RootStart, Start, other_counts}
 use Rattle.asn_per.specs.Per.{per_fields, filling, small_length}
 use Rattle.asn_per.specs.Rules.{per_ruling}
@@ -30,10 +30,11 @@ use Rattle.asn_per.specs.Walk.{per_coding}
 use Rattle.asn_per.proofs.Read.ItemIndexes.{root_items}
 use Rattle.asn_per.proofs.Read.ListsAhead.{high_small}
 use Rattle.asn_per.proofs.Types.BooleanAndNull.{booleans_compose, nulls_compose}
-use Rattle.asn_per.proofs.Types.EnumeratedLanguages.{items_compose}
+use Rattle.asn_per.proofs.Types.EnumeratedLanguages.{items_compose, few_additions}
 use Rattle.asn_per.proofs.Types.IntegerLanguages.{offsets_below}
 use Rattle.asn_per.proofs.Types.IntegerRanges.{low_above_lowest, low_below_highest, high_below_highest, low_below_high}
 use Rattle.asn_per.proofs.Types.MarkedIntegers.{integers_compose, root_of_profile}
+use Rattle.asn_per.proofs.Types.SmallNumbers.{IsLarge, one_octet}
 use Rattle.asn_per.proofs.Walk.WalkChoices.{index_spelled}
 use Rattle.asn_walk.specs.Ahead.{Ahead, items, lengths, end}
 use Rattle.asn_walk.specs.Coding.{PreambleOf, AdditionBitmapOf, AreFew, IndexOf}
@@ -58,6 +59,11 @@ few_unconstrained S within = few_counted (LeastSigned S) (λ k n h.
     let m = magnitude_below (signed_number (k, n)) w.0 w.1 in
     let c : signed_octet_count (signed_number (k, n)) ≤ 8 = signed_count_below (signed_number (k, n)) 8 (omega arith) (omega (arith, m)) in
     omega (arith, c, h.count))
+
+-- a normally small number
+few_small : (values : ℕ) → values ≤ 256 → HasFew 73 (SmallBelow values)
+few_small values few = few_map 73 (few_fork 72 (few_digits 2 6 72 (λ n. n < values) (omega arith))
+(few_map 72 (few_counted (Least (IsLarge values)) (λ k n h. (let c = one_octet n (omega (arith, few, h.member.1)) in omega (arith, c, h.count))))))
 
 -- ---- the scalars
 
@@ -88,18 +94,19 @@ few_integer b good = few_same 73 (integers_compose b good) (go b.low b.high b.ex
     go low high true good = few_map 73 (few_fork 72 (few_ranged low high (root_of_profile (record { low = low; high = high; extensible = true }) good)) (few_map 72 (few_map 72 (few_unconstrained _ (λ z h. (h.least, h.most))))))
 
 -- an item of an ENUMERATED
-few_items : (root : List Label) (more : MoreLabels) → InProfile (enumerated root more) → HasFew 9 (Items root more)
-few_items root closed_labels good = few_map 9 (few_more 8 9 (omega arith) (few_below (length root) 8 (omega (arith, (root_items root closed_labels good).few))))
+few_items : (root : List Label) (more : MoreLabels) → InProfile (enumerated root more) → HasFew 74 (Items root more)
+few_items root closed_labels good = few_map 74 (few_more 8 74 (omega arith) (few_below (length root) 8 (omega (arith, (root_items root closed_labels good).few))))
 few_items root (marked_labels more) good =
-    few_map 9 (few_fork 8 (few_map 8 (few_below (length root) 8 (omega (arith, (root_items root (marked_labels more) good).few))))
-    (few_map 8 (few_digits 2 7 8 (λ n. n < length more) (omega arith))))
+    let few = few_additions root (marked_labels more) good in
+    few_map 74 (few_fork 73 (few_map 73 (few_more 8 73 (omega arith) (few_below (length root) 8 (omega (arith, (root_items root (marked_labels more) good).few)))))
+    (few_map 73 (few_small (length more) (omega (arith, few)))))
 
 -- each of them
-few_scalar : (t : Shape) → InProfile t → IsScalar t → HasFew 73 (Values t)
-few_scalar boolean good h = few_more 1 73 (omega arith) few_boolean
-few_scalar null good h = few_more 0 73 (omega arith) few_null
-few_scalar (integer b) good h = few_integer b good
-few_scalar (enumerated root more) good h = few_more 9 73 (omega arith) (few_same 9 (items_compose root more good) (few_items root more good))
+few_scalar : (t : Shape) → InProfile t → IsScalar t → HasFew 74 (Values t)
+few_scalar boolean good h = few_more 1 74 (omega arith) few_boolean
+few_scalar null good h = few_more 0 74 (omega arith) few_null
+few_scalar (integer b) good h = few_more 73 74 (omega arith) (few_integer b good)
+few_scalar (enumerated root more) good h = few_same 74 (items_compose root more good) (few_items root more good)
 few_scalar _ good h = absurd h
 
 -- only they have a DEFAULT
@@ -116,11 +123,11 @@ default_scalar d _ e = absurd (cc)
 
 pub scalar_brief : (t : Shape) → InProfile t → IsScalar t → IsBrief per_coding (Spelt per_coding.code None t)
 unfolding per_coding
-scalar_brief t good h = brief 73 (omega arith) (few_spelt None t 73 (few_scalar t good h))
+scalar_brief t good h = brief 74 (omega arith) (few_spelt None t 74 (few_scalar t good h))
 
 pub other_brief : (d : Datum) (t : Shape) → InProfile t → good_default t d ≡ true → IsBrief per_coding (Spelt per_coding.code (Some d) t)
 unfolding per_coding
-other_brief d t good e = brief 73 (omega arith) (few_spelt (Some d) t 73 (few_scalar t good (default_scalar d t e)))
+other_brief d t good e = brief 74 (omega arith) (few_spelt (Some d) t 74 (few_scalar t good (default_scalar d t e)))
 
 -- ---- what stands in a SEQUENCE and a CHOICE
 
@@ -143,16 +150,16 @@ bitmap_brief n h = brief 71 (omega arith) (few_spelled (λ m. small_length (leng
         omega (arith, h, length-append (small_length k) (bits n m), length-digits 2 n m, length-digits 2 6 (k - 1))
 
 -- few alternatives of the root
-few_root : (root : ℕ) (more : Option ℕ) → AreFew root more → root ≤ 63
+few_root : (root : ℕ) (more : Option ℕ) → AreFew root more → root ≤ most_alternatives
 few_root root None h = h
 few_root root (Some more) h = omega (arith, h)
 
 pub index_brief : (root : ℕ) (more : Option ℕ) → AreFew root more → IsBrief per_coding (IndexOf per_coding root more)
-index_brief root more h = brief 8 (omega arith) (few_same 8 (index_spelled root more h) (go more h))
+index_brief root more h = brief 74 (omega arith) (few_same 74 (index_spelled root more h) (go more h))
   where
-    go : (more : Option ℕ) → AreFew root more → HasFew 8 (IndexesOf root more)
-    go None h = few_map 8 (few_below root 8 (omega (arith, few_root root None h)))
-    go (Some more) h = few_fork 7 (few_below root 7 (omega (arith, few_root root (Some more) h))) (few_digits 2 7 7 (λ n. n < more) (omega arith))
+    go : (more : Option ℕ) → AreFew root more → HasFew 74 (IndexesOf root more)
+    go None h = few_map 74 (few_more 8 74 (omega arith) (few_below root 8 (omega (arith, few_root root None h))))
+    go (Some more) h = few_fork 73 (few_more 8 73 (omega arith) (few_below root 8 (omega (arith, few_root root (Some more) h)))) (few_small more (omega (arith, h)))
 
 -- ---- lengths, and what stands before them
 

@@ -7,7 +7,7 @@ use Rattle.asn_values.specs.declared.types.AsnType.{AsnType}
 use Rattle.asn_values.specs.declared.types.AsnType as asn_type
 use Rattle.asn_values.specs.Shape.{Alternatives, MoreAlternatives, closed_choice, marked_choice, more_alternatives, choice, count}
 use Rattle.asn_values.specs.Parts.{AreAllOfProfile}
-use Rattle.asn_values.specs.Profile.{InProfile, EmptyRange, empty_range}
+use Rattle.asn_values.specs.Profile.{InProfile, EmptyRange, empty_range, most_alternatives}
 use Rattle.asn_values.specs.View.{shape_of, branch_of, alternatives_of, more_alternatives_of}
 use Rattle.asn_values.proofs.Alternatives.{count-of, shape_of_branch}
 use Rattle.asn_values.proofs.InnerTypes.{root_alternatives_of_profile, added_alternatives_of_profile}
@@ -90,10 +90,10 @@ module _ (t : AsnType) (root : Vec Alt Global) (ext : Option (Vec Alt Global)) (
     pub some_root : (n : ℕ) → n ≡ vec_len root → 0 < n
     some_root n e = let some = some_alternatives (alternatives_of (map branch_of root.items)) (more_alternatives_of ext) choice_good in omega (arith, some, known_count root n e)
 
-    pub few_root : (n : ℕ) → n ≡ vec_len root → n ≤ 63
+    pub few_root : (n : ℕ) → n ≡ vec_len root → n ≤ most_alternatives
     few_root n e = let few = few_choices (alternatives_of (map branch_of root.items)) (more_alternatives_of ext) choice_good in omega (arith, few, known_count root n e)
 
-    pub few_all : (n : ℕ) → n ≡ vec_len root → (additions : Vec Alt Global) → ext ≡ Some additions → n + vec_len additions ≤ 63
+    pub few_all : (n : ℕ) → n ≡ vec_len root → (additions : Vec Alt Global) → ext ≡ Some additions → n + vec_len additions ≤ most_alternatives
     few_all n e additions f =
         let few = few_choices (alternatives_of (map branch_of root.items)) (more_alternatives_of ext) choice_good in
         let more : count (more_alternatives (more_alternatives_of ext)) ≡ vec_len additions = ap count (added_alternatives ext additions additions.items f refl) ∙ count-of additions.items ∙ sym additions.ok.0 in

@@ -17,6 +17,7 @@ use Rattle.asn_per.specs.Indexes.{IndexesOf}
 use Rattle.asn_per.specs.Kinds.{Below, SmallBelow}
 use Rattle.asn_per.specs.Per.{per_fields}
 use Rattle.asn_per.specs.Reading.{StopsAtMark}
+use Rattle.asn_per.proofs.Types.SmallNumbers.{small_spelled, small_lawful}
 use Rattle.asn_rules.specs.Stops.{Stops}
 use Rattle.asn_rules.specs.declared.stop.Stop.{Stop}
 use Rattle.asn_rules.specs.declared.stop.Stop.TheVariants as stop
@@ -52,7 +53,7 @@ fork_stops i us stop.Memory h = absurd h
 -- two indexes are spelt alike only where they are one
 pub indexes_lawful : (root : ℕ) (more : Option ℕ) → Lawful (IndexesOf root more)
 indexes_lawful root None = map_lawful_on (λ a b x y p q e. cc) (set_lawful 2 (width root) (λ n. n < root))
-indexes_lawful root (Some more) = fork_lawful (set_lawful 2 (width root) (λ n. n < root)) (set_lawful 2 7 (λ n. n < more))
+indexes_lawful root (Some more) = fork_lawful (set_lawful 2 (width root) (λ n. n < root)) (small_lawful more)
 
 module _ (root more : ℕ) (some : 0 < root) where
   -- no bit is left
@@ -63,7 +64,7 @@ module _ (root more : ℕ) (some : 0 < root) where
   one_refused : more ≡ 0 → (us after : List ℕ) → us ≡ 1 ∷ after → Refused per_fields (IndexesOf root (Some more)) us (length after)
   one_refused none us after e =
       subst (λ (bs : List ℕ). Refused per_fields (IndexesOf root (Some more)) bs (length after)) (sym e)
-      (fork_refused per_fields_part (fork_inhabited_zero (below_inhabited root some)) 1 after (λ f. absurd (omega arith)) (λ f i. absurd (let m = i.spelt.spelt.member in omega (arith, m))))
+      (fork_refused per_fields_part (fork_inhabited_zero (below_inhabited root some)) 1 after (λ f. absurd (omega arith)) (λ f i. absurd (omega (arith, none, ((small_spelled more (omega (arith, none))).to i.value i.chunks i.spelt).fits)))
 
   -- so stops the reader of the extension bit
   pub index_stops : (us : List ℕ) (why : Stop) → StopsAtMark (nat_lt 0 more) us why → Stops per_fields (IndexesOf root (Some more)) us why

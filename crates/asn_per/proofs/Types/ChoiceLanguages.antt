@@ -71,7 +71,7 @@ added_code root more (alternative i v) = ones (small (i - count root)) ++ an_ope
 added_code root more _ = []
 
 -- a small index and an open field are an addition
-added_spelled : (root more : Alternatives) → count more ≤ 64 → AreAllOfProfile more → Same (AddedChoices (count root) more) (SpelledBy (IsAdded root more) (added_code root more))
+added_spelled : (root more : Alternatives) → count more ≤ 256 → AreAllOfProfile more → Same (AddedChoices (count root) more) (SpelledBy (IsAdded root more) (added_code root more))
 added_spelled root more few good = same_after (same_map (same_after (same_then (small_spelled (count more) few) (λ i. open_chosen_spelled more i good)) then_spelled)) (map_spelled there back)
   where
     there : (p : ℕ × Datum) → (p.0 < count more) × FitsAlternative more p.0 p.1
@@ -125,7 +125,7 @@ closed_is root (alternative i v) h = go (nat_lt i (count root)) refl h
 closed_is root _ h = absurd h
 
 -- a CHOICE has few alternatives
-pub few_choices : (root : Alternatives) (more : MoreAlternatives) → InProfile (choice root more) → count root + count (more_alternatives more) ≤ 63
+pub few_choices : (root : Alternatives) (more : MoreAlternatives) → InProfile (choice root more) → count root + count (more_alternatives more) ≤ most_alternatives
 few_choices root more good =
     let all : somewhere too_many_here (choice root more) ≡ false = left_false (somewhere too_many_here (choice root more)) (nat_lt most_nodes (nodes (choice root more))) (good TooMany) in
     let here : nat_lt most_alternatives (count root + count (more_alternatives more)) ≡ false = left_false (nat_lt most_alternatives (count root + count (more_alternatives more))) (some_alternative too_many_here root || some_more too_many_here more) all in

@@ -58,7 +58,7 @@ added_code root (item p) = ones (small (p - length root))
 added_code root _ = []
 
 -- a small number is an addition
-added_spelled : (root more : List Label) → length more ≤ 64 → Same (Map (λ k. item (length root + k)) (SmallBelow (length more))) (SpelledBy (IsAddedItem root more) (added_code root))
+added_spelled : (root more : List Label) → length more ≤ 256 → Same (Map (λ k. item (length root + k)) (SmallBelow (length more))) (SpelledBy (IsAddedItem root more) (added_code root))
 added_spelled root more few = same_after (same_map (small_spelled (length more) few)) (map_spelled there back)
   where
     there : (k : ℕ) → k < length more → IsAddedItem root more (item (length root + k)) × (ones (small k) ≡ added_code root (item (length root + k)))
@@ -101,8 +101,8 @@ closed_is root _ h = absurd h
 pub root_once : (root : List Label) (more : MoreLabels) → InProfile (enumerated root more) → has_twice int_eq (numbers root) ≡ false
 root_once root more good = left_false _ _ (good BadEnumeration)
 
--- and the additions at most 64
-pub few_additions : (root : List Label) (more : MoreLabels) → InProfile (enumerated root more) → length (more_labels more) ≤ 64
+-- and there are few additions
+pub few_additions : (root : List Label) (more : MoreLabels) → InProfile (enumerated root more) → length (more_labels more) ≤ most_item_additions
 few_additions root more good =
     let here : too_many_here (enumerated root more) ≡ false = left_false (too_many_here (enumerated root more)) (nat_lt most_nodes (nodes (enumerated root more))) (good TooMany) in
     ltb-false most_item_additions (length (more_labels more)) (right_false (nat_lt most_items (length root + length (more_labels more))) (nat_lt most_item_additions (length (more_labels more))) here)
@@ -111,4 +111,4 @@ few_additions root more good =
 pub items_compose : (root : List Label) (more : MoreLabels) → InProfile (enumerated root more) → Same (Items root more) (Values (enumerated root more))
 items_compose root closed_labels good = same_after (root_spelled root (root_once root closed_labels good)) (same_spelled (λ v h. (closed_there root v h).0) (closed_is root) (λ v h. (closed_there root v h).1))
 items_compose root (marked_labels more) good =
-    same_after (same_map (same_after (same_fork (root_spelled root (root_once root (marked_labels more) good)) (added_spelled root more (few_additions root (marked_labels more) good))) fork_spelled)) (map_spelled (either_there root more) (either_back root more))
+    same_after (same_map (same_after (same_fork (root_spelled root (root_once root (marked_labels more) good)) (added_spelled root more (omega (arith, few_additions root (marked_labels more) good)))) fork_spelled)) (map_spelled (either_there root more) (either_back root more))

@@ -1,8 +1,8 @@
 -- CHOICE in PER is an index and a value after it, as the walk over all types puts it together.
-use Rattle.std.proofs.Common.{◌≡◌, ◌<◌, ◌+◌, ◌⊎◌, inl, inr, ℕ, zero, suc, true, List, ◌∷◌, ◌++◌, Option, Some, None, refl, sym, ap, ◌∙◌, subst, arith}
+use Rattle.std.proofs.Common.{◌≡◌, ◌≤◌, ◌<◌, ◌+◌, ◌⊎◌, inl, inr, ℕ, zero, suc, true, List, ◌∷◌, ◌++◌, Option, Some, None, IfSome, refl, sym, ap, ◌∙◌, subst, arith}
 use Rattle.asn_values.specs.Datum.{Datum, alternative}
 use Rattle.asn_values.specs.Shape.{Alternatives, no_alternatives, one_of, MoreAlternatives, closed_choice, marked_choice, more_alternatives, choice, count}
-use Rattle.asn_values.specs.Profile.{InProfile}
+use Rattle.asn_values.specs.Profile.{InProfile, most_items}
 use Rattle.asn_bits.specs.Numbers.{width}
 use Rattle.asn_rules.specs.Chunks.{Chunk, one, ones}
 use Rattle.asn_rules.specs.Forks.{Branch, Same}
@@ -47,6 +47,11 @@ index_spelled root (Some more) few = same_after (same_after (same_fork (below_sp
     code : (i : ℕ ⊎ ℕ) → FitsEither (λ n. n < root) (λ n. n < more) i → either_code (λ n. ones (constrained root n)) (λ n. ones (small n)) i ≡ ones (index_bits root true i)
     code (inl n) h = refl
     code (inr n) h = refl
+
+-- there are few additions
+pub few_added : (root : ℕ) (more : Option ℕ) → AreFew root more → IfSome more (λ n. n ≤ most_items)
+few_added root None few = tt
+few_added root (Some more) few = omega (arith, few)
 
 -- so two are one or part
 pub walk_index : (root : ℕ) (more : Option ℕ) → AreFew root more → Lawful (IndexOf per_coding root more)

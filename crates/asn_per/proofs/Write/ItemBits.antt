@@ -7,7 +7,7 @@ use Rattle.asn_values.specs.declared.types.Item.{Item}
 use Rattle.asn_values.specs.Datum.{item}
 use Rattle.asn_values.specs.Shape.{Label, MoreLabels, closed_labels, marked_labels, has_more_labels, enumerated}
 use Rattle.asn_values.specs.Fits.{Fits}
-use Rattle.asn_values.specs.Profile.{InProfile}
+use Rattle.asn_values.specs.Profile.{InProfile, most_items}
 use Rattle.asn_values.specs.View.{label_of, more_labels_of}
 use Rattle.asn_rules.specs.Chunks.{ones, flat}
 use Rattle.asn_rules.specs.Components.{number_at}
@@ -38,9 +38,9 @@ bits_of_addition root (marked_labels ls) p h e =
     ap (λ (b : Bool). flat spelled (ones (after_mark (λ u. u) true b (constrained (length root) (rank root (number_at root p))) (small (p - length root))))) (le-ltb p (length root) h)
     ∙ flat-ones spelled (1 ∷ small (p - length root))
 
--- an index after the root is that of one of at most 64 additions, and there is a mark
+-- an index after the root is that of one of the additions, of which there are few, and there is a mark
 pub addition_there : (root : List Item) (more : Option (Vec Item)) (p : ℕ) → InProfile (enumerated (map label_of root) (more_labels_of more)) → Fits (enumerated (map label_of root) (more_labels_of more)) (item p) → length root ≤ p
-    → (p - length root < 64) × (has_more_labels (more_labels_of more) ≡ true)
+    → (p - length root < most_items) × (has_more_labels (more_labels_of more) ≡ true)
 addition_there root None p good fits h = let e : length (map label_of root) ≡ length root = simp length-map in absurd (omega (arith, e, fits))
 addition_there root (Some v) p good fits h =
     let e : length (map label_of root) ≡ length root = simp length-map in

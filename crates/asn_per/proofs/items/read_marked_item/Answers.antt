@@ -4,7 +4,7 @@ use Rattle.std.proofs.lemmas.Result.{err_from_is_err_and}
 use Rattle.asn_values.specs.declared.types.Item.{Item}
 use Rattle.asn_values.specs.Datum.{item}
 use Rattle.asn_values.specs.Shape.{enumerated, marked_labels}
-use Rattle.asn_values.specs.Profile.{InProfile}
+use Rattle.asn_values.specs.Profile.{InProfile, most_items, most_item_additions}
 use Rattle.asn_values.specs.View.{label_of}
 use Rattle.asn_rules.specs.Languages.{Spells}
 use Rattle.asn_rules.specs.Stops.{Stops}
@@ -20,7 +20,7 @@ use Rattle.asn_per.proofs.items.read_marked_item.Goals as goal
 
 -- the profile has items in the root, and few
 module _ (root additions : List Item) (good : InProfile (enumerated (map label_of root) (marked_labels (map label_of additions)))) where
-  few : (0 < length root) × (length root ≤ 256) × (length additions ≤ 64)
+  few : (0 < length root) × (length root ≤ most_items) × (length additions ≤ most_item_additions)
   few =
       let r = root_items (map label_of root) (marked_labels (map label_of additions)) good in
       let a = few_additions (map label_of root) (marked_labels (map label_of additions)) good in
@@ -31,7 +31,9 @@ module _ (root additions : List Item) (good : InProfile (enumerated (map label_o
   lengths = (simp length-map, simp length-map)
 
 pub read_index-requires : goal.read_index-requires
-read_index-requires c = record { some = (few c.args.root.now c.args.more.now c.requires.of_profile).0 }
+read_index-requires c =
+    let f = few c.args.root.now c.args.more.now c.requires.of_profile in
+    record { some = f.0; few = omega (arith, f.2) }
 
 pub returns-in_err-index-clause-stop : goal.returns-in_err-index-clause-stop
 returns-in_err-index-clause-stop c =

@@ -4,8 +4,11 @@ use Rattle.asn_rules.proofs.Languages.Leads.{stops_by, leads_same}
 use Rattle.asn_per.specs.Per.{per_fields}
 use Rattle.asn_per.specs.Rules.{per_ruling}
 use Rattle.asn_per.specs.Walk.{per_coding}
-use Rattle.asn_per.proofs.Walk.WalkChoices.{index_spelled}
+use Rattle.asn_per.proofs.Walk.WalkChoices.{index_spelled, few_added}
 use Rattle.asn_per.proofs.read_leaves.PerReadLeaves.read_index.Goals as goal
+
+pub read_index-requires-clause-few : goal.read_index-requires-clause-few
+read_index-requires-clause-few c = few_added c.args.root c.args.additions c.requires.few
 
 pub returns-clause-done : goal.returns-clause-done
 unfolding per_coding per_ruling

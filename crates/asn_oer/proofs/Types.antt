@@ -8,6 +8,7 @@ pub mod FilledLanguages
 pub mod ListLanguages
 pub mod OpenTypes
 pub mod ChoiceLanguages
+pub mod TagLanguages
 pub mod ComponentLanguages
 pub mod AdditionLanguages
 pub mod SequenceLanguages

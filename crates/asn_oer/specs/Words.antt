@@ -22,10 +22,11 @@ pub use Rattle.asn_walk.specs.Items.{enumeration_of, items_of}
 pub use Rattle.asn_walk.specs.Laws.{IsSizeOfProfile, Laws}
 pub use Rattle.asn_walk.specs.Writing.{TellsWhether}
 pub use Rattle.asn_oer.specs.BitsWritten.{bits_header}
+pub use Rattle.asn_oer.specs.Constructed.{LongTagOctet, LongTags, Tags}
 pub use Rattle.asn_oer.specs.ElementsAhead.{ahead_of}
 pub use Rattle.asn_oer.specs.Kinds.{KindsCompose}
 pub use Rattle.asn_oer.specs.LeafReading.{ItemsBut, BeginsWith, BeginsOtherwise, BitStringsOf, OctetStringsOf, TextsOf}
-pub use Rattle.asn_oer.specs.Oer.{oer_octets, item_number, unsigned_octets, signed_size, ranged, bit_octets, sized_octets, oer, oer_fields}
+pub use Rattle.asn_oer.specs.Oer.{oer_octets, item_number, unsigned_octets, signed_size, ranged, bit_octets, sized_octets, tag, oer, oer_fields}
 pub use Rattle.asn_oer.specs.Reading.{IntegersBut, IsBelowZero, IsCounted, ValuesOf, BooleansBut, TruthOctet, Reads, ReadsSome, StopsIn}
 pub use Rattle.asn_oer.specs.Rules.{oer_ruling}
 pub use Rattle.asn_oer.specs.Strings.{Utf8Strings}

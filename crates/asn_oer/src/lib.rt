@@ -11,6 +11,7 @@ mod rules;
 mod session;
 mod single_items;
 mod string_reader;
+mod tags;
 mod text_items;
 mod write_leaves;
 

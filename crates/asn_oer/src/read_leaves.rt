@@ -6,6 +6,7 @@ use crate::enumerated::read_item;
 use crate::integer::{read_integer, try_fixed};
 use crate::rules::Oer;
 use crate::string_reader::{read_bit_string, read_octet_string, read_text, read_utf8_string};
+use crate::tags::read_tag;
 use asn_bits::internal::at_offset;
 use asn_bits::{BitCursor, Intervals};
 use asn_rules::internal::{
@@ -124,9 +125,8 @@ impl ReadLeaves for Oer {
         additions: Option<usize>,
         units: &mut BitCursor<'_>,
     ) -> Result<Index, Stop> {
-        // the octet of a context-specific tag, which counts the alternatives from 0, root first
-        let tags = numbers(128, 127 + (root + additions.unwrap_or(0)) as u64);
-        let tag = (read_octets(1, tags, Why::Number, units)? - 128) as usize;
+        // tags count the alternatives from 0, root first
+        let tag = read_tag(root + additions.unwrap_or(0), units)?;
         if tag < root {
             Ok(Index::Root(tag))
         } else {

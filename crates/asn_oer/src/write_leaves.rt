@@ -7,6 +7,7 @@ ghost use Rattle.asn_sinks.specs.declared.sink.Framing.TheVariants as framing;
 use crate::enumerated::write_item;
 use crate::integer::write_integer;
 use crate::rules::Oer;
+use crate::tags::write_tag;
 use asn_rules::Unwritten;
 use asn_rules::internal::{
     unused_bits, write_content, write_filling, write_flags, write_least, write_length,
@@ -105,8 +106,7 @@ impl WriteLeaves for Oer {
             Index::Root(index) => index,
             Index::Added(index) => root + index,
         };
-        // a type of the profile has tags up to 62, which one octet tells
-        sink.push_low_octets(1, 128 + tag as u64)
+        write_tag(tag, sink)
     }
 
     #[inline(always)]

@@ -15,7 +15,7 @@ use Rattle.asn_rules.specs.Filled.{filled_bits}
 use Rattle.asn_rules.specs.IntegerSets.{magnitude_of}
 use Rattle.asn_oer.specs.Oer.{counted, counted_signed, unsigned_octets, unsigned_in, signed_size, signed_in, ranged, whole_number, variable_bits, bit_octets, sized_octets, item_number, tag}
 use Rattle.asn_oer.proofs.Law.Integers.{unsigned_cases, signed_cases}
-use Rattle.asn_oer.proofs.Law.Leaves.{tag_is}
+use Rattle.asn_oer.proofs.Law.TagForms.{few_tag_octets, tag_octets}
 use Rattle.asn_oer.proofs.Encodings.Spelt.{Short, short_more, octets_short, few_octets, short_spelled}
 
 -- a content of at most 2 ^ 29 octets with its length
@@ -162,6 +162,6 @@ quantity_short n h =
     let few = few_octets n in
     spelled_short 268435456 (least n) (omega arith) (short_more (octet_count n) 268435456 (least n) (omega arith) (octets_short (octet_count n) n))
 
--- a tag of the profile
-pub tag_short : (t : ℕ) → t < 63 → Short 1 (tag t)
-tag_short t h = subst (Short 1) (sym (tag_is t h)) (record { octets = (omega arith, tt); most = omega arith })
+-- a tag
+pub tag_short : (t : ℕ) → t < 16384 → Short 3 (tag t)
+tag_short t h = record { octets = tag_octets t h; most = few_tag_octets t h }

@@ -120,8 +120,8 @@ mutual
       let k = max (choice_depth root) (more_choice_depth more) in
       let some = room_some k in
       let few = few_alternatives root more h in
-      spelt_more (1 + (2 * room k + 2)) (room (suc k)) (oer (choice root more) (alternative i e)) (omega (arith, room_next k))
-      (spelt_append 1 (2 * room k + 2) (ones (tag i)) _ (spelt_ones 1 (tag i) (tag_short i (omega (arith, tag_below root more i e f))))
+      spelt_more (3 + (2 * room k + 2)) (room (suc k)) (oer (choice root more) (alternative i e)) (omega (arith, room_next k))
+      (spelt_append 3 (2 * room k + 2) (ones (tag i)) _ (spelt_ones 3 (tag i) (tag_short i (omega (arith, few, tag_below root more i e f))))
       (go (nat_lt i (count root)) f (λ p. alternative_spelt root (choice_good root more h) k (omega arith) (omega arith) i e p) (λ p. other_spelt root more h k (omega arith) (omega arith) (i - count root) e p)))
     where
       go : (b : Bool) → MatchBool b (FitsAlternative root i e) (FitsMoreAlternatives more (i - count root) e)

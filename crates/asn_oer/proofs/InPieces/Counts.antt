@@ -27,7 +27,7 @@ use Rattle.asn_walk_feed.specs.Feeding.{NextOf}
 use Rattle.asn_oer.specs.Constructed.{Quantity}
 use Rattle.asn_oer.specs.Oer.{tag, variable_bits}
 use Rattle.asn_oer.specs.Walk.{oer_coding, tag_of}
-use Rattle.asn_oer.proofs.Law.Leaves.{tag_is}
+use Rattle.asn_oer.proofs.Law.TagForms.{few_tag_octets}
 use Rattle.asn_oer.proofs.Read.IndexReading.{tag_within}
 use Rattle.asn_oer.proofs.Read.PreambleReading.{bitmap_front, bitmap_is}
 use Rattle.asn_oer.proofs.InPieces.Brief.{HasFew, few_nothing, few_map, few_then, few_more, few_spelled, few_digits, few_same}
@@ -104,7 +104,8 @@ pub index_few : (root : ℕ) (more : Option ℕ) → AreFew root more → HasFew
 unfolding oer_coding
 index_few root more few = few_spelled (λ i. tag (tag_of root i)) 16 (λ i h.
     (let w = tag_within root more i few h in
-    omega (arith, ap length (tag_is (tag_of root i) (omega (arith, w.0, w.1))))))
+    let l = few_tag_octets (tag_of root i) (omega (arith, w.0, w.1)) in
+    omega (arith, l)))
 
 -- ---- lengths between fragments, which OER has none of
 

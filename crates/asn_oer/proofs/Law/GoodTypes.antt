@@ -5,7 +5,7 @@ use Rattle.std.proofs.lemmas.Bool.{ltb-true, ltb-false, or_parts}
 use Rattle.asn_values.specs.Datum.{Datum}
 use Rattle.asn_values.specs.Shape.{Shape, sequence, choice, Demand, Fields, field, MoreFields, marked, Alternatives, no_alternatives, one_of, MoreAlternatives, closed_choice, marked_choice, more_alternatives, count}
 use Rattle.asn_values.specs.Fits.{FitsAlternative, FitsMoreAlternatives}
-use Rattle.asn_values.specs.Profile.{InProfile, BadEnumeration, TooMany, bad_enumeration, too_many_here, most_nodes, somewhere, some_field, some_addition, some_alternative, some_more}
+use Rattle.asn_values.specs.Profile.{InProfile, BadEnumeration, TooMany, bad_enumeration, too_many_here, most_alternatives, most_nodes, somewhere, some_field, some_addition, some_alternative, some_more}
 use Rattle.asn_values.specs.Measures.{nodes}
 
 -- no ENUMERATED inside has bad numbers, and nothing inside too many parts
@@ -71,9 +71,9 @@ choice_additions_good root alts h =
     let b = or_parts (some_alternative too_many_here root) (some_alternative too_many_here alts) (or_parts (too_many_here (choice root (marked_choice alts))) _ h.parts).1 in
     record { numbers = a.1; parts = b.1 }
 
--- there are at most 63 alternatives
-pub few_alternatives : (root : Alternatives) (more : MoreAlternatives) → Good (choice root more) → count root + count (more_alternatives more) ≤ 63
-few_alternatives root more h = ltb-false 63 (count root + count (more_alternatives more)) (or_parts (too_many_here (choice root more)) _ h.parts).0
+-- there are no more alternatives than the profile allows
+pub few_alternatives : (root : Alternatives) (more : MoreAlternatives) → Good (choice root more) → count root + count (more_alternatives more) ≤ most_alternatives
+few_alternatives root more h = ltb-false most_alternatives (count root + count (more_alternatives more)) (or_parts (too_many_here (choice root more)) _ h.parts).0
 
 -- ---- the tags of a CHOICE
 

@@ -22,7 +22,8 @@ use Rattle.asn_rules.proofs.Octets.OctetFields.{spelled_code}
 use Rattle.asn_oer.specs.Oer.{whole_number, bit_octets, sized_octets, item_number, tag, variable_bits, truth_octet, an_open_field, oer, oer_each, oer_open, oer_additions, oer_alternative, oer_more}
 use Rattle.asn_oer.proofs.Law.GoodTypes.{Good, GoodFields, GoodAlternatives, good, first_good, rest_good, here_good, later_good, root_good, additions_good, choice_good, choice_additions_good, few_alternatives, tag_below}
 use Rattle.asn_oer.proofs.Law.Integers.{number_code}
-use Rattle.asn_oer.proofs.Law.Leaves.{item_code, tag_code}
+use Rattle.asn_oer.proofs.Law.Leaves.{item_code}
+use Rattle.asn_oer.proofs.Law.TagForms.{tag_code}
 use Rattle.asn_oer.proofs.Law.Strings.{sized_code, bits_code, variable_code}
 
 -- ---- parts
@@ -140,7 +141,7 @@ mutual
       let few = few_alternatives root more h in
       let rest : ℕ → Datum → List Chunk = λ t e. elim (nat_lt t (count root)) [ true ↦ oer_alternative root t e | false ↦ oer_more more (t - count root) e ] in
       facing_parts spelled E (ones (tag i)) (rest i a) r (ones (tag j)) (rest j c) s
-      (code_facing spelled (λ t. t < 63) tag tag_code E i j _ _ (omega (arith, tag_below root more i a p)) (omega (arith, tag_below root more j c q))
+      (code_facing spelled (λ t. t < 16384) tag tag_code E i j _ _ (omega (arith, few, tag_below root more i a p)) (omega (arith, few, tag_below root more j c q))
       (λ same. (let q' : MatchBool (nat_lt i (count root)) (FitsAlternative root i c) (FitsMoreAlternatives more (i - count root) c) =
       subst (λ k. MatchBool (nat_lt k (count root)) (FitsAlternative root k c) (FitsMoreAlternatives more (k - count root) c)) (sym same) q in
       subst (λ k. Face E (rest i a ++ r) (rest k c ++ s)) same

@@ -1,23 +1,20 @@
 -- CHOICE in OER is a tag, which decides, and a value of the alternative, of an addition in an open field.
-use Rattle.std.proofs.Common.{◌≡◌, ◌≤◌, ◌<◌, ◌+◌, ◌-◌, ℕ, zero, suc, Bool, true, false, List, [], ◌∷◌, ◌++◌, MatchBool, nat_lt, sym, ap, ◌∙◌, subst, arith}
+use Rattle.std.proofs.Common.{◌≡◌, ◌≤◌, ◌<◌, ◌+◌, ◌-◌, ℕ, zero, suc, Bool, true, false, List, ◌++◌, MatchBool, nat_lt, refl, arith}
 use Rattle.asn_values.specs.Datum.{Datum, alternative}
 use Rattle.asn_values.specs.Shape.{choice, Alternatives, no_alternatives, one_of, MoreAlternatives, closed_choice, marked_choice, more_alternatives, count}
 use Rattle.asn_values.specs.Fits.{Fits, FitsAlternative, FitsMoreAlternatives, FitsChoice}
 use Rattle.asn_values.specs.Profile.{InProfile}
 use Rattle.asn_values.specs.Parts.{AreAllOfProfile}
 use Rattle.asn_values.proofs.InnerTypes.{added_alternatives_of_profile}
-use Rattle.asn_bits.specs.Numbers.{digits}
 use Rattle.asn_rules.specs.Chunks.{Chunk, ones}
-use Rattle.asn_bits.specs.Sets.{Between}
 use Rattle.asn_rules.specs.Forks.{Same}
 use Rattle.asn_rules.specs.Spellings.{SpelledBy}
-use Rattle.asn_bits.proofs.LengthsInOctets.{one_is}
-use Rattle.asn_rules.proofs.Languages.Spellings.{same_after, same_then, same_map, digits_spelled, map_spelled, then_spelled}
+use Rattle.asn_rules.proofs.Languages.Spellings.{same_after, same_then, same_map, map_spelled, then_spelled}
 use Rattle.asn_oer.specs.Oer.{tag, an_open_field, oer, oer_alternative, oer_more}
 use Rattle.asn_oer.specs.Constructed.{Values, InOpenField, OneOf, OneOfMore, Alternative, alternative_told, Choices}
 use Rattle.asn_oer.proofs.Law.GoodTypes.{good, few_alternatives, tag_below}
-use Rattle.asn_oer.proofs.Law.Leaves.{tag_is}
 use Rattle.asn_oer.proofs.Types.OpenTypes.{open_language}
+use Rattle.asn_oer.proofs.Types.TagLanguages.{tags_spelled}
 
 -- no value has a spelling
 none_spelled : (P : Datum → Type 0) (code : Datum → List Chunk) → ((d : Datum) → P d → ⊥) → Same (λ d cs. ⊥) (SpelledBy P code)
@@ -58,32 +55,19 @@ module _ (root : Alternatives) (more : MoreAlternatives) (h : InProfile (choice 
   abbrev total : ℕ
   total = count root + count (more_alternatives more)
 
-  -- at most 63
-  few : total ≤ 63
-  few = few_alternatives root more (good (choice root more) h)
-
-  -- the octet is the tag
-  tag_octet : (b : ℕ) → Between 128 (127 + total) b → ones (digits 256 1 b) ≡ ones (tag (b - 128))
-  tag_octet b s =
-      let l : b < 256 = omega (arith, few, s.1) in
-      let t : b - 128 < 63 = omega (arith, few, s.0, s.1) in
-      let e : 128 + (b - 128) ≡ b = omega (arith, s.0) in
-      ap ones (one_is b l ∙ ap (λ (i : ℕ). i ∷ []) (sym e) ∙ sym (tag_is (b - 128) t))
+  -- at most 16384
+  few : total ≤ 16384
+  few = (let w = few_alternatives root more (good (choice root more) h) in omega (arith, w))
 
   -- CHOICE
   pub choice_language : Same (Choices root more) (Values (choice root more))
   choice_language =
-      same_after
-      (same_map (same_after (same_then (digits_spelled 256 1 (Between 128 (127 + total)) (λ n s. omega (arith, few, s.1))) (λ b. alternative_language (b - 128))) then_spelled))
-      (map_spelled there back)
+      same_after (same_map (same_after (same_then (tags_spelled total few) alternative_language) then_spelled)) (map_spelled there back)
     where
-      there : (p : ℕ × Datum) → Between 128 (127 + total) p.0 × FitsChoice root more (p.0 - 128) p.1
-          → Fits (choice root more) (alternative_told p) × (ones (digits 256 1 p.0) ++ after_tag (p.0 - 128) p.1 ≡ oer (choice root more) (alternative_told p))
-      there p f = (f.1, ap (λ (l : List Chunk). l ++ after_tag (p.0 - 128) p.1) (tag_octet p.0 f.0))
+      there : (p : ℕ × Datum) → (p.0 < total) × FitsChoice root more p.0 p.1
+          → Fits (choice root more) (alternative_told p) × (ones (tag p.0) ++ after_tag p.0 p.1 ≡ oer (choice root more) (alternative_told p))
+      there p f = (f.1, refl)
 
-      back : (v : Datum) → Fits (choice root more) v → (p : ℕ × Datum) × (Between 128 (127 + total) p.0 × FitsChoice root more (p.0 - 128) p.1) × (v ≡ alternative_told p)
-      back (alternative t d) f =
-          let l : t < total = tag_below root more t d f in
-          let e : t ≡ 128 + t - 128 = omega arith in
-          ((128 + t, d), ((omega arith, omega arith), subst (λ (i : ℕ). FitsChoice root more i d) e f), ap (λ (i : ℕ). alternative i d) e)
+      back : (v : Datum) → Fits (choice root more) v → (p : ℕ × Datum) × ((p.0 < total) × FitsChoice root more p.0 p.1) × (v ≡ alternative_told p)
+      back (alternative t d) f = ((t, d), (tag_below root more t d f, f), refl)
       back _ f = absurd f

@@ -38,7 +38,7 @@ use Rattle.asn_oer.specs.Oer.{oer, variable_bits, tag}
 use Rattle.asn_oer.specs.Rules.{oer_ruling}
 use Rattle.asn_oer.specs.Walk.{oer_coding, tag_of}
 use Rattle.asn_oer.proofs.Read.IndexReading.{tag_within}
-use Rattle.asn_oer.proofs.Law.Leaves.{tag_is}
+use Rattle.asn_oer.proofs.Law.TagForms.{tags_part}
 use Rattle.asn_oer.proofs.Types.ListLanguages.{sequence_of_language}
 use Rattle.asn_oer.proofs.Read.PreambleReading.{bitmap_front, bitmap_is}
 use Rattle.asn_oer.proofs.Encodings.Tells.{oer_tells}
@@ -183,15 +183,14 @@ walk_addition_bitmap n = fixed_lawful (λ m. variable_bits (bits n m)) count tel
 
 walk_index : (root : ℕ) (more : Option ℕ) → AreFew root more → Lawful (IndexOf oer_coding root more)
 unfolding oer_coding
-walk_index root more few = fixed_lawful (λ i. tag (tag_of root i))
-    (λ i j f g. ap length (tag_is (tag_of root i) (below i f)) ∙ sym (ap length (tag_is (tag_of root j) (below j g))))
-    (λ i j f g e. one more i j f g (same (sym (tag_is (tag_of root i) (below i f)) ∙ e ∙ tag_is (tag_of root j) (below j g))))
+walk_index root more few = spelled_lawful (λ i j f g.
+    ⊎_elim
+    (λ e. inl (one more i j f g e, ap (λ (t : ℕ). ones (tag t)) e))
+    (λ n. inr (λ e. n (ap (tag_of root) e), tags_part (tag_of root i) (tag_of root j) (below i f) (below j g) n))
+    (cases_eq (tag_of root i) (tag_of root j)))
   where
-    below : (i : ℕ ⊎ ℕ) → IsIndexWithin root more i → tag_of root i < 63
+    below : (i : ℕ ⊎ ℕ) → IsIndexWithin root more i → tag_of root i < 16384
     below i h = (let w = tag_within root more i few h in omega (arith, w.0, w.1))
-
-    same : {a b : ℕ} → (128 + a) ∷ [] ≡ (128 + b) ∷ [] → a ≡ b
-    same {a} {b} e = let h : 128 + a ≡ 128 + b = cc in omega arith
 
     one : (more : Option ℕ) (i j : ℕ ⊎ ℕ) → IsIndexWithin root more i → IsIndexWithin root more j → tag_of root i ≡ tag_of root j → i ≡ j
     one more (inl n) (inl m) f g e = ap inl e

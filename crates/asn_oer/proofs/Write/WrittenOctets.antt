@@ -1,11 +1,12 @@
 -- The bits of the octets that the writers of OER write.
-use Rattle.std.proofs.Common.{◌≡◌, ◌<◌, ◌+◌, ℕ, zero, suc, ℤ, List, [], ◌∷◌, ◌++◌, length, sym, ◌∙◌, ap, arith, append_assoc, length-append}
+use Rattle.std.proofs.Common.{◌≡◌, ◌≤◌, ◌<◌, ◌+◌, ◌*◌, ◌/◌, ◌%◌, ℕ, zero, suc, ℤ, List, [], ◌∷◌, ◌++◌, length, refl, sym, ◌∙◌, ap, arith, append_assoc, length-append}
 use Rattle.asn_bits.specs.Lengths.{octet_length, general_octets, joined}
-use Rattle.asn_bits.specs.Numbers.{bits, octet_count, least, least_signed, magnitude, padding, unpacked}
+use Rattle.asn_bits.specs.Numbers.{bits, octets, octet_count, least, least_signed, magnitude, padding, unpacked}
 use Rattle.asn_bits.proofs.FilledBits.{AreBits, length-padding, filled_up, filled_up_bits, filled_up_fills, unpacked-packed, length-packed}
 use Rattle.asn_bits.proofs.LeastLengths.{general_short}
 use Rattle.asn_bits.proofs.Octets.{length-digits, octet_count_below, length-least_signed, signed_count_below}
-use Rattle.asn_bits.proofs.Splits.{unpacked-append}
+use Rattle.asn_bits.proofs.Splits.{unpacked-append, unpacked-octets}
+use Rattle.asn_bits.proofs.Weights.{digits_only}
 use Rattle.asn_rules.specs.Chunks.{Chunk, ones, flat}
 use Rattle.asn_rules.proofs.Live.Flat.{flat-append, flat-ones}
 use Rattle.asn_rules.specs.Fields.{spelled}
@@ -14,7 +15,7 @@ use Rattle.asn_rules.proofs.Octets.OctetsWritten.{one_octet, short_length, conte
 use Rattle.asn_oer.specs.BitsWritten.{bits_header}
 use Rattle.asn_oer.specs.Oer.{counted_signed, variable_bits, tag}
 use Rattle.asn_oer.specs.Walk.{counted_items}
-use Rattle.asn_oer.proofs.Law.Leaves.{tag_is}
+use Rattle.asn_oer.proofs.Law.TagForms.{tag_is, long_tag_is, base_is, base_in_two}
 
 -- ---- lengths
 
@@ -78,9 +79,23 @@ header_bits old mid n l u a b m =
 
 -- ---- tags and items
 
--- a tag of the profile
+-- a tag of one octet
 pub tag_bits : (t : ℕ) → t < 63 → unpacked (tag t) ≡ bits 8 (128 + t)
 tag_bits t h = ap unpacked (tag_is t h) ∙ one_octet (128 + t)
+
+-- of two
+pub tag_bits_in_two : (t : ℕ) → 63 ≤ t → t < 128 → unpacked (tag t) ≡ bits 16 (48896 + t)
+tag_bits_in_two t l h =
+    let all : octets 2 (48896 + t) ≡ 191 ∷ t ∷ [] = sym (digits_only 256 2 (48896 + t) (191 ∷ t ∷ []) (record { digits = (omega arith, omega (arith, h), tt); count = refl; sum = omega arith })).1 in
+    ap unpacked (long_tag_is t l ∙ ap (λ (os : List ℕ). 191 ∷ os) (base_is t h) ∙ sym all) ∙ unpacked-octets 2 (48896 + t)
+
+-- of three
+pub tag_bits_in_three : (t : ℕ) → 128 ≤ t → t < 16384 → unpacked (tag t) ≡ bits 24 (12550144 + 256 * (t / 128) + t % 128)
+tag_bits_in_three t l h =
+    let n = 12550144 + 256 * (t / 128) + t % 128 in
+    let os = 191 ∷ (128 + t / 128) ∷ (t % 128) ∷ [] in
+    let all : octets 3 n ≡ os = sym (digits_only 256 3 n os (record { digits = (omega arith, omega (arith, h), omega arith, tt); count = refl; sum = omega arith })).1 in
+    ap unpacked (long_tag_is t (omega (arith, l)) ∙ ap (λ (os : List ℕ). 191 ∷ os) (base_in_two t l h) ∙ sym all) ∙ unpacked-octets 3 n
 
 -- ---- simple types
 

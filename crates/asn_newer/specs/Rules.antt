@@ -1,5 +1,5 @@
 -- What PER and OER say of items that a type has not.
-use Rattle.std.specs.Prelude.{◌≡◌, ◌≢◌, ◌-◌, ◌+◌, ◌*◌, ◌^◌, ◌<◌, ◌≤◌, ◌⊎◌, ℕ, ℤ, pos, negsuc, List, ◌∷◌, ◌++◌, length, IsTrue, IsFalse}
+use Rattle.std.specs.Prelude.{◌≡◌, ◌≢◌, ◌-◌, ◌+◌, ◌^◌, ◌<◌, ◌≤◌, ◌⊎◌, ℕ, ℤ, pos, negsuc, List, ◌∷◌, ◌++◌, length, IsTrue, IsFalse}
 use Rattle.std.specs.List.{AllByRecursion}
 use Rattle.std.specs.Int.RustNames.{int_lt}
 use Rattle.asn_values.specs.Shape.{Label}
@@ -7,6 +7,7 @@ use Rattle.asn_values.specs.Profile.{most_item_additions, most_alternatives, mos
 use Rattle.asn_bits.specs.Numbers.{bits}
 use Rattle.asn_rules.specs.Components.{number_at}
 use Rattle.asn_rules.specs.IntegerSets.{magnitude_of}
+use Rattle.asn_oer.specs.Constructed.{tag_ended}
 use Rattle.asn_oer.specs.Oer.{item_number}
 use Rattle.asn_oer.specs.Walk.{oer_coding}
 use Rattle.asn_per.specs.Per.{small}
@@ -110,7 +111,7 @@ pub record IsLongTagPast (us : List ℕ) : Type 0 where
   pub second : ℕ
   pub rest : List ℕ
   pub goes_on : 128 < first
-  pub past : most_alternatives ≤ 128 * (first - 128) + second
+  pub past : most_alternatives ≤ tag_ended first second
   pub split : us ≡ 191 ∷ first ∷ second ∷ rest
 
 -- they count the alternatives of the root too

@@ -12,7 +12,7 @@ use crate::halt::Halt;
 use crate::leaves::ReadVersions;
 use asn_bits::BitCursor;
 use asn_per::Per;
-use asn_per::internal::read_small_number;
+use asn_per::internal::{SHORT_NUMBERS, read_small_number};
 use asn_rules::internal::Stop;
 use asn_values::Item;
 use asn_values::profile::{MAX_ALTERNATIVES, MAX_ITEM_ADDITIONS, MAX_ITEMS};
@@ -90,9 +90,6 @@ fn read_index_below(most: usize, bits: &mut BitCursor<'_>) -> Result<usize, Halt
         Err(Stop::Memory) => Err(Halt::Memory),
     }
 }
-
-/// How many normally small numbers are 0 and 6 bits.
-const SHORT_NUMBERS: usize = 64;
 
 /// Whether a normally small number begins here, and only one of at least `most` can: 0 and 6 bits, or a bit 1, the length
 /// of the number in octets, and these.

@@ -19,7 +19,7 @@ use asn_sinks::Sink;
 use asn_walk::Index;
 
 /// How many normally small numbers have the short form.
-const SHORT_NUMBERS: usize = 64;
+pub const SHORT_NUMBERS: usize = 64;
 
 /// Writes an index. One of the root is a constrained whole number, after an extension bit 0 where there is an
 /// extension mark; one of an addition is a bit 1 and a normally small number.

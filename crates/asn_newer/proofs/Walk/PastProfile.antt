@@ -103,6 +103,15 @@ module _ (root : ℕ) (us : List ℕ) where
 
 -- ---- OER
 
+-- no octet is left
+none_packed : (us : List ℕ) → length us % 8 ≡ 0 → length us < 8 → packed us ≡ []
+none_packed [] h e = refl
+none_packed (u ∷ us) h e = absurd (omega (arith, h, e))
+
+-- whole octets follow an octet
+octets_on : (n : ℕ) (us vs : List ℕ) → us ≡ bits 8 n ++ vs → length us % 8 ≡ 0 → length vs % 8 ≡ 0
+octets_on n us vs e at = omega (arith, at, ap length e ∙ length-append (bits 8 n) vs, length-digits 2 8 n)
+
 module _ (us vs : List ℕ) (n : ℕ) (e : us ≡ bits 8 n ++ vs) (f : n < 2 ^ 8) where
   pub length_told : 9 < n → Decides (not (nat_eq n 128)) (IsLengthPast (packed us))
   length_told o = go (nat_eq n 128) refl
@@ -129,11 +138,14 @@ module _ (us vs : List ℕ) (n : ℕ) (e : us ≡ bits 8 n ++ vs) (f : n < 2 ^ 8
     after = octet_taken n us vs f e ∙ ap (λ (k : ℕ). k ∷ packed vs) is
 
     -- nothing follows it
-    pub no_tag_octet : packed vs ≡ [] → Decides false (IsTagPast root (packed us))
-    no_tag_octet none = never (λ h. elim h [
+    pub no_tag_octet : length us % 8 ≡ 0 → length vs < 8 → Decides false (IsTagPast root (packed us))
+    no_tag_octet at few = never (λ h. elim h [
       | inl s ↦ (let g = sym none ∙ tails (sym after ∙ s.split) in cc)
       | inr l ↦ (let g = sym none ∙ tails (sym after ∙ l.split) in cc)
     ])
+      where
+        none : packed vs ≡ []
+        none = none_packed vs (octets_on n us vs e at) few
 
     module _ (first : ℕ) (ws : List ℕ) (g : vs ≡ bits 8 first ++ ws) (fits : first < 2 ^ 8) where
       two : packed us ≡ 191 ∷ first ∷ packed ws
@@ -156,11 +168,14 @@ module _ (us vs : List ℕ) (n : ℕ) (e : us ≡ bits 8 n ++ vs) (f : n < 2 ^ 8
       ])
 
       module _ (goes_on : 128 < first) where
-        pub no_second : packed ws ≡ [] → Decides false (IsTagPast root (packed us))
-        no_second none = never (λ h. elim h [
+        pub no_second : length us % 8 ≡ 0 → length ws < 8 → Decides false (IsTagPast root (packed us))
+        no_second at few = never (λ h. elim h [
           | inl s ↦ absurd (omega (arith, goes_on, s.fits, heads (tails (sym two ∙ s.split))))
           | inr l ↦ (let k = sym none ∙ tails (tails (sym two ∙ l.split)) in cc)
         ])
+          where
+            none : packed ws ≡ []
+            none = none_packed ws (octets_on first vs ws g (octets_on n us vs e at)) few
 
         pub tag_octets : (second : ℕ) (xs : List ℕ) → ws ≡ bits 8 second ++ xs → second < 2 ^ 8 → Decides (nat_le most_alternatives (128 * (first - 128) + second)) (IsTagPast root (packed us))
         tag_octets second xs k small = (
@@ -173,11 +188,6 @@ module _ (us vs : List ℕ) (n : ℕ) (e : us ≡ bits 8 n ++ vs) (f : n < 2 ^ 8
           where
             three : packed us ≡ 191 ∷ first ∷ second ∷ packed xs
             three = two ∙ ap (λ (l : List ℕ). 191 ∷ first ∷ l) (octet_taken second ws xs small k)
-
--- no octet is left
-pub none_packed : (us : List ℕ) → length us % 8 ≡ 0 → length us < 8 → packed us ≡ []
-none_packed [] h e = refl
-none_packed (u ∷ us) h e = absurd (omega (arith, h, e))
 
 pub no_length : (us : List ℕ) → length us % 8 ≡ 0 → length us < 8 → Decides false (IsLengthPast (packed us))
 no_length us a e = never (λ h. (let f = sym (none_packed us a e) ∙ h.split in cc))

@@ -40,7 +40,7 @@ pub record IsCountPast (us : List ℕ) : Type 0 where
   pub rest : List ℕ
   pub split : us ≡ 1 ∷ rest
 
--- normally small numbers of which none is below `most` begin so: with 0, and a number in 6 bits
+-- what normally small numbers from `most` on begin with, and none below: 0, and the number in 6 bits
 pub record IsShortPast (most : ℕ) (us : List ℕ) : Type 0 where
   pub number : ℕ
   pub rest : List ℕ
@@ -48,13 +48,13 @@ pub record IsShortPast (most : ℕ) (us : List ℕ) : Type 0 where
   pub past : most ≤ number
   pub split : us ≡ 0 ∷ (bits 6 number ++ rest)
 
--- with 1, where none from 64 on is below it
+-- 1, where those below all have that form
 pub record IsEachLongPast (most : ℕ) (us : List ℕ) : Type 0 where
   pub rest : List ℕ
   pub past : most ≤ 64
   pub split : us ≡ 1 ∷ rest
 
--- else with 1, and two octets as one number: the length of the number in octets, and the first of these
+-- else 1, and two octets, as one number: the length of the number in octets, and the first of these
 pub record IsLongPast (most : ℕ) (us : List ℕ) : Type 0 where
   pub number : ℕ
   pub rest : List ℕ
@@ -96,7 +96,7 @@ pub record IsLengthPast (us : List ℕ) : Type 0 where
   pub definite : length ≢ 128
   pub split : us ≡ length ∷ rest
 
--- tags of which none is of the profile begin so: with 191, and the tag as one octet
+-- what tags past the profile begin with, and no others: 191, and the tag as one octet of base 128
 pub record IsShortTagPast (us : List ℕ) : Type 0 where
   pub tag : ℕ
   pub rest : List ℕ
@@ -104,8 +104,8 @@ pub record IsShortTagPast (us : List ℕ) : Type 0 where
   pub past : most_alternatives ≤ tag
   pub split : us ≡ 191 ∷ tag ∷ rest
 
--- or with 191, and the first two octets of the tag in base 128: the first is not 128, the digit 0, and the second may be
--- the last, which is below 128
+-- or 191, and two octets of base 128: the first goes on with a digit that is not 0, and the second is the last, or goes
+-- on as well and so is 128 or more
 pub record IsLongTagPast (us : List ℕ) : Type 0 where
   pub first : ℕ
   pub second : ℕ
@@ -114,6 +114,6 @@ pub record IsLongTagPast (us : List ℕ) : Type 0 where
   pub past : most_alternatives ≤ tag_ended first second
   pub split : us ≡ 191 ∷ first ∷ second ∷ rest
 
--- they count the alternatives of the root too
+-- however many alternatives are of the root, which tags count too
 abbrev pub IsTagPast : ℕ → List ℕ → Type 0
 IsTagPast root us = IsShortTagPast us ⊎ IsLongTagPast us

@@ -285,6 +285,17 @@ class Oer:
         return self.length(len(data)) + data
 
     @staticmethod
+    def tag(n):
+        """A context-specific tag: one octet, or 191 and the tag in base 128, in as few octets as there can be."""
+        if n < 63:
+            return bytes([0x80 + n])
+        digits = [n % 128]
+        while n >= 128:
+            n //= 128
+            digits.insert(0, 0x80 + n % 128)
+        return bytes([0xbf] + digits)
+
+    @staticmethod
     def filled(bits):
         bits += '0' * (-len(bits) % 8)
         return bytes(int(bits[i:i + 8], 2) for i in range(0, len(bits), 8))

@@ -1,5 +1,5 @@
 -- What PER and OER say of items that a type has not.
-use Rattle.std.specs.Prelude.{◌≡◌, ◌≢◌, ◌-◌, ◌+◌, ◌^◌, ◌<◌, ◌≤◌, ℕ, ℤ, pos, negsuc, List, ◌∷◌, ◌++◌, length, IsTrue, IsFalse}
+use Rattle.std.specs.Prelude.{◌≡◌, ◌≢◌, ◌-◌, ◌+◌, ◌^◌, ◌<◌, ◌≤◌, ◌⊎◌, ℕ, ℤ, pos, negsuc, List, ◌∷◌, ◌++◌, length, IsTrue, IsFalse}
 use Rattle.std.specs.List.{AllByRecursion}
 use Rattle.std.specs.Int.RustNames.{int_lt}
 use Rattle.asn_values.specs.Shape.{Label}
@@ -7,6 +7,7 @@ use Rattle.asn_values.specs.Profile.{most_item_additions, most_alternatives, mos
 use Rattle.asn_bits.specs.Numbers.{bits}
 use Rattle.asn_rules.specs.Components.{number_at}
 use Rattle.asn_rules.specs.IntegerSets.{magnitude_of}
+use Rattle.asn_oer.specs.Constructed.{tag_ended}
 use Rattle.asn_oer.specs.Oer.{item_number}
 use Rattle.asn_oer.specs.Walk.{oer_coding}
 use Rattle.asn_per.specs.Per.{small}
@@ -39,14 +40,37 @@ pub record IsCountPast (us : List ℕ) : Type 0 where
   pub rest : List ℕ
   pub split : us ≡ 1 ∷ rest
 
--- an alternative past the profile: the extension bit, which is 1, and the bits of its index, as one number, from which
--- the index follows by taking 128 away
-pub record IsIndexPast (root : ℕ) (us : List ℕ) : Type 0 where
+-- what normally small numbers from `most` on begin with, and none below: 0, and the number in 6 bits
+pub record IsShortPast (most : ℕ) (us : List ℕ) : Type 0 where
   pub number : ℕ
   pub rest : List ℕ
-  pub fits : number < 2 ^ 8
-  pub past : 128 + most_alternatives ≤ root + number
-  pub split : us ≡ bits 8 number ++ rest
+  pub fits : number < 64
+  pub past : most ≤ number
+  pub split : us ≡ 0 ∷ (bits 6 number ++ rest)
+
+-- 1, where those below all have that form
+pub record IsEachLongPast (most : ℕ) (us : List ℕ) : Type 0 where
+  pub rest : List ℕ
+  pub past : most ≤ 64
+  pub split : us ≡ 1 ∷ rest
+
+-- else 1, and two octets, as one number: the length of the number in octets, and the first of these
+pub record IsLongPast (most : ℕ) (us : List ℕ) : Type 0 where
+  pub number : ℕ
+  pub rest : List ℕ
+  pub fits : number < 2 ^ 16
+  pub some : 64 < most
+  pub past : 256 + most ≤ number
+  pub split : us ≡ 1 ∷ (bits 16 number ++ rest)
+
+abbrev pub IsSmallPast : ℕ → List ℕ → Type 0
+IsSmallPast most us = IsShortPast most us ⊎ (IsEachLongPast most us ⊎ IsLongPast most us)
+
+-- an alternative past the profile: the extension bit, which is 1, and an index among the additions
+pub record IsIndexPast (root : ℕ) (us : List ℕ) : Type 0 where
+  pub index : List ℕ
+  pub past : IsSmallPast (most_alternatives - root) index
+  pub split : us ≡ 1 ∷ index
 
 -- ---- OER: the number ("encoding of enumerated types")
 
@@ -72,7 +96,24 @@ pub record IsLengthPast (us : List ℕ) : Type 0 where
   pub definite : length ≢ 128
   pub split : us ≡ length ∷ rest
 
--- a tag past the profile begins so: those up to 62 are one octet, and others have 191 in front
-pub record IsTagPast (root : ℕ) (us : List ℕ) : Type 0 where
+-- what tags past the profile begin with, and no others: 191, and the tag as one octet of base 128
+pub record IsShortTagPast (us : List ℕ) : Type 0 where
+  pub tag : ℕ
   pub rest : List ℕ
-  pub split : us ≡ 191 ∷ rest
+  pub fits : tag < 128
+  pub past : most_alternatives ≤ tag
+  pub split : us ≡ 191 ∷ tag ∷ rest
+
+-- or 191, and two octets of base 128: the first goes on with a digit that is not 0, and the second is the last, or goes
+-- on as well and so is 128 or more
+pub record IsLongTagPast (us : List ℕ) : Type 0 where
+  pub first : ℕ
+  pub second : ℕ
+  pub rest : List ℕ
+  pub goes_on : 128 < first
+  pub past : most_alternatives ≤ tag_ended first second
+  pub split : us ≡ 191 ∷ first ∷ second ∷ rest
+
+-- however many alternatives are of the root, which tags count too
+abbrev pub IsTagPast : ℕ → List ℕ → Type 0
+IsTagPast root us = IsShortTagPast us ⊎ IsLongTagPast us

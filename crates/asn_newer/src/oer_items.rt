@@ -15,6 +15,7 @@ use asn_bits::BitCursor;
 use asn_bits::internal::signed_octet_count;
 use asn_oer::Oer;
 use asn_values::Item;
+use asn_values::profile::MAX_ALTERNATIVES;
 
 #[tactic(auto, unfolding(crate::specs::Rules::oer_loose))]
 impl ReadVersions for Oer {
@@ -30,12 +31,29 @@ impl ReadVersions for Oer {
         octet > 9 && octet != 128
     }
 
-    /// A tag up to 62 is one octet, and the octet 191 begins those above.
+    /// A tag above 62 is the octet 191 and the tag in base 128: an octet up to 127, or two or more, the first above 128.
     fn is_index_past(_root: usize, units: &BitCursor<'_>) -> bool {
-        let Some(octet) = units.peek_number(8) else {
+        let mut ahead = units.copied();
+        let Some(front) = ahead.take_number(8) else {
             return false;
         };
-        octet == 191
+        if front != 191 {
+            return false;
+        }
+        let Some(first) = ahead.take_number(8) else {
+            return false;
+        };
+        if first < 128 {
+            return first >= MAX_ALTERNATIVES as u64;
+        }
+        if first == 128 {
+            return false;
+        }
+        let Some(second) = ahead.take_number(8) else {
+            return false;
+        };
+        // where a third octet follows, the second is 128 or above
+        128 * (first - 128) + second >= MAX_ALTERNATIVES as u64
     }
 
     /// A number above those of the type.

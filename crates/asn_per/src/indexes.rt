@@ -19,7 +19,7 @@ use asn_sinks::Sink;
 use asn_walk::Index;
 
 /// How many normally small numbers have the short form.
-const SHORT_NUMBERS: usize = 64;
+pub const SHORT_NUMBERS: usize = 64;
 
 /// Writes an index. One of the root is a constrained whole number, after an extension bit 0 where there is an
 /// extension mark; one of an addition is a bit 1 and a normally small number.
@@ -119,7 +119,7 @@ fn read_root_index(count: usize, bits: &mut BitCursor<'_>) -> Result<usize, Stop
 /// Reads a normally small number below `count`. It is seldom asked for; inlined, it would make `read` of
 /// `asn_walk_read` too large to be inlined itself.
 #[inline(never)]
-fn read_small_number(count: usize, bits: &mut BitCursor<'_>) -> Result<usize, Stop>
+pub fn read_small_number(count: usize, bits: &mut BitCursor<'_>) -> Result<usize, Stop>
     requires some { 0 < count }
     requires few { count ≤ most_items }
     ensures done { Reads result (λ n. n) (SmallBelow count) bits.old bits.new }

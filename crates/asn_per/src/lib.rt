@@ -6,6 +6,7 @@ mod fragments;
 mod in_pieces;
 mod indexes;
 mod integers;
+pub mod internal;
 mod items;
 pub mod laws;
 mod read_leaves;

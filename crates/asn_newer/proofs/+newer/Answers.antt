@@ -11,7 +11,7 @@ use Rattle.asn_values.specs.declared.value.Value.TheVariants as value
 use Rattle.asn_values.specs.Shape.{default, sequence, closed, marked, choice, closed_choice, marked_choice}
 use Rattle.asn_values.specs.View.{shape_of, datum_of, labels_seen, alternatives_seen, part_of_field, size_range_of, demand_of, fields_seen, entries_seen}
 use Rattle.asn_values.proofs.Components.{shape_of_part}
-use Rattle.asn_values.specs.Profile.{InProfile}
+use Rattle.asn_values.specs.Profile.{InProfile, most_alternatives}
 use Rattle.asn_values.proofs.InnerTypes.{element_of_profile, additions_of_profile}
 use Rattle.asn_values.proofs.Parts.{components_of_profile}
 use Rattle.asn_values.proofs.Views.{datum_of-List, datum_of-Seq}
@@ -612,7 +612,7 @@ choices::read_marked_choice-returns-in_err-index-clause-stop g t c =
 pub choices::read_marked_choice-read_root_alternative-requires : goal.choices::read_marked_choice-read_root_alternative-requires
 choices::read_marked_choice-read_root_alternative-requires g t c κs within =
     let small = alternatives_smaller c.args._ty.now c.requires.parts.alternatives c.requires.parts.more c.args.root.now c.requires.parts.is c.requires.parts.root_is in
-    let index : IsIndexWithin (length c.args.root.now) (Some (63 - length c.args.root.now)) (index_seen c.in_ok-index.field-0) = c.in_ok-index.ensures.done.spelt.fits in
+    let index : IsIndexWithin (length c.args.root.now) (Some (most_alternatives - length c.args.root.now)) (index_seen c.in_ok-index.field-0) = c.in_ok-index.ensures.done.spelt.fits in
     let inside : c.in-Root.index < length c.args.root.now = rw c.in-Root.is at index in
     let few = few_marked c.args.root.now c.args.additions.now c.requires.of_profile in
     (search (rules, the_lemmas, small), (within.0, (within.1, (c.in_ok-index.ensures.at_unit, (root_good (alternatives_seen c.args.root.now) (marked_choice (alternatives_seen c.args.additions.now)) c.requires.of_profile, (inside, omega (arith, inside, few)))))))
@@ -620,34 +620,34 @@ choices::read_marked_choice-read_root_alternative-requires g t c κs within =
 pub choices::read_marked_choice-read_added_alternative-requires : goal.choices::read_marked_choice-read_added_alternative-requires
 choices::read_marked_choice-read_added_alternative-requires g t c κs within =
     let small = added_smaller c.args._ty.now c.requires.parts.alternatives c.requires.parts.more c.args.additions.now c.requires.parts.is c.requires.parts.additions_are in
-    let index : IsIndexWithin (length c.args.root.now) (Some (63 - length c.args.root.now)) (index_seen c.in_ok-index.field-0) = c.in_ok-index.ensures.done.spelt.fits in
-    let inside : c.in-Added.index < 63 - length c.args.root.now = rw c.in-Added.is at index in
+    let index : IsIndexWithin (length c.args.root.now) (Some (most_alternatives - length c.args.root.now)) (index_seen c.in_ok-index.field-0) = c.in_ok-index.ensures.done.spelt.fits in
+    let inside : c.in-Added.index < most_alternatives - length c.args.root.now = rw c.in-Added.is at index in
     (search (rules, the_lemmas, small), (within.0, (within.1, (c.in_ok-index.ensures.at_unit, (added_good (alternatives_seen c.args.root.now) (marked_choice (alternatives_seen c.args.additions.now)) c.requires.of_profile, (omega (arith, inside), omega (arith, inside)))))))
 
 pub choices::read_marked_choice-returns-in-Root-clause-done : goal.choices::read_marked_choice-returns-in-Root-clause-done
 choices::read_marked_choice-returns-in-Root-clause-done g t c =
     let l = loose_by g.R.ReadLeaves.rules g.R.OtherVersions.loose in
     let ways = c.keep_walk_laws.ensures.ways in
-    let k : Spells g.R.ReadLeaves.rules.ruling.fielding (IndexOf g.R.ReadLeaves.rules (length c.args.root.now) (Some (63 - length c.args.root.now))) (inl c.in-Root.index) (g.R.ReadLeaves.rules.to_units c.args.units.now) (g.R.ReadLeaves.rules.to_units c.read_any_index.new.units) = rw c.in-Root.is at c.in_ok-index.ensures.done in
+    let k : Spells g.R.ReadLeaves.rules.ruling.fielding (IndexOf g.R.ReadLeaves.rules (length c.args.root.now) (Some (most_alternatives - length c.args.root.now))) (inl c.in-Root.index) (g.R.ReadLeaves.rules.to_units c.args.units.now) (g.R.ReadLeaves.rules.to_units c.read_any_index.new.units) = rw c.in-Root.is at c.in_ok-index.ensures.done in
     IfOk-weaker c.read_root_alternative.result _ _ (λ v s. taken_on (λ d. d) (skipped_at_seen c.args.skipped.now.items) (datum_of v) (marked_root_on l ways c.args.root.now c.args.additions.now c.requires.of_profile (g.R.ReadLeaves.rules.to_units c.args.units.now) k) s) c.read_root_alternative.ensures.done
 
 pub choices::read_marked_choice-returns-in-Root-clause-stop : goal.choices::read_marked_choice-returns-in-Root-clause-stop
 choices::read_marked_choice-returns-in-Root-clause-stop g t c =
     let l = loose_by g.R.ReadLeaves.rules g.R.OtherVersions.loose in
     let ways = c.keep_walk_laws.ensures.ways in
-    let k : Spells g.R.ReadLeaves.rules.ruling.fielding (IndexOf g.R.ReadLeaves.rules (length c.args.root.now) (Some (63 - length c.args.root.now))) (inl c.in-Root.index) (g.R.ReadLeaves.rules.to_units c.args.units.now) (g.R.ReadLeaves.rules.to_units c.read_any_index.new.units) = rw c.in-Root.is at c.in_ok-index.ensures.done in
+    let k : Spells g.R.ReadLeaves.rules.ruling.fielding (IndexOf g.R.ReadLeaves.rules (length c.args.root.now) (Some (most_alternatives - length c.args.root.now))) (inl c.in-Root.index) (g.R.ReadLeaves.rules.to_units c.args.units.now) (g.R.ReadLeaves.rules.to_units c.read_any_index.new.units) = rw c.in-Root.is at c.in_ok-index.ensures.done in
     IfErr-weaker c.read_root_alternative.result _ _ (λ why s. halts_on why (marked_root_on l ways c.args.root.now c.args.additions.now c.requires.of_profile (g.R.ReadLeaves.rules.to_units c.args.units.now) k).none s) c.read_root_alternative.ensures.stop
 
 pub choices::read_marked_choice-returns-in-Added-clause-done : goal.choices::read_marked_choice-returns-in-Added-clause-done
 choices::read_marked_choice-returns-in-Added-clause-done g t c =
     let l = loose_by g.R.ReadLeaves.rules g.R.OtherVersions.loose in
     let ways = c.keep_walk_laws.ensures.ways in
-    let k : Spells g.R.ReadLeaves.rules.ruling.fielding (IndexOf g.R.ReadLeaves.rules (length c.args.root.now) (Some (63 - length c.args.root.now))) (inr c.in-Added.index) (g.R.ReadLeaves.rules.to_units c.args.units.now) (g.R.ReadLeaves.rules.to_units c.read_any_index.new.units) = rw c.in-Added.is at c.in_ok-index.ensures.done in
+    let k : Spells g.R.ReadLeaves.rules.ruling.fielding (IndexOf g.R.ReadLeaves.rules (length c.args.root.now) (Some (most_alternatives - length c.args.root.now))) (inr c.in-Added.index) (g.R.ReadLeaves.rules.to_units c.args.units.now) (g.R.ReadLeaves.rules.to_units c.read_any_index.new.units) = rw c.in-Added.is at c.in_ok-index.ensures.done in
     IfOk-weaker c.read_added_alternative.result _ _ (λ v s. taken_on (λ d. d) (skipped_at_seen c.args.skipped.now.items) (datum_of v) (marked_added_on l ways c.args.root.now c.args.additions.now c.requires.of_profile (g.R.ReadLeaves.rules.to_units c.args.units.now) k) s) c.read_added_alternative.ensures.done
 
 pub choices::read_marked_choice-returns-in-Added-clause-stop : goal.choices::read_marked_choice-returns-in-Added-clause-stop
 choices::read_marked_choice-returns-in-Added-clause-stop g t c =
     let l = loose_by g.R.ReadLeaves.rules g.R.OtherVersions.loose in
     let ways = c.keep_walk_laws.ensures.ways in
-    let k : Spells g.R.ReadLeaves.rules.ruling.fielding (IndexOf g.R.ReadLeaves.rules (length c.args.root.now) (Some (63 - length c.args.root.now))) (inr c.in-Added.index) (g.R.ReadLeaves.rules.to_units c.args.units.now) (g.R.ReadLeaves.rules.to_units c.read_any_index.new.units) = rw c.in-Added.is at c.in_ok-index.ensures.done in
+    let k : Spells g.R.ReadLeaves.rules.ruling.fielding (IndexOf g.R.ReadLeaves.rules (length c.args.root.now) (Some (most_alternatives - length c.args.root.now))) (inr c.in-Added.index) (g.R.ReadLeaves.rules.to_units c.args.units.now) (g.R.ReadLeaves.rules.to_units c.read_any_index.new.units) = rw c.in-Added.is at c.in_ok-index.ensures.done in
     IfErr-weaker c.read_added_alternative.result _ _ (λ why s. halts_on why (marked_added_on l ways c.args.root.now c.args.additions.now c.requires.of_profile (g.R.ReadLeaves.rules.to_units c.args.units.now) k).none s) c.read_added_alternative.ensures.stop

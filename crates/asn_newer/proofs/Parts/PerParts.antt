@@ -4,7 +4,7 @@ use Rattle.std.proofs.lemmas.Bool.{ltb-true, ltb-false}
 use Rattle.asn_values.specs.Datum.{Datum, item}
 use Rattle.asn_values.specs.Shape.{Shape, enumerated, Label, marked_labels}
 use Rattle.asn_values.specs.Fits.{Fits}
-use Rattle.asn_values.specs.Profile.{InProfile}
+use Rattle.asn_values.specs.Profile.{InProfile, most_item_additions}
 use Rattle.asn_bits.specs.Numbers.{unpacked}
 use Rattle.asn_rules.specs.Chunks.{open_field, ones, flat}
 use Rattle.asn_rules.specs.Laws.{AreOctets}
@@ -76,9 +76,9 @@ per_items a b root ls more p good w f = go (nat_lt p (length root + length more)
     go true q = inl (record { source = item p; spelt = record { fits = (ltb-true p (length root + length more) q, tt); same = refl }; seen = refl })
     go false q =
         let above : length root + length more ≤ p = ltb-false p (length root + length more) q in
-        let few : length ls ≤ 64 = few_additions root (marked_labels ls) good in
+        let few : length ls ≤ most_item_additions = few_additions root (marked_labels ls) good in
         let past = not_in_root p (length root) (omega (arith, above)) in
-        let low : p - length root < 64 = omega (arith, above, few, f) in
+        let low : p - length root < most_item_additions = omega (arith, above, few, f) in
         let high : length more ≤ p - length root = omega (arith, above) in
         inr (record {
           source = pos (p - length root);

@@ -1,6 +1,6 @@
 -- In PER a presence bitmap of any count of additions, and an item that may be unknown, are told by their bits.
 use Rattle.std.proofs.Common.{◌≡◌, ◌-◌, ◌/◌, ◌%◌, ◌^◌, ◌<◌, ◌≤◌, ℕ, zero, suc, ℤ, pos, negsuc, Bool, true, false, nat_lt, List, [], ◌∷◌, ◌++◌, length, length-append, Option, Some, None, refl, sym, ap, subst, ◌∙◌, arith, append_assoc, inl, inr, ◌⊎◌}
-use Rattle.std.proofs.lemmas.Bool.{ltb-false, lt-ltb}
+use Rattle.std.proofs.lemmas.Bool.{ltb-false}
 use Rattle.asn_values.specs.Datum.{Datum, item}
 use Rattle.asn_values.specs.Shape.{SizeRange, enumerated, Label, marked_labels}
 use Rattle.asn_values.specs.Fits.{Fits}
@@ -23,7 +23,7 @@ use Rattle.asn_per.specs.Per.{per, small, small_length, constrained, rank, after
 use Rattle.asn_per.specs.Rules.{per_ruling}
 use Rattle.asn_per.specs.Walk.{per_coding}
 use Rattle.asn_rules.specs.IntegerSets.{magnitude_of}
-use Rattle.asn_per.proofs.Types.EnumeratedLanguages.{few_additions}
+use Rattle.asn_per.proofs.Law.Numbers.{small_code}
 use Rattle.asn_per.proofs.Walk.WalkLaws.{per_laws}
 use Rattle.asn_newer.specs.Loose.{IsBitmap, AnyBitmap, AnyItem}
 use Rattle.asn_newer.specs.Rules.{per_loose, IsUnknownIndex}
@@ -69,18 +69,12 @@ per_bitmap = code_way (λ p. small_length (length (bits p.0 p.1)) ++ bits p.0 p.
 
 -- ---- items
 
--- a normally small number below 64 is a number in 7 bits
-pub small_is : (k : ℕ) → k < 64 → small k ≡ bits 7 k
-small_is k h =
-    let front : 0 ≡ (k / 2 ^ 6) % 2 = omega (arith, h) in
-    rw (lt-ltb k 64 h, small) (ap (λ (d : ℕ). d ∷ bits 6 k) front)
-
 unknown_code : (root additions : List Label) → IsCode (IsUnknownIndex root additions) (λ z. per_loose.unknown_units z)
 unfolding per_loose
 unknown_code root additions (negsuc m) y r s f g e = absurd f
 unknown_code root additions (pos m) (negsuc n) r s f g e = absurd g
 unknown_code root additions (pos m) (pos n) r s f g e =
-    let d : (m ≡ n) × (r ≡ s) = digits_code 2 (omega arith) 7 m n r s (omega (arith, f.few)) (omega (arith, g.few)) (ap (λ (l : List ℕ). l ++ r) (sym (small_is m f.few)) ∙ tails e ∙ ap (λ (l : List ℕ). l ++ s) (small_is n g.few)) in
+    let d : (m ≡ n) × (r ≡ s) = small_code m n r s (tails e) in
     (ap pos d.0, d.1)
   where
     tails : {u v : ℕ} {us vs : List ℕ} → u ∷ us ≡ v ∷ vs → us ≡ vs
@@ -108,10 +102,8 @@ apart root additions good (item p) (pos n) r s f g e = go (nat_lt p (length root
     go true q = (let h : (0 ∷ constrained (length root) (rank root (number_at root p))) ++ r ≡ (1 ∷ small n) ++ s = ap (λ (k : Bool). bits_of k ++ r) (sym q) ∙ units in absurd (omega (arith, heads h)))
     go false q =
         let h : (1 ∷ small (p - length root)) ++ r ≡ (1 ∷ small n) ++ s = ap (λ (k : Bool). bits_of k ++ r) (sym q) ∙ units in
-        let few : length additions ≤ 64 = few_additions root (marked_labels additions) good in
         let above : length root ≤ p = ltb-false p (length root) q in
-        let low : p - length root < 64 = omega (arith, f, few, above) in
-        let d : (p - length root ≡ n) × (r ≡ s) = digits_code 2 (omega arith) 7 (p - length root) n r s (omega (arith, low)) (omega (arith, g.few)) (ap (λ (l : List ℕ). l ++ r) (sym (small_is (p - length root) low)) ∙ tails h ∙ ap (λ (l : List ℕ). l ++ s) (small_is n g.few)) in
+        let d : (p - length root ≡ n) × (r ≡ s) = small_code (p - length root) n r s (tails h) in
         absurd (omega (arith, d.0, f, above, g.past))
 apart root additions good _ z r s f g e = absurd f
 

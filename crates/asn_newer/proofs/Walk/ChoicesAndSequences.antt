@@ -4,7 +4,7 @@ use Rattle.std.proofs.Common.{◌≡◌, ◌≤◌, ◌<◌, ◌+◌, ◌-◌, �
 use Rattle.std.proofs.lemmas.List.{append-nil}
 use Rattle.asn_values.specs.Datum.{Datum, components, components_of, unknown_alternative}
 use Rattle.asn_values.specs.Shape.{Shape, boolean, null, integer, enumerated, bit_string, octet_string, restricted, utf8_string, Label, closed_labels, sequence, choice, Fields, MoreFields, closed, marked, Alternatives, MoreAlternatives, closed_choice, marked_choice, count}
-use Rattle.asn_values.specs.Profile.{InProfile}
+use Rattle.asn_values.specs.Profile.{InProfile, most_alternatives}
 use Rattle.asn_values.specs.View.{branch_of, alternatives_of, shape_of, range_of, size_range_of, alphabet_of}
 use Rattle.asn_values.specs.declared.types.Alt.{Alt}
 use Rattle.asn_values.specs.declared.types.AsnType.{AsnType}
@@ -123,19 +123,19 @@ module _ (l : LooseCoding) (h : WayLaws l) (root : List Alt) (good : InProfile (
   closed_on {i} {r} k = after_index l h (alternatives_of (map branch_of root)) closed_choice good us {i = inl i} (subst (λ (n : ℕ). Spells l.coding.ruling.fielding (IndexOf l.coding n None) (inl i) us r) (sym (count-of root)) k)
 
 module _ (l : LooseCoding) (h : WayLaws l) (root more : List Alt) (good : InProfile (choice (alternatives_of (map branch_of root)) (marked_choice (alternatives_of (map branch_of more))))) (us : List ℕ) where
-  pub marked_none : NoneOn l.coding.ruling.fielding (IndexOf l.coding (length root) (Some (63 - length root))) us (Loose l (choice (alternatives_of (map branch_of root)) (marked_choice (alternatives_of (map branch_of more))))) us
+  pub marked_none : NoneOn l.coding.ruling.fielding (IndexOf l.coding (length root) (Some (most_alternatives - length root))) us (Loose l (choice (alternatives_of (map branch_of root)) (marked_choice (alternatives_of (map branch_of more))))) us
   marked_none further n = index_none l h (alternatives_of (map branch_of root)) (marked_choice (alternatives_of (map branch_of more))) good us further
-      (subst (λ (k : ℕ). NoSpelling l.coding.ruling.fielding (IndexOf l.coding k (Some (63 - k))) (us ++ further)) (sym (count-of root)) n)
+      (subst (λ (k : ℕ). NoSpelling l.coding.ruling.fielding (IndexOf l.coding k (Some (most_alternatives - k))) (us ++ further)) (sym (count-of root)) n)
 
-  after : {i : ℕ ⊎ ℕ} {r : List ℕ} → Spells l.coding.ruling.fielding (IndexOf l.coding (length root) (Some (63 - length root))) i us r
-      → Spells l.coding.ruling.fielding (IndexOf l.coding (count (alternatives_of (map branch_of root))) (Some (63 - count (alternatives_of (map branch_of root))))) i us r
-  after {i} {r} k = subst (λ (n : ℕ). Spells l.coding.ruling.fielding (IndexOf l.coding n (Some (63 - n))) i us r) (sym (count-of root)) k
+  after : {i : ℕ ⊎ ℕ} {r : List ℕ} → Spells l.coding.ruling.fielding (IndexOf l.coding (length root) (Some (most_alternatives - length root))) i us r
+      → Spells l.coding.ruling.fielding (IndexOf l.coding (count (alternatives_of (map branch_of root))) (Some (most_alternatives - count (alternatives_of (map branch_of root))))) i us r
+  after {i} {r} k = subst (λ (n : ℕ). Spells l.coding.ruling.fielding (IndexOf l.coding n (Some (most_alternatives - n))) i us r) (sym (count-of root)) k
 
-  pub marked_root_on : {i : ℕ} {r : List ℕ} → Spells l.coding.ruling.fielding (IndexOf l.coding (length root) (Some (63 - length root))) (inl i) us r
+  pub marked_root_on : {i : ℕ} {r : List ℕ} → Spells l.coding.ruling.fielding (IndexOf l.coding (length root) (Some (most_alternatives - length root))) (inl i) us r
       → Onward l.coding.ruling.fielding (LooseRoot l i (alternatives_of (map branch_of root)) i) r (λ (a : Reading). a) (Loose l (choice (alternatives_of (map branch_of root)) (marked_choice (alternatives_of (map branch_of more))))) us
   marked_root_on {i} k = after_index l h (alternatives_of (map branch_of root)) (marked_choice (alternatives_of (map branch_of more))) good us {i = inl i} (after k)
 
-  pub marked_added_on : {i : ℕ} {r : List ℕ} → Spells l.coding.ruling.fielding (IndexOf l.coding (length root) (Some (63 - length root))) (inr i) us r
+  pub marked_added_on : {i : ℕ} {r : List ℕ} → Spells l.coding.ruling.fielding (IndexOf l.coding (length root) (Some (most_alternatives - length root))) (inr i) us r
       → Onward l.coding.ruling.fielding (LooseAdded l (length root + i) i (alternatives_of (map branch_of more)) i) r (λ (a : Reading). a) (Loose l (choice (alternatives_of (map branch_of root)) (marked_choice (alternatives_of (map branch_of more))))) us
   marked_added_on {i} {r} k = subst (λ (n : ℕ). Onward l.coding.ruling.fielding (LooseAdded l (n + i) i (alternatives_of (map branch_of more)) i) r (λ (a : Reading). a) (Loose l (choice (alternatives_of (map branch_of root)) (marked_choice (alternatives_of (map branch_of more))))) us) (count-of root)
       (after_index l h (alternatives_of (map branch_of root)) (marked_choice (alternatives_of (map branch_of more))) good us {i = inr i} (after k))

@@ -10,7 +10,7 @@ use Rattle.asn_values.specs.declared.types.Item.{Item}
 use Rattle.asn_values.specs.declared.types.AsnType.{AsnType}
 use Rattle.asn_values.specs.declared.types.AsnType as asn_type
 use Rattle.asn_values.specs.Shape.{enumerated, closed_labels, marked_labels, Fields, MoreFields, sequence, marked, Alternatives, MoreAlternatives, closed_choice, marked_choice, choice, count}
-use Rattle.asn_values.specs.Profile.{InProfile, EmptyRange, empty_range}
+use Rattle.asn_values.specs.Profile.{InProfile, EmptyRange, empty_range, most_alternatives}
 use Rattle.asn_values.specs.View.{datum_of, shape_of, fields_of, part_of_field, branch_of, alternatives_of, more_alternatives_of, labels_seen}
 use Rattle.asn_values.proofs.Alternatives.{count-of}
 use Rattle.asn_values.proofs.Parts.{left_false}
@@ -38,10 +38,10 @@ module _ (root : List Alt) where
   pub some_known : (more : MoreAlternatives) → InProfile (choice (alternatives_of (map branch_of root)) more) → 0 < length root
   some_known more good = subst (λ (n : ℕ). 0 < n) (count-of root) (some_alternatives (alternatives_of (map branch_of root)) more good)
 
-  pub few_closed : InProfile (choice (alternatives_of (map branch_of root)) closed_choice) → length root ≤ 63
-  few_closed good = subst (λ (n : ℕ). n ≤ 63) (count-of root) (few_indexes (alternatives_of (map branch_of root)) closed_choice good)
+  pub few_closed : InProfile (choice (alternatives_of (map branch_of root)) closed_choice) → length root ≤ most_alternatives
+  few_closed good = subst (λ (n : ℕ). n ≤ most_alternatives) (count-of root) (few_indexes (alternatives_of (map branch_of root)) closed_choice good)
 
-  pub few_marked : (more : List Alt) → InProfile (choice (alternatives_of (map branch_of root)) (marked_choice (alternatives_of (map branch_of more)))) → length root + length more ≤ 63
+  pub few_marked : (more : List Alt) → InProfile (choice (alternatives_of (map branch_of root)) (marked_choice (alternatives_of (map branch_of more)))) → length root + length more ≤ most_alternatives
   few_marked more good = omega (arith, few_indexes (alternatives_of (map branch_of root)) (marked_choice (alternatives_of (map branch_of more))) good, count-of root, count-of more)
 
 pub closed_choice_type : (t : AsnType) (root : Vec Alt Global) (ext : Option (Vec Alt Global)) (alts : List Alt) → t ≡ asn_type.Choice root ext → ext ≡ None → alts ≡ root.items → shape_of t ≡ choice (alternatives_of (map branch_of alts)) closed_choice

@@ -1,7 +1,7 @@
-use Rattle.std.proofs.Common.{◌≡◌, ◌<◌, ◌≤◌, ◌∷◌, ◌++◌, ◌∙◌, ℕ, ℤ, length-append, refl, ap, subst, arith}
+use Rattle.std.proofs.Common.{◌≡◌, ◌≤◌, ◌∷◌, ◌++◌, ◌∙◌, ℕ, ℤ, length-append, refl, ap, subst, arith}
 use Rattle.std.proofs.lemmas.Result.{err_from_is_err_and}
 use Rattle.asn_rules.specs.Languages.{Spells}
-use Rattle.asn_values.specs.Profile.{most_items, most_item_additions}
+use Rattle.asn_values.specs.Profile.{most_item_additions}
 use Rattle.asn_values.specs.Shape.{marked_labels}
 use Rattle.asn_values.specs.View.{labels_seen}
 use Rattle.asn_walk.proofs.ItemNumbers.{few_items}

@@ -59,8 +59,8 @@ module _ (most : ℕ) (us vs : List ℕ) where
       short_told n ws f fits = (
         (λ t. inl (record { number = n; rest = ws; fits = omega (arith, fits); past = leb-true most n t; split = e ∙ ap (λ (b : ℕ). b ∷ vs) zero_bit ∙ ap (λ (l : List ℕ). 0 ∷ l) f })),
         (λ h. (let s = of_short h in
-        let d = digits_code 2 (omega arith) 6 n s.number ws s.rest fits (omega (arith, s.fits)) (sym f ∙ tails (sym e ∙ s.split)) in
-        le-leb most n (omega (arith, d.0, s.past)))),
+            let d = digits_code 2 (omega arith) 6 n s.number ws s.rest fits (omega (arith, s.fits)) (sym f ∙ tails (sym e ∙ s.split)) in
+            le-leb most n (omega (arith, d.0, s.past)))),
       )
 
     module _ (one : bit ≡ 1) where
@@ -82,8 +82,8 @@ module _ (most : ℕ) (us vs : List ℕ) where
         long_told n ws f fits = (
           (λ t. inr (inr (record { number = n; rest = ws; fits = fits; some = many; past = leb-true (256 + most) n t; split = e ∙ ap (λ (b : ℕ). b ∷ vs) one ∙ ap (λ (l : List ℕ). 1 ∷ l) f }))),
           (λ h. (let s = of_long h in
-          let d = digits_code 2 (omega arith) 16 n s.number ws s.rest fits s.fits (sym f ∙ tails (sym e ∙ s.split)) in
-          le-leb (256 + most) n (omega (arith, d.0, s.past)))),
+              let d = digits_code 2 (omega arith) 16 n s.number ws s.rest fits s.fits (sym f ∙ tails (sym e ∙ s.split)) in
+              le-leb (256 + most) n (omega (arith, d.0, s.past)))),
         )
 
 -- an alternative past the profile

@@ -69,9 +69,7 @@ fn marked(known: Extent, additions: usize, added: Extent) -> Extent {
 /// Of an INTEGER with these bounds.
 fn number_bits(bounds: &Bounds) -> Extent {
     let known = match (bounds.low, bounds.high) {
-        (Some(low), Some(high)) => {
-            Extent::fixed(width_above(low, high))
-        }
+        (Some(low), Some(high)) => Extent::fixed(width_above(low, high)),
         (Some(low), None) => counted_bits(octets_above(low, HIGHEST_INTEGER)),
         (None, _) => counted_bits(integer_octets()),
     };

@@ -30,6 +30,7 @@ ARGUMENTS = {
     "&mut usize": ("0", "&mut {}"),
     "&mut u32": ("0", "&mut {}"),
     "&mut i64": ("0", "&mut {}"),
+    "&mut u64": ("0", "&mut {}"),
     "&[u8]": (None, 'b""'),
     "u32": (None, "0"),
     "usize": (None, "0"),

@@ -20,19 +20,21 @@ import exports  # noqa: E402
 SOURCE = {
     "&mut Handle": "handle", "&mut Fault": "fault*", "&Fault": "fault", "u32": "u32", "usize": "size",
     "&[u8]": "octets size", "&mut [u8]": "octets* size", "&mut usize": "size*", "&mut u32": "u32*", "&mut i64": "i64*",
+    "&mut u64": "u64*",
 }
 HEADER = {
     "tulvorn_handle *": "handle", "tulvorn_fault *": "fault*", "const tulvorn_fault *": "fault", "uint32_t ": "u32",
     "size_t ": "size", "const uint8_t *": "octets", "uint8_t *": "octets*", "size_t *": "size*", "uint32_t *": "u32*",
-    "int64_t *": "i64*",
+    "int64_t *": "i64*", "uint64_t *": "u64*",
 }
 RUST = {
     "*mut Handle": "handle", "*mut Fault": "fault*", "*const Fault": "fault", "u32": "u32", "usize": "size",
     "*const u8": "octets", "*mut u8": "octets*", "*mut usize": "size*", "*mut u32": "u32*", "*mut i64": "i64*",
+    "*mut u64": "u64*",
 }
 PYTHON = {
     "h": "handle", "f": "fault", "o": "octets", "w": "octets*", "s": "size", "u": "u32", "S": "size*", "U": "u32*",
-    "I": "i64*",
+    "I": "i64*", "N": "u64*",
 }
 
 

@@ -11,7 +11,7 @@ usage: tests/gate.py [PART..]      the parts are proofs, edits and tests; all th
    proofs: a crate's edits begin when the crate is proved, on processors that no proof takes.
 3. tests: the programs of tests/programs are built without a proof of their own (tests/room.py), and what they write is
    compared; tests/refused_allocations.sh refuses in turn each allocation of programs; tests/first.py runs `asn_first`,
-   and examples/run.sh, tests/versions.py, tests/published.py, published_commands.py, published_sets.py,
+   and examples/run.sh, tests/versions.py, limits.py, published.py, published_commands.py, published_sets.py,
    published_tags.py, published_sequences.py, streaming.py, forms.py, shown.py and tests/installed.sh `asn_tool`, as the gate
    has built them;
    tests/octet_counts.py and tests/published_rows.py look at rows without a program;
@@ -214,6 +214,7 @@ def tests_of_programs(part, room):
     step(part, ["tests/shown.py", TOOL])
     step(part, ["examples/run.sh", TOOL])
     step(part, ["tests/versions.py", TOOL])
+    step(part, ["tests/limits.py", TOOL])
     step(part, ["tests/published.py", TOOL])
     step(part, ["tests/published_commands.py", TOOL])
     step(part, ["tests/published_sets.py", TOOL])

@@ -22,6 +22,7 @@ static int nothing(void) {
     uint32_t word = 7;
     size_t size = 7;
     int64_t number = 7;
+    uint64_t without_sign = 7;
     CHECK(tulvorn_interface() == TULVORN_INTERFACE);
     CHECK(tulvorn_type(&none, TEXT("Msg"), &other, &fault) == TULVORN_MISUSE && fault.code == TULVORN_MISUSE);
     CHECK(tulvorn_share(&none, &other) == TULVORN_MISUSE);
@@ -36,6 +37,7 @@ static int nothing(void) {
     CHECK(tulvorn_kind(&none, NULL, 0, &word) == TULVORN_MISUSE && word == 7);
     CHECK(tulvorn_boolean(&none, NULL, 0, &word) == TULVORN_MISUSE && word == 7);
     CHECK(tulvorn_integer(&none, NULL, 0, &number) == TULVORN_MISUSE && number == 7);
+    CHECK(tulvorn_unsigned(&none, NULL, 0, &without_sign) == TULVORN_MISUSE && without_sign == 7);
     CHECK(tulvorn_count(&none, NULL, 0, &size) == TULVORN_MISUSE && size == 7);
     CHECK(tulvorn_bit(&none, NULL, 0, 0, &word) == TULVORN_MISUSE && word == 7);
     CHECK(tulvorn_octets(&none, NULL, 0, into, 4, &size) == TULVORN_MISUSE && size == 7);
@@ -187,6 +189,11 @@ static int parts(tulvorn_handle *type) {
     CHECK(tulvorn_integer(&value, TEXT("$.list[1].id"), &number) == TULVORN_DONE && number == 0);
     CHECK(tulvorn_integer(&value, TEXT("list[2].id"), &number) == TULVORN_NO_PATH && number == 0);
     CHECK(tulvorn_integer(&value, TEXT("key"), &number) == TULVORN_OTHER_KIND && number == 0);
+    uint64_t without_sign = 7;
+    CHECK(tulvorn_unsigned(&value, TEXT("one.number"), &without_sign) == TULVORN_DONE && without_sign == 200);
+    CHECK(tulvorn_unsigned(&value, TEXT("far"), &without_sign) == TULVORN_OTHER_KIND && without_sign == 200);
+    CHECK(tulvorn_unsigned(&value, TEXT("list[2].id"), &without_sign) == TULVORN_NO_PATH && without_sign == 200);
+    CHECK(tulvorn_unsigned(&value, TEXT("key"), &without_sign) == TULVORN_OTHER_KIND && without_sign == 200);
     CHECK(tulvorn_integer(&value, TEXT("\xff"), &number) == TULVORN_NOT_TEXT);
     CHECK(tulvorn_boolean(&value, TEXT("list[0].ok"), &word) == TULVORN_DONE && word == 1);
     CHECK(tulvorn_boolean(&value, TEXT("far"), &word) == TULVORN_OTHER_KIND && word == 1);

@@ -254,8 +254,13 @@ uint32_t tulvorn_kind(tulvorn_handle *value, const uint8_t *path, size_t len, ui
 /* The value of a BOOLEAN, 0 or 1, in `truth`. */
 uint32_t tulvorn_boolean(tulvorn_handle *value, const uint8_t *path, size_t len, uint32_t *truth);
 
-/* The value of an INTEGER, in `number`: those of the profile have 64 bits. */
+/* The value of an INTEGER, in `number`: of one that is no more than INT64_MAX. OTHER_KIND too where it is greater, which
+   tulvorn_unsigned tells. */
 uint32_t tulvorn_integer(tulvorn_handle *value, const uint8_t *path, size_t len, int64_t *number);
+
+/* The value of an INTEGER, in `number`: of one that is not below 0. OTHER_KIND too where it is, which tulvorn_integer
+   tells. Each integer of the profile is told by one of both. */
+uint32_t tulvorn_unsigned(tulvorn_handle *value, const uint8_t *path, size_t len, uint64_t *number);
 
 /* How many elements a SEQUENCE OF has, or bits, octets or characters a string (a UTF8String octets), in `count`; 0 of a
    value of another kind. Never OTHER_KIND. */

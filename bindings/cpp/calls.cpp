@@ -65,6 +65,7 @@ int main() {
     CHECK(Module::explain("M").find("line 1, column 2: ") == 0);
     Value value = type.from_json(R"({"id":5,"note":"A","colour":"green","key":"00ff","bits":"10"})");
     CHECK(value.integer("id") == 5 && value.boolean("ok") && value.text("note") == "A");
+    CHECK(value.unsigned_integer("id") == 5);
     CHECK(value.name("colour") == "green");
     CHECK(value.octets("key") == (Octets{0, 255}) && value.count("bits") == 2);
     CHECK(value.bit("bits", 0) && !value.bit("bits", 1));

@@ -156,6 +156,11 @@ class Value {
         detail::look(tulvorn_integer(held_.get(), detail::octets_of(path), path.size(), &number));
         return number;
     }
+    uint64_t unsigned_integer(std::string_view path) const {
+        uint64_t number = 0;
+        detail::look(tulvorn_unsigned(held_.get(), detail::octets_of(path), path.size(), &number));
+        return number;
+    }
     bool boolean(std::string_view path) const {
         uint32_t truth = 0;
         detail::look(tulvorn_boolean(held_.get(), detail::octets_of(path), path.size(), &truth));

@@ -80,6 +80,7 @@ FUNCTIONS = {
     "tulvorn_kind": "hosU:u",
     "tulvorn_boolean": "hosU:u",
     "tulvorn_integer": "hosI:u",
+    "tulvorn_unsigned": "hosN:u",
     "tulvorn_count": "hosS:u",
     "tulvorn_bit": "hossU:u",
     "tulvorn_octets": "hoswsS:u",
@@ -101,6 +102,7 @@ LETTERS = {
     "S": ctypes.POINTER(ctypes.c_size_t),
     "U": ctypes.POINTER(ctypes.c_uint32),
     "I": ctypes.POINTER(ctypes.c_int64),
+    "N": ctypes.POINTER(ctypes.c_uint64),
 }
 INTERFACE = 1
 
@@ -237,7 +239,10 @@ class Value(_Held):
         return self._part(_library.tulvorn_kind, path, ctypes.c_uint32())
 
     def integer(self, path):
-        return self._part(_library.tulvorn_integer, path, ctypes.c_int64())
+        try:
+            return self._part(_library.tulvorn_integer, path, ctypes.c_int64())
+        except TypeError:
+            return self._part(_library.tulvorn_unsigned, path, ctypes.c_uint64())
 
     def boolean(self, path):
         return bool(self._part(_library.tulvorn_boolean, path, ctypes.c_uint32()))

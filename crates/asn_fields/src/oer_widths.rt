@@ -48,9 +48,9 @@ pub(crate) fn octets_of(ty: &AsnType) -> Extent {
             let known = alternatives_octets(root);
             let all = match ext {
                 None => known,
-                Some(additions) => open_alternatives_octets(known, additions),
+                Some(additions) => open_alternatives_octets(known, root.len(), additions),
             };
-            Extent::fixed(1).and(all.unwrap_or(Extent::fixed(0)))
+            all.unwrap_or(Extent::fixed(1))
         }
     }
 }
@@ -70,7 +70,18 @@ fn counts_of(size: &Size) -> (u64, Option<u64>) {
 /// Of an INTEGER with these bounds: 1, 2, 4 or 8 octets where both bounds are there and such numbers have no more; else a
 /// length, and as many octets as the number has.
 fn number_octets(bounds: &Bounds) -> Extent {
-    let fixed = match (bounds.low, bounds.high) {
+    match fixed_octets(bounds) {
+        Some(octets) => Extent::fixed(octets),
+        None => Extent {
+            least: 2,
+            greatest: Some(most_octets(bounds).saturating_add(1)),
+        },
+    }
+}
+
+/// How many octets each number of these bounds has, where they have no length.
+pub(crate) fn fixed_octets(bounds: &Bounds) -> Option<u64> {
+    match (bounds.low, bounds.high) {
         (Some(low), Some(high)) if !bounds.ext => {
             if low >= 0 {
                 width_from_zero(high)
@@ -79,13 +90,6 @@ fn number_octets(bounds: &Bounds) -> Extent {
             }
         }
         _ => None,
-    };
-    match fixed {
-        Some(octets) => Extent::fixed(octets),
-        None => Extent {
-            least: 2,
-            greatest: Some(most_octets(bounds).saturating_add(1)),
-        },
     }
 }
 
@@ -226,24 +230,40 @@ fn additions_octets(fields: &[Field]) -> Extent {
     all
 }
 
-/// Of one of these alternatives.
+/// Of the tag and the value of one of these alternatives.
 #[cycle(octets)]
 fn alternatives_octets(alternatives: &[Alt]) -> Option<Extent> {
     let mut any = None;
-    for alternative in alternatives {
-        any = one_more(any, octets_of(&alternative.ty));
+    for (index, alternative) in alternatives.iter().enumerate() {
+        any = one_more(any, tag_octets(index).and(octets_of(&alternative.ty)));
     }
     any
 }
 
-/// Of one of some, where there is one, or of one of these, in an open type field.
+/// Of one of some, where there is one, or of one of these after `before` others, in an open type field.
 #[cycle(octets)]
-fn open_alternatives_octets(any: Option<Extent>, alternatives: &[Alt]) -> Option<Extent> {
+fn open_alternatives_octets(
+    any: Option<Extent>,
+    before: usize,
+    alternatives: &[Alt],
+) -> Option<Extent> {
     let mut any = any;
-    for alternative in alternatives {
-        any = one_more(any, open_octets(octets_of(&alternative.ty)));
+    for (index, alternative) in alternatives.iter().enumerate() {
+        let tag = tag_octets(before.saturating_add(index));
+        any = one_more(any, tag.and(open_octets(octets_of(&alternative.ty))));
     }
     any
+}
+
+/// The octets of the tag of the alternative at an index: one, or from 63 on one and those of the index in base 128.
+fn tag_octets(index: usize) -> Extent {
+    Extent::fixed(if index < 63 {
+        1
+    } else if index < 128 {
+        2
+    } else {
+        3
+    })
 }
 
 /// Of an open type field around this many octets.

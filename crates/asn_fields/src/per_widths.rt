@@ -15,7 +15,7 @@ pub(crate) fn bits_of(ty: &AsnType) -> Extent {
             let known = Extent::fixed(width_of((root.len() as u64).saturating_sub(1)));
             match ext {
                 None => known,
-                Some(additions) => marked(known, 7, additions.is_empty(), Extent::fixed(0)),
+                Some(additions) => marked(known, additions.len(), Extent::fixed(0)),
             }
         }
         AsnType::Bits(size) => sized_bits(size, Extent::fixed(1)),
@@ -44,32 +44,32 @@ pub(crate) fn bits_of(ty: &AsnType) -> Extent {
             let known = Extent::fixed(index).and(alternatives_bits(root));
             match ext {
                 None => known,
-                Some(additions) => marked(
-                    known,
-                    7,
-                    additions.is_empty(),
-                    open_alternatives_bits(additions),
-                ),
+                Some(additions) => {
+                    marked(known, additions.len(), open_alternatives_bits(additions))
+                }
             }
         }
     }
 }
 
-/// After an extension bit what the root has, or an index of this many bits and what an addition has, where there is one.
-fn marked(known: Extent, index: u64, is_closed: bool, added: Extent) -> Extent {
+/// After an extension bit what the root has, or the index of one of this many additions and what it has, where there are
+/// some. An index is a normally small number: 7 bits, or from 64 on a bit, an octet of length and one more octet.
+fn marked(known: Extent, additions: usize, added: Extent) -> Extent {
     let mark = Extent::fixed(1);
-    if is_closed {
+    if additions == 0 {
         return mark.and(known);
     }
-    mark.and(known.or(Extent::fixed(index).and(added)))
+    let index = Extent {
+        least: 7,
+        greatest: Some(if additions > 64 { 17 } else { 7 }),
+    };
+    mark.and(known.or(index.and(added)))
 }
 
 /// Of an INTEGER with these bounds.
 fn number_bits(bounds: &Bounds) -> Extent {
     let known = match (bounds.low, bounds.high) {
-        (Some(low), Some(high)) => {
-            Extent::fixed(width_above(low, high))
-        }
+        (Some(low), Some(high)) => Extent::fixed(width_above(low, high)),
         (Some(low), None) => counted_bits(octets_above(low, HIGHEST_INTEGER)),
         (None, _) => counted_bits(integer_octets()),
     };

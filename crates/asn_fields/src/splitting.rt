@@ -1,5 +1,6 @@
 //! What the units of a value of a simple type are: an extension bit, a length determinant, and the contents.
 
+use crate::oer_widths::fixed_octets;
 use asn_rules::Unit;
 use asn_values::internal::{is_between, is_in_size};
 use asn_values::{AsnType, TextKind, Value};
@@ -147,7 +148,7 @@ fn is_counted(ty: &AsnType, value: &Value) -> bool {
 /// Whether an integer of the type stands after the count of its octets in OER.
 fn is_counted_in_octets(ty: &AsnType) -> bool {
     match ty {
-        AsnType::Int(bounds) => bounds.ext || bounds.low.is_none() || bounds.high.is_none(),
+        AsnType::Int(bounds) => fixed_octets(bounds).is_none(),
         _ => false,
     }
 }

@@ -1,5 +1,5 @@
 -- JSON that showed a value under the limits of the profile before shows it, and readers keep it.
-use Rattle.std.proofs.Common.{◌≡◌, ℕ, List, [], codes, refl, sym, ap, ◌∙◌}
+use Rattle.std.proofs.Common.{◌≡◌, ℕ, List, [], Some, None, string_bytes, codes, refl, sym, ap, ◌∙◌}
 use Rattle.serde_json.specs.Data.{Data}
 use Rattle.asn_values.specs.Datum.{Datum}
 use Rattle.asn_values.specs.Fits.{limits, Fits}
@@ -35,6 +35,7 @@ unfit_before t j w v shown unfit s =
 pub fault_before : (t : Shape) (j : Data) (f : JsonFault) → Refused t j f → (v : Datum) → ShownBefore t j v → f ≡ fault.Memory
 fault_before t j (fault.Shape path) h v s =
     let none : bad t j ≡ [] = (shown_before t j v s).no_errors in
-    absurd (rw none at h)
+    let told : None ≡ Some (string_bytes path) = rw none at h in
+    absurd cc
 fault_before t j fault.NotOfType h v s = absurd (h.1 v (shown_before t j v s) (fits_before t j v s))
 fault_before t j fault.Memory h v s = refl

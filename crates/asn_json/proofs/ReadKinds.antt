@@ -147,7 +147,7 @@ few_items root more good =
     let many = left_false (too_many_here whole) (nat_lt most_nodes (nodes whole)) (good TooMany) in
     ltb-false most_items (length root + length (more_labels more)) (left_false (nat_lt most_items (length root + length (more_labels more))) (nat_lt most_item_additions (length (more_labels more))) many)
 
-pub few_alternatives : (root : Alternatives) (more : MoreAlternatives) → InProfile (choice root more) → count root + count (more_alternatives more) ≤ 63
+pub few_alternatives : (root : Alternatives) (more : MoreAlternatives) → InProfile (choice root more) → count root + count (more_alternatives more) ≤ most_alternatives
 few_alternatives root more good =
     let whole = choice root more in
     let many = left_false (somewhere too_many_here whole) (nat_lt most_nodes (nodes whole)) (good TooMany) in

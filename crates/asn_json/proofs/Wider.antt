@@ -66,6 +66,17 @@ object_stays : (f g : Members → List (List ℕ)) (x y : Members → Datum) →
 object_stays f g x y stays None h = (h, refl)
 object_stays f g x y stays (Some ms) h = stays ms h
 
+-- of the components before the mark and after it, with the keys that are unknown
+components_stay : (root root' added added' unknown : List (List ℕ)) (es es' fs fs' : List (Option Datum))
+    → (root ≡ [] → (root' ≡ []) × (es' ≡ es)) → (added ≡ [] → (added' ≡ []) × (fs' ≡ fs))
+    → root ++ (added ++ unknown) ≡ [] → (root' ++ (added' ++ unknown) ≡ []) × (of_entries (es' ++ fs') ≡ of_entries (es ++ fs))
+components_stay root root' added added' unknown es es' fs fs' first second h =
+    let all = parts_empty root (added ++ unknown) h in
+    let later = parts_empty added unknown all.1 in
+    let a = first all.0 in
+    let b = second later.0 in
+    (both_empty root' (added' ++ unknown) a.0 (both_empty added' unknown b.0 later.1), rw (a.1, b.1) refl)
+
 -- of the alternative at each index
 abbrev AlternativesStay : (ℕ → Data → List (List ℕ)) → (ℕ → Data → List (List ℕ)) → (ℕ → Data → Datum) → (ℕ → Data → Datum) → Type 0
 AlternativesStay f g x y = (p : ℕ) → Stays (f p) (g p) (x p) (y p)
@@ -131,7 +142,8 @@ module _ (l m : Limits) (w : AreWider l m) where
         (λ ms. field_errors_under m root ms ++ (added_errors_under m more ms ++ unknown_errors (component_names root more) ms))
         (λ ms. of_entries (entries_under l root ms ++ added_entries_under l more ms))
         (λ ms. of_entries (entries_under m root ms ++ added_entries_under m more ms))
-        (λ ms e. components_stay root more ms e) (as_object j) h
+        (λ ms e. components_stay (field_errors_under l root ms) (field_errors_under m root ms) (added_errors_under l more ms) (added_errors_under m more ms) (unknown_errors (component_names root more) ms)
+        (entries_under l root ms) (entries_under m root ms) (added_entries_under l more ms) (added_entries_under m more ms) (fields_stay root ms) (additions_stay more ms) e) (as_object j) h
     type_stays (sequence_of t s) j h =
         array_stays (errors_under l t) (errors_under m t) (value_of_under l t) (value_of_under m t) (type_stays t) (as_array j) h
     type_stays (choice root more) j h =
@@ -144,18 +156,6 @@ module _ (l m : Limits) (w : AreWider l m) where
         (value_at_under l root p) (value_at_under m root p) (added_value_at_under l more (p - count root)) (added_value_at_under m more (p - count root))
         (alternative_stays root p) (added_alternative_stays more (p - count root)) e f)
         (choice_names root more) (only_member j) h
-
-    components_stay : (root : Fields) (more : MoreFields) (ms : Members)
-        → field_errors_under l root ms ++ (added_errors_under l more ms ++ unknown_errors (component_names root more) ms) ≡ []
-        → (field_errors_under m root ms ++ (added_errors_under m more ms ++ unknown_errors (component_names root more) ms) ≡ [])
-        × (of_entries (entries_under m root ms ++ added_entries_under m more ms) ≡ of_entries (entries_under l root ms ++ added_entries_under l more ms))
-    components_stay root more ms h =
-        let unknown = unknown_errors (component_names root more) ms in
-        let all = parts_empty (field_errors_under l root ms) (added_errors_under l more ms ++ unknown) h in
-        let later = parts_empty (added_errors_under l more ms) unknown all.1 in
-        let first = fields_stay root ms all.0 in
-        let added = additions_stay more ms later.0 in
-        (both_empty (field_errors_under m root ms) (added_errors_under m more ms ++ unknown) first.0 (both_empty (added_errors_under m more ms) unknown added.0 later.1), rw (first.1, added.1) refl)
 
     fields_stay : (fs : Fields) (ms : Members) → field_errors_under l fs ms ≡ [] → (field_errors_under m fs ms ≡ []) × (entries_under m fs ms ≡ entries_under l fs ms)
     fields_stay no_fields ms h = (refl, refl)

@@ -107,7 +107,7 @@ module _ {t : Shape} {root : Fields} (fs : List Field) (e : t ≡ sequence root 
 
 -- few of them
 few_choices : (root : Alternatives) (more : MoreAlternatives) → InProfile (choice root more)
-    → count root + count (more_alternatives more) ≤ 63
+    → count root + count (more_alternatives more) ≤ most_alternatives
 few_choices root more good =
     let all : somewhere too_many_here (choice root more) ≡ false = left_false (somewhere too_many_here (choice root more)) (nat_lt most_nodes (nodes (choice root more))) (good TooMany) in
     let here : nat_lt most_alternatives (count root + count (more_alternatives more)) ≡ false = left_false (nat_lt most_alternatives (count root + count (more_alternatives more))) (some_alternative too_many_here root || some_more too_many_here more) all in
@@ -193,11 +193,11 @@ module _ (t : AsnType) (root : Vec Alt Global) (ext : Option (Vec Alt Global)) (
     pub some_root : (n : ℕ) → n ≡ vec_len root → 0 < n
     some_root n e = let some = some_alternatives (alternatives_of (map branch_of root.items)) (more_alternatives_of ext) choice_good in omega (arith, some, known_count root n e)
 
-    pub few_root : (n : ℕ) → n ≡ vec_len root → n ≤ 63
+    pub few_root : (n : ℕ) → n ≡ vec_len root → n ≤ most_alternatives
     few_root n e = let few = few_choices (alternatives_of (map branch_of root.items)) (more_alternatives_of ext) choice_good in omega (arith, few, known_count root n e)
 
     pub few_all : (n : ℕ) → n ≡ vec_len root → (additions : Vec Alt Global) → ext ≡ Some additions
-        → n + vec_len additions ≤ 63
+        → n + vec_len additions ≤ most_alternatives
     few_all n e additions f =
         let few = few_choices (alternatives_of (map branch_of root.items)) (more_alternatives_of ext) choice_good in
         let more : count (more_alternatives (more_alternatives_of ext)) ≡ vec_len additions = ap count (additions_are ext additions additions.items f refl) ∙ count-of additions.items ∙ sym additions.ok.0 in

@@ -3,7 +3,7 @@ use Rattle.std.proofs.Common.{Vec, Global, ◌+◌, ◌≤◌, ◌≡◌, ◌<�
 use Rattle.asn_values.specs.declared.types.Alt.{Alt}
 use Rattle.asn_values.specs.Datum.{alternative}
 use Rattle.asn_values.specs.Shape.{Shape, Alternatives, MoreAlternatives, more_alternatives, choice, count}
-use Rattle.asn_values.specs.Profile.{InProfile}
+use Rattle.asn_values.specs.Profile.{InProfile, most_alternatives}
 use Rattle.asn_values.specs.Parts.{AreAllOfProfile}
 use Rattle.asn_values.specs.View.{shape_of, branch_of, alternatives_of, alternatives_seen, more_alternatives_of}
 use Rattle.asn_values.proofs.Alternatives.{count-of, shape_of_branch}
@@ -43,7 +43,7 @@ module _ (Value : Shape → List ℕ → Type 0) (d : Alt) (us : List ℕ) where
 pub few_seen : (root : List Alt) (more : MoreAlternatives) → InProfile (choice (alternatives_seen root) more) → AreFew (length root) (added_alternatives more)
 few_seen root more good = subst (λ (n : ℕ). AreFew n (added_alternatives more)) (count-of root) (few_indexes (alternatives_seen root) more good)
 
-pub few_of_root : (n : ℕ) (more : Option ℕ) → AreFew n more → n ≤ 63
+pub few_of_root : (n : ℕ) (more : Option ℕ) → AreFew n more → n ≤ most_alternatives
 few_of_root n None h = h
 few_of_root n (Some k) h = omega (arith, h)
 
@@ -175,10 +175,10 @@ module _ {F : Type 0} (c : Coding) (laws : Laws c) (fc : FieldCoding) (ahead : F
         omega (arith, inside, count-of v.items)
 
     -- it has a number that is not too large
-    pub few_tags : (i : ℕ) (fs : List (Frame F)) (all units : List ℕ) → A i fs all units → length root + i ≤ 63
+    pub few_tags : (i : ℕ) (fs : List (Frame F)) (all units : List ℕ) → A i fs all units → length root + i ≤ most_alternatives
     few_tags i fs all units h =
         let few : AreFew (length root) (added_alternatives (more_alternatives_of ext)) = few_seen root (more_alternatives_of ext) good in
-        let sum : length root + count (alternatives_of (map branch_of v.items)) ≤ 63 = rw is at few in
+        let sum : length root + count (alternatives_of (map branch_of v.items)) ≤ most_alternatives = rw is at few in
         omega (arith, addition_inside i fs all units h, count-of v.items, sum)
 
     pub record AdditionAhead (i : ℕ) (fs : List (Frame F)) (t : Shape) (all units : List ℕ) : Type 0 where

@@ -1,5 +1,5 @@
 -- What calls answer about the part of a value at a path.
-use Rattle.std.specs.Prelude.{◌≡◌, ◌⊎◌, ℕ, ℤ, List, Bool, true, false, Option, Some, None, option_map, option_and_then, slice_get, IsUtf8, FitsSigned, MatchOption}
+use Rattle.std.specs.Prelude.{◌≡◌, ◌⊎◌, ℕ, ℤ, pos, List, Bool, true, false, Option, Some, None, option_map, option_and_then, slice_get, IsUtf8, FitsSigned, FitsUnsigned, MatchOption}
 use mir.Syntax.{w64}
 use Rattle.asn_view.specs.Typed.{Typed, truth_of, integer_of, octets_of, bits_of, text_of, length_of, item_name_in, chosen_in}
 use Rattle.asn_view.specs.Paths.{value_at_path}
@@ -55,11 +55,17 @@ TellsTruth old new part fault =
     MatchOption (truth_of part.datum) (IsOtherKind (new ≡ old) fault) (λ b.
     (fault ≡ done) × (new ≡ number_of_truth b))
 
--- a number that is none of 64 bits is told of no value of a type of the profile
+-- a number of 64 bits with a sign; another is of another kind
 abbrev pub TellsInteger : ℤ → ℤ → Typed → Fault → Type 0
 TellsInteger old new part fault =
     ((fault ≡ done) × (integer_of part.datum ≡ Some new))
     ⊎ (IsOtherKind (new ≡ old) fault × ((z : ℤ) → integer_of part.datum ≡ Some z → ¬ FitsSigned w64 z))
+
+-- a number of 64 bits without a sign; another is of another kind
+abbrev pub TellsUnsigned : ℕ → ℕ → Typed → Fault → Type 0
+TellsUnsigned old new part fault =
+    ((fault ≡ done) × (integer_of part.datum ≡ Some (pos new)))
+    ⊎ (IsOtherKind (new ≡ old) fault × ((z : ℤ) → integer_of part.datum ≡ Some z → ¬ FitsUnsigned w64 z))
 
 -- octets are put in front, or there are none of this kind
 abbrev pub TellsOctets : (Typed → Option (List ℕ)) → List ℕ → List ℕ → ℕ → ℕ → Typed → Fault → Type 0

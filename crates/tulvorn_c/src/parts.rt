@@ -14,6 +14,7 @@ ghost use Rattle.tulvorn_c.specs.Parts.{
   number_of_kind,
   TellsTruth,
   TellsInteger,
+  TellsUnsigned,
   TellsCount,
   TellsBit,
 };
@@ -148,7 +149,7 @@ fn boolean_of(part: &View<'_>, truth: &mut u32) -> u32
     }
 }
 
-/// The value of an INTEGER.
+/// The value of an INTEGER that is no more than 2^63 - 1. A greater one is of another kind: see `tulvorn_unsigned`.
 #[unsafe(no_mangle)]
 pub extern "C" fn tulvorn_integer(
     alloc: Global,
@@ -188,6 +189,54 @@ fn integer_of(part: &View<'_>, number: &mut i64) -> u32
         return OTHER_KIND;
     };
     match i64::try_from(value) {
+        Ok(value) => {
+            *number = value;
+            DONE
+        }
+        Err(_) => OTHER_KIND,
+    }
+}
+
+/// The value of an INTEGER that is not below 0. Another is of another kind: see `tulvorn_integer`.
+#[unsafe(no_mangle)]
+pub extern "C" fn tulvorn_unsigned(
+    alloc: Global,
+    value: &mut Handle,
+    path: &[u8],
+    number: &mut u64,
+) -> u32
+    ensures kept { value.new.kept ≡ value.old.kept }
+    ensures told { AskedPart (held_value value.old.kept) path.now (number.new ≡ number.old)
+        (TellsUnsigned number.old number.new) (plain result) }
+{
+    let Some(it) = replace(value, Handle::none(alloc)).into_box() else {
+        return MISUSE;
+    };
+    let code = match it.as_ref() {
+        Object::Value { ty, value } => unsigned_at(ty, value, path, number),
+        _ => MISUSE,
+    };
+    value.give_back(it);
+    code
+}
+
+fn unsigned_at(ty: &Checked, value: &Value, path: &[u8], number: &mut u64) -> u32
+    ensures { TellsPart path.now (number.new ≡ number.old) (TellsUnsigned number.old number.new)
+        (typed (shape_of ty.now) (datum_of value.now)) (plain result) }
+{
+    match part_at(ty, value, path) {
+        Ok(part) => unsigned_of(&part, number),
+        Err(code) => code,
+    }
+}
+
+fn unsigned_of(part: &View<'_>, number: &mut u64) -> u32
+    ensures { TellsUnsigned number.old number.new (seen part.now) (plain result) }
+{
+    let Some(value) = part.as_int() else {
+        return OTHER_KIND;
+    };
+    match u64::try_from(value) {
         Ok(value) => {
             *number = value;
             DONE

@@ -93,6 +93,7 @@ unsafe extern "C" {
     pub fn tulvorn_kind(value: *mut Handle, path: *const u8, len: usize, kind: *mut u32) -> u32;
     pub fn tulvorn_boolean(value: *mut Handle, path: *const u8, len: usize, truth: *mut u32) -> u32;
     pub fn tulvorn_integer(value: *mut Handle, path: *const u8, len: usize, number: *mut i64) -> u32;
+    pub fn tulvorn_unsigned(value: *mut Handle, path: *const u8, len: usize, number: *mut u64) -> u32;
     pub fn tulvorn_count(value: *mut Handle, path: *const u8, len: usize, count: *mut usize) -> u32;
     pub fn tulvorn_bit(value: *mut Handle, path: *const u8, len: usize, index: usize, bit: *mut u32) -> u32;
     pub fn tulvorn_octets(

@@ -93,10 +93,22 @@ impl Inside {
         self.part().kind()
     }
 
-    /// The value of an INTEGER.
+    /// The value of an INTEGER; None too of one above `i64::MAX`.
     #[must_use]
     pub fn as_i64(&self) -> Option<i64> {
         self.part().as_i64()
+    }
+
+    /// The value of an INTEGER; None too of one below 0.
+    #[must_use]
+    pub fn as_u64(&self) -> Option<u64> {
+        self.part().as_u64()
+    }
+
+    /// The value of an INTEGER.
+    #[must_use]
+    pub fn as_i128(&self) -> Option<i128> {
+        self.part().as_i128()
     }
 
     /// The value of a BOOLEAN.

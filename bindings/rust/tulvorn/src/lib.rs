@@ -610,10 +610,22 @@ impl Part<'_> {
         KINDS.get((self.told(ffi::tulvorn_kind)? as usize).checked_sub(1)?).copied()
     }
 
-    /// The value of an INTEGER.
+    /// The value of an INTEGER; None too of one above `i64::MAX`.
     #[must_use]
     pub fn as_i64(self) -> Option<i64> {
         self.told(ffi::tulvorn_integer)
+    }
+
+    /// The value of an INTEGER; None too of one below 0.
+    #[must_use]
+    pub fn as_u64(self) -> Option<u64> {
+        self.told(ffi::tulvorn_unsigned)
+    }
+
+    /// The value of an INTEGER.
+    #[must_use]
+    pub fn as_i128(self) -> Option<i128> {
+        self.as_i64().map(i128::from).or_else(|| self.as_u64().map(i128::from))
     }
 
     /// The value of a BOOLEAN.

@@ -21,6 +21,9 @@ fn tells_the_parts_of_a_value() {
     let all = Module::read(MODULE).unwrap().ty("All").unwrap();
     let value = all.read_json(ALL).unwrap();
     assert_eq!(value.at("far").as_i64(), Some(-70_000_000_000));
+    assert_eq!(value.at("far").as_u64(), None);
+    assert_eq!(value.at("far").as_i128(), Some(-70_000_000_000));
+    assert_eq!(value.at("one.number").as_u64(), Some(200));
     assert_eq!(value.at("list[0].note").as_text().as_deref(), Some("A"));
     assert_eq!(value.at("list[1].note").as_text(), None);
     assert_eq!(value.at("list[1].ok").as_bool(), Some(true));

@@ -28,6 +28,7 @@ use Rattle.asn_walk_feed.specs.Roots.{parts_in}
 use Rattle.asn_walk_feed.specs.Taken.{RootReached}
 use Rattle.asn_walk_feed.proofs.RootsRead.{added_count, sequence_took, component_ahead, presence_left, root_starts, root_goes_on, root_ends, root_emptied, took_components, sequence_none, sequence_start, next_in, none_left, plain_demand, no_default, other_kept, value_kept, absent_took, took_other, took_value}
 use Rattle.asn_values.specs.Parts.{IsGoodDemand}
+use Rattle.asn_values.specs.Profile.{most_alternatives}
 use Rattle.asn_values.specs.Shape.{Demand, must, optional, default}
 use Rattle.asn_values.specs.View.{demand_of}
 use Rattle.asn_values.proofs.Components.{shape_of_part}
@@ -671,7 +672,7 @@ choices::start_choice-returns-in-Err-Refused-clause-stop g t c =
 
 pub choices::feed_choice-overflow_cast-result : goal.choices::feed_choice-overflow_cast-result
 choices::feed_choice-overflow_cast-result g t c =
-    let few : length c.args.root.now ≤ 63 = few_of_root (length c.args.root.now) (added_alternatives c.requires.reached.0) (few_seen c.args.root.now c.requires.reached.0 c.requires.reached.1) in
+    let few : length c.args.root.now ≤ most_alternatives = few_of_root (length c.args.root.now) (added_alternatives c.requires.reached.0) (few_seen c.args.root.now c.requires.reached.0 c.requires.reached.1) in
     omega (arith, c.requires.inside, few)
 
 pub choices::feed_choice-feed-requires : goal.choices::feed_choice-feed-requires
@@ -781,17 +782,17 @@ choices::feed_added-bounds-additions-index g t c =
 
 pub choices::feed_added-offset_bounds-additions-index : goal.choices::feed_added-offset_bounds-additions-index
 choices::feed_added-offset_bounds-additions-index g t c =
-    let few : length c.args.root.now + c.args.index ≤ 63 = few_tags g.R.ReadLeaves.rules c.keep_laws.ensures g.R.FeedLeaves.fields g.R.ReadLeaves.ahead g.R.ReadLeaves.is_between c.args.root.now c.args.ext.now c.requires.of_profile c.in-Some.additions c.in-Some.is c.args.index (nodes c.args.frames.now) c.requires.reached.0 (g.R.ReadLeaves.rules.to_units c.args.units.now) c.requires.reached.1 in
+    let few : length c.args.root.now + c.args.index ≤ most_alternatives = few_tags g.R.ReadLeaves.rules c.keep_laws.ensures g.R.FeedLeaves.fields g.R.ReadLeaves.ahead g.R.ReadLeaves.is_between c.args.root.now c.args.ext.now c.requires.of_profile c.in-Some.additions c.in-Some.is c.args.index (nodes c.args.frames.now) c.requires.reached.0 (g.R.ReadLeaves.rules.to_units c.args.units.now) c.requires.reached.1 in
     omega (arith, few)
 
 pub choices::feed_added-overflow_add-result : goal.choices::feed_added-overflow_add-result
 choices::feed_added-overflow_add-result g t c =
-    let few : length c.args.root.now + c.args.index ≤ 63 = few_tags g.R.ReadLeaves.rules c.keep_laws.ensures g.R.FeedLeaves.fields g.R.ReadLeaves.ahead g.R.ReadLeaves.is_between c.args.root.now c.args.ext.now c.requires.of_profile c.in-Some.additions c.in-Some.is c.args.index (nodes c.args.frames.now) c.requires.reached.0 (g.R.ReadLeaves.rules.to_units c.args.units.now) c.requires.reached.1 in
+    let few : length c.args.root.now + c.args.index ≤ most_alternatives = few_tags g.R.ReadLeaves.rules c.keep_laws.ensures g.R.FeedLeaves.fields g.R.ReadLeaves.ahead g.R.ReadLeaves.is_between c.args.root.now c.args.ext.now c.requires.of_profile c.in-Some.additions c.in-Some.is c.args.index (nodes c.args.frames.now) c.requires.reached.0 (g.R.ReadLeaves.rules.to_units c.args.units.now) c.requires.reached.1 in
     omega (arith, few)
 
 pub choices::feed_added-overflow_cast-result : goal.choices::feed_added-overflow_cast-result
 choices::feed_added-overflow_cast-result g t c =
-    let few : length c.args.root.now + c.args.index ≤ 63 = few_tags g.R.ReadLeaves.rules c.keep_laws.ensures g.R.FeedLeaves.fields g.R.ReadLeaves.ahead g.R.ReadLeaves.is_between c.args.root.now c.args.ext.now c.requires.of_profile c.in-Some.additions c.in-Some.is c.args.index (nodes c.args.frames.now) c.requires.reached.0 (g.R.ReadLeaves.rules.to_units c.args.units.now) c.requires.reached.1 in
+    let few : length c.args.root.now + c.args.index ≤ most_alternatives = few_tags g.R.ReadLeaves.rules c.keep_laws.ensures g.R.FeedLeaves.fields g.R.ReadLeaves.ahead g.R.ReadLeaves.is_between c.args.root.now c.args.ext.now c.requires.of_profile c.in-Some.additions c.in-Some.is c.args.index (nodes c.args.frames.now) c.requires.reached.0 (g.R.ReadLeaves.rules.to_units c.args.units.now) c.requires.reached.1 in
     omega (arith, few)
 
 pub choices::feed_added-feed_open_field-requires : goal.choices::feed_added-feed_open_field-requires

@@ -1,4 +1,5 @@
 use Rattle.std.proofs.Common.{◌∙◌, ◌≤◌, ◌++◌, length, ap}
+use Rattle.asn_values.specs.Profile.{most_alternatives}
 use Rattle.asn_values.specs.LookUp.{added}
 use Rattle.asn_view.specs.Names.{index_of}
 use Rattle.asn_json.proofs.NameIndexes.{alternatives_named, all_alternatives, below}
@@ -10,5 +11,5 @@ returns-clause-index c = c.alternative_index.ensures.index ∙ ap (index_of c.ar
 pub returns-clause-inside : goal.returns-clause-inside
 returns-clause-inside c =
     let all = c.args.root.now ++ added c.args.ext.now in
-    let few : length all ≤ 63 = rw (all_alternatives c.args.root.now c.args.ext.now) c.requires.few in
-    below c.alternative_index.result (length all) 63 few c.alternative_index.ensures.inside
+    let few : length all ≤ most_alternatives = rw (all_alternatives c.args.root.now c.args.ext.now) c.requires.few in
+    below c.alternative_index.result (length all) most_alternatives few c.alternative_index.ensures.inside

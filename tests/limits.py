@@ -114,7 +114,7 @@ def around(rand, inner, count):
     for _ in range(count):
         a, b = rand.choice(inner), rand.choice(inner)
         yield rand.choice([
-            f'SEQUENCE (SIZE (0..5)) OF {a}',
+            f'SEQUENCE (SIZE (0..5)) OF SEQUENCE {{ a {a}, b BOOLEAN }}',
             f'SEQUENCE {{ a BOOLEAN, b {a}, ..., c {b} OPTIONAL }}',
             f'SEQUENCE {{ a {a} OPTIONAL, b SEQUENCE {{ c {b}, d BOOLEAN }} }}',
             f'CHOICE {{ a {a}, ..., b {b} }}',

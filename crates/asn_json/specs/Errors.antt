@@ -60,7 +60,8 @@ abbrev mutual
   errors_under l utf8_string j = unless_read (unicode_in j)
   errors_under l (sequence root more) j =
       errors_within (λ ms.
-      field_errors_under l root ms ++ (added_errors_under l more ms ++ unknown_errors (component_names root more) ms)) (as_object j)
+      field_errors_under l root ms
+      ++ (added_errors_under l more ms ++ unknown_errors (component_names root more) ms)) (as_object j)
   errors_under l (sequence_of t s) j = errors_within (λ ds. element_errors (λ e. errors_under l t e) 0 ds) (as_array j)
   errors_under l (choice root more) j =
       member_errors (λ p e.

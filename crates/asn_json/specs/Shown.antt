@@ -121,8 +121,10 @@ abbrev mutual
   value_of_under l (restricted k s) j = or_nothing (characters_in j)
   value_of_under l utf8_string j = or_nothing (unicode_in j)
   value_of_under l (sequence root more) j =
-      or_nothing (option_map (λ ms. of_entries (entries_under l root ms ++ added_entries_under l more ms)) (as_object j))
-  value_of_under l (sequence_of t s) j = or_nothing (option_map (λ ds. of_elements (λ e. value_of_under l t e) ds) (as_array j))
+      or_nothing (option_map (λ ms.
+      of_entries (entries_under l root ms ++ added_entries_under l more ms)) (as_object j))
+  value_of_under l (sequence_of t s) j =
+      or_nothing (option_map (λ ds. of_elements (λ e. value_of_under l t e) ds) (as_array j))
   value_of_under l (choice root more) j =
       member_value (λ p e.
       if nat_lt p (count root) then value_at_under l root p e else added_value_at_under l more (p - count root) e)
@@ -131,7 +133,8 @@ abbrev mutual
   -- the entries of a SEQUENCE, one for each component
   pub entries_under : Limits → Fields → Members → List (Option Datum)
   entries_under l no_fields ms = []
-  entries_under l (field name demand t fs) ms = entry_of demand (λ j. value_of_under l t j) (get_member name ms) ∷ entries_under l fs ms
+  entries_under l (field name demand t fs) ms =
+      entry_of demand (λ j. value_of_under l t j) (get_member name ms) ∷ entries_under l fs ms
 
   pub added_entries_under : Limits → MoreFields → Members → List (Option Datum)
   added_entries_under l closed ms = []

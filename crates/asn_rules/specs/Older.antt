@@ -45,5 +45,5 @@ OnlyMemoryIsWantingAsBefore r =
 -- to the octets a decoder answers the value, or Memory
 abbrev pub DecodesAsBefore : Ruling → Type 0
 DecodesAsBefore r =
-    (t : Shape) (v : Datum) (o : List ℕ) (answer : Result Value DecodeFault) → EncodedBefore r t v o → Decoded r answer t o
-    → ((w : Value) × (answer ≡ Ok w) × (datum_of w ≡ v)) ⊎ (answer ≡ Err decode.Memory)
+    (t : Shape) (v : Datum) (o : List ℕ) (answer : Result Value DecodeFault) → EncodedBefore r t v o
+    → Decoded r answer t o → ((w : Value) × (answer ≡ Ok w) × (datum_of w ≡ v)) ⊎ (answer ≡ Err decode.Memory)

@@ -1,9 +1,10 @@
 -- What is written is read again: for each production, its reader takes what a tree is written as, and leaves what follows.
-use Rattle.std.proofs.Common.{◌≡◌, ℕ, zero, suc, ◌<◌, ◌≤◌, ◌^◌, Bool, true, false, List, [], ◌∷◌, ◌++◌, length, Option, Some, None, ℤ, pos, refl, sym, ap, ◌∙◌, append_assoc, arith}
+use Rattle.std.proofs.Common.{◌≡◌, ℕ, zero, suc, ◌<◌, ◌≤◌, ◌+◌, ◌^◌, Bool, true, false, List, [], ◌∷◌, ◌++◌, length, Option, Some, None, ℤ, pos, refl, sym, ap, ◌∙◌, append_assoc, arith}
 use Rattle.std.proofs.lemmas.List.{append-nil, length-append}
 use Rattle.std.proofs.lemmas.Bool.Decides.{nat_tests}
 use Rattle.std.specs.Prelude.{IfSome, ◌&&◌, negsuc, nat_lt, nat_le}
 use Rattle.std.specs.List.{AllByRecursion}
+use Rattle.asn_values.specs.Fits.{highest_number}
 use Rattle.asn_notation.specs.declared.token.Word.TheVariants as words
 use Rattle.asn_notation.specs.declared.token.Sign.TheVariants as signs
 use Rattle.asn_notation.specs.declared.notation.Limits.{Limits}
@@ -23,7 +24,7 @@ use Rattle.asn_notation.specs.Reading.{Read, begins_sign, begins_word, after_sig
 use Rattle.asn_notation.specs.Grammar as g
 use Rattle.asn_notation.specs.Fitting.{IsInt, AreLimits, IsSizeEnd, IsSize, IsListSize, IsConstraint, IsItem, IsDefault, IsNeed}
 
-below : (n : ℕ) → n < 2 ^ 63 → nat_lt n (2 ^ 63) ≡ true
+below : (n : ℕ) → n < highest_number + 1 → nat_lt n (highest_number + 1) ≡ true
 below n h = grind (arith, nat_tests)
 
 below_suc : (n : ℕ) → n < 2 ^ 63 → (nat_lt 0 (suc n) && nat_le (suc n) (2 ^ 63)) ≡ true
@@ -34,7 +35,7 @@ unfolding int_at
 int_again (pos n) rest h = rw (below n h) refl
 int_again (negsuc n) rest h = rw (below_suc n h) refl
 
-pub number_again : (n : ℕ) (rest : List Token) → n < 2 ^ 63 → number_at (number n ∷ rest) ≡ Some (n, rest)
+pub number_again : (n : ℕ) (rest : List Token) → n < highest_number + 1 → number_at (number n ∷ rest) ≡ Some (n, rest)
 unfolding number_at
 number_again n rest h = rw (below n h) refl
 

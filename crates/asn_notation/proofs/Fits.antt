@@ -1,9 +1,10 @@
 -- What is read fits: its numbers are of the profile, its lists are not empty, and it has no more levels than allowed.
-use Rattle.std.proofs.Common.{◌≡◌, ℕ, zero, suc, ◌<◌, ◌≤◌, ◌^◌, true, false, List, [], ◌∷◌, ◌++◌, length, drop, Option, Some, None, pos, neg_ℤ, arith}
+use Rattle.std.proofs.Common.{◌≡◌, ℕ, zero, suc, ◌<◌, ◌≤◌, ◌+◌, ◌^◌, true, false, List, [], ◌∷◌, ◌++◌, length, drop, Option, Some, None, pos, neg_ℤ, arith}
 use Rattle.std.proofs.lemmas.List.{length-append}
 use Rattle.std.proofs.lemmas.Bool.Decides.{nat_tests}
 use Rattle.std.specs.Prelude.{IfSome, ◌&&◌, nat_lt, nat_le}
 use Rattle.std.specs.List.{AllByRecursion}
+use Rattle.asn_values.specs.Fits.{highest_number}
 use Rattle.asn_notation.specs.declared.token.Word.{Word}
 use Rattle.asn_notation.specs.declared.token.Word.TheVariants as words
 use Rattle.asn_notation.specs.declared.token.Sign.TheVariants as signs
@@ -24,7 +25,7 @@ anything : {A : Type 0} (r : Option A) → Is r (λ x. Unit {0})
 anything None = none _
 anything (Some x) = now _ x tt
 
-small_is : (n : ℕ) → nat_lt n (2 ^ 63) ≡ true → n < 2 ^ 63
+small_is : (n : ℕ) → nat_lt n (highest_number + 1) ≡ true → n < highest_number + 1
 small_is n e = grind (arith, nat_tests)
 
 negative_is : (n : ℕ) → (nat_lt 0 n && nat_le n (2 ^ 63)) ≡ true → IsInt (neg_ℤ (pos n))
@@ -41,20 +42,20 @@ int_fits (identifier x ∷ ts) = none _
 int_fits (name x ∷ ts) = none _
 int_fits (word w ∷ ts) = none _
 int_fits (out_of_profile ∷ ts) = none _
-int_fits (number n ∷ ts) = test _ (nat_lt n (2 ^ 63)) (Some (pos n, ts)) None (λ e. now _ _ (small_is n e)) (λ big. none _)
+int_fits (number n ∷ ts) = test _ (nat_lt n (highest_number + 1)) (Some (pos n, ts)) None (λ e. now _ _ (small_is n e)) (λ big. none _)
 int_fits (negative n ∷ ts) = test _ (nat_lt 0 n && nat_le n (2 ^ 63)) (Some (neg_ℤ (pos n), ts)) None (λ e. now _ _ (negative_is n e)) (λ big. none _)
 int_fits (too_large ∷ ts) = none _
 int_fits (sign s ∷ ts) = none _
 int_fits (illegal ∷ ts) = none _
 
-number_fits : (ts : List Token) → Is (number_at ts) (λ p. p.0 < 2 ^ 63)
+number_fits : (ts : List Token) → Is (number_at ts) (λ p. p.0 < highest_number + 1)
 unfolding number_at
 number_fits [] = none _
 number_fits (identifier x ∷ ts) = none _
 number_fits (name x ∷ ts) = none _
 number_fits (word w ∷ ts) = none _
 number_fits (out_of_profile ∷ ts) = none _
-number_fits (number n ∷ ts) = test _ (nat_lt n (2 ^ 63)) (Some (n, ts)) None (λ e. now _ _ (small_is n e)) (λ big. none _)
+number_fits (number n ∷ ts) = test _ (nat_lt n (highest_number + 1)) (Some (n, ts)) None (λ e. now _ _ (small_is n e)) (λ big. none _)
 number_fits (negative n ∷ ts) = none _
 number_fits (too_large ∷ ts) = none _
 number_fits (sign s ∷ ts) = none _

@@ -1,8 +1,9 @@
 -- What is read is written so: for each production, what it takes is what its tree is written as.
-use Rattle.std.proofs.Common.{◌≡◌, ℕ, zero, suc, ◌<◌, ◌^◌, Bool, true, false, not, cond, List, [], ◌∷◌, ◌++◌, length, drop, Option, Some, None, pos, neg_ℤ, refl, sym, ap, ◌∙◌, append_assoc, arith}
+use Rattle.std.proofs.Common.{◌≡◌, ℕ, zero, suc, ◌<◌, ◌+◌, ◌^◌, Bool, true, false, not, cond, List, [], ◌∷◌, ◌++◌, length, drop, Option, Some, None, pos, neg_ℤ, refl, sym, ap, ◌∙◌, append_assoc, arith}
 use Rattle.std.proofs.lemmas.List.{append-nil}
 use Rattle.std.specs.Prelude.{IfSome, ◌&&◌, nat_lt, nat_le}
 use denote.Enum.Bare.{same_true}
+use Rattle.asn_values.specs.Fits.{highest_number}
 use Rattle.asn_notation.specs.contracts.token.Word as word_type
 use Rattle.asn_notation.specs.contracts.token.Sign as sign_type
 use Rattle.asn_notation.specs.declared.token.Word.{Word}
@@ -107,7 +108,7 @@ int_takes (identifier x ∷ ts) = none _
 int_takes (name x ∷ ts) = none _
 int_takes (word w ∷ ts) = none _
 int_takes (out_of_profile ∷ ts) = none _
-int_takes (number n ∷ ts) = test _ (nat_lt n (2 ^ 63)) (Some (pos n, ts)) None (λ small. now _ _ refl) (λ big. none _)
+int_takes (number n ∷ ts) = test _ (nat_lt n (highest_number + 1)) (Some (pos n, ts)) None (λ small. now _ _ refl) (λ big. none _)
 int_takes (negative n ∷ ts) =
     test _ (nat_lt 0 n && nat_le n (2 ^ 63)) (Some (neg_ℤ (pos n), ts)) None
     (λ fits. let some : 0 < n = above n (both_true (nat_lt 0 n) (nat_le n (2 ^ 63)) fits).0 in now _ _ (rw (neg_written n some) refl)) (λ big. none _)

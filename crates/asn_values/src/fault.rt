@@ -8,7 +8,7 @@ use thiserror::Error;
 /// the same as more kinds of type come.
 #[derive(Clone, Copy, Debug, PartialEq, Eq, Error)]
 pub enum TypeFault {
-    /// A low bound above the high one, a bound of an INTEGER that is no integer of 64 signed bits,
+    /// A low bound above the high one, a bound of an INTEGER that is no integer of the profile,
     /// or an ENUMERATED or CHOICE without an item or alternative before its extension marker.
     #[error("empty range")]
     EmptyRange = 1,
@@ -22,7 +22,7 @@ pub enum TypeFault {
     /// whose number is not above all before it.
     #[error("bad enumeration")]
     BadEnumeration = 4,
-    /// An extension marker on an INTEGER whose root is already every integer of 64 signed bits, or on
+    /// An extension marker on an INTEGER whose root is already every integer of the profile, or on
     /// a SIZE whose root is already every length.
     #[error("useless mark")]
     UselessMark = 5,
@@ -37,7 +37,7 @@ pub enum TypeFault {
     #[error("addition not optional")]
     AdditionNotOptional = 8,
     /// More than 64 components before the extension marker of a SEQUENCE or 64 additions, more than
-    /// 63 alternatives in a CHOICE, more than 256 items in an ENUMERATED or 64 additions to them, or
+    /// 200 alternatives in a CHOICE, more than 256 items in an ENUMERATED or 200 additions to them, or
     /// more than 10,000 types inside one another.
     #[error("too many")]
     TooMany = 9,

@@ -10,7 +10,7 @@ use crate::types::{Alt, AsnType, Field, Need};
 use crate::value::Value;
 use crate::{enumerations, ranges, sizes, texts};
 
-/// Whether the value is one of the type (X.680), an INTEGER being of 64 signed bits, a string of at
+/// Whether the value is one of the type (X.680), an INTEGER being of the profile's numbers, a string of at
 /// most 268,435,455 bits, octets or characters, and a list of at most 268,435,455 elements. Allocates
 /// nothing.
 pub fn fits(ty: &Checked, value: &Value) -> bool

@@ -17,21 +17,21 @@ pub fn is_between(bounds: &Bounds, number: i128) -> bool
     bounds.low.is_none_or(|low| low <= number) && bounds.high.is_none_or(|high| number <= high)
 }
 
-/// Whether the number is no integer of 64 signed bits.
+/// Whether the number is no integer of the profile.
 fn is_out_of_profile(number: i128) -> bool
     ensures { result ≡ conditions.is_outside (Some number) }
 {
     number < LOWEST_INTEGER || HIGHEST_INTEGER < number
 }
 
-/// Whether there is such a bound, and it is no integer of 64 signed bits.
+/// Whether there is such a bound, and it is no integer of the profile.
 fn is_outside(bound: Option<i128>) -> bool
     ensures { result ≡ conditions.is_outside bound }
 {
     bound.is_some_and(|number| is_out_of_profile(number))
 }
 
-/// Whether the low bound is above the high one, or a bound is no integer of 64 signed bits.
+/// Whether the low bound is above the high one, or a bound is no integer of the profile.
 pub(crate) fn is_empty_range(bounds: &Bounds) -> bool
     ensures { result ≡ conditions.empty_range (integer (range_of bounds.now)) }
 {
@@ -48,7 +48,7 @@ fn is_low_above_high(bounds: &Bounds) -> bool
     }
 }
 
-/// Whether the extension marker adds nothing: the root is every integer of 64 signed bits.
+/// Whether the extension marker adds nothing: the root is every integer of the profile.
 pub(crate) fn has_useless_mark(bounds: &Bounds) -> bool
     ensures { result ≡ conditions.useless_mark (integer (range_of bounds.now)) }
 {
@@ -68,7 +68,7 @@ pub(crate) fn is_one_number(bounds: &Bounds) -> bool
         }
 }
 
-/// Whether the number is a value of an INTEGER with these bounds: it has 64 signed bits, and lies between
+/// Whether the number is a value of an INTEGER with these bounds: it is one of the profile, and lies between
 /// the bounds unless the extension marker follows (X.680, "value range").
 pub fn number_fits(bounds: &Bounds, number: i128) -> bool
     ensures { IsTrue result ↔ FitsNumber (range_of bounds.now) number }

@@ -1,4 +1,4 @@
-use Rattle.std.proofs.Common.{rules, ◌≡◌, pos, ◌+ℤ◌, Some, None, true, false, to_z, of_z, arith}
+use Rattle.std.proofs.Common.{rules, ◌≡◌, pos, ◌+ℤ◌, Some, None, true, false, sym, to_z, of_z, arith}
 use Rattle.std.proofs.lemmas.Int.{ints}
 use mir.Syntax.{w128}
 use Rattle.std.specs.Int.RustNames.{int_le}
@@ -50,6 +50,6 @@ returns-clause-some c =
     let same_low : to_z w128 (of_z w128 low) ≡ low = search rules in
     let same_high : to_z w128 (of_z w128 high) ≡ high = search rules in
     let below : int_le (pos 0) low ≡ false = rw same_low at c.if-low-ge0.false in
-    let size : signed_size low high ≡ Some c.signed_size.result = rw (same_low, same_high) at c.signed_size.ensures in
+    let size : signed_size low high ≡ Some c.in_ok-count.count = sym (rw (same_low, same_high) at c.in_ok-count.ensures) in
     let are : AreOffsetsBut None (unmarked (Some low) (Some high)) s = rw (same_low, same_high) at c.offsets_of-set.ensures.same in
-    rw c.at_offset.ensures (given None (unmarked (Some low) (Some high)) (lowest_integer +ℤ pos c.in_ok-offset.offset) us vs ((signed_leads None low high c.signed_size.result s below size are us).done (lowest_integer +ℤ pos c.in_ok-offset.offset) vs c.in_ok-offset.ensures.done))
+    rw c.at_offset.ensures (given None (unmarked (Some low) (Some high)) (lowest_integer +ℤ pos c.in_ok-offset.offset) us vs ((signed_leads None low high c.in_ok-count.count s below size are us).done (lowest_integer +ℤ pos c.in_ok-offset.offset) vs c.in_ok-offset.ensures.done))

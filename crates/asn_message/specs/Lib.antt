@@ -1,0 +1,4 @@
+pub mod Building
+pub mod Decoding
+pub mod Seen
+pub mod Slots

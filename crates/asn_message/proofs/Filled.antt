@@ -12,7 +12,7 @@ use Rattle.asn_message.specs.declared.slots.Content.TheVariants as content
 use Rattle.asn_message.specs.declared.slots.Room.{Room}
 use Rattle.asn_message.specs.declared.slots.Slot.{Slot}
 use Rattle.asn_message.specs.Building.{Stand, Nest, Grows, IsPut, AreInside, AreEntries, AreElements}
-use Rattle.asn_message.specs.Slots.{entries_in, entries_inside, first_of, value_at, value_in, values_of, AreNested}
+use Rattle.asn_message.specs.Slots.{entries_in, entries_inside, first_of, value_at, value_in, values_of, IsCounted, AreNested}
 
 -- ---- slots after one another
 
@@ -39,8 +39,8 @@ both_nested : (os : List ℕ) (xs ys : List Slot) (fs : List (Option Datum)) →
     → AreNested os fs ys → AreNested os fs (xs ++ ys)
 both_nested os [] ys fs h k = k
 both_nested os (x ∷ xs) ys fs h k =
-    let inside : drop (entries_inside x.content) (entries_in os (xs ++ ys) fs) ≡ entries_in os (drop x.inside (xs ++ ys)) fs = ap (λ (l : List (Option Datum)). drop (entries_inside x.content) l) (in_both os xs ys fs) ∙ h.1 ∙ sym (in_both os (drop x.inside xs) ys fs) ∙ ap (λ (l : List Slot). entries_in os l fs) (sym (drop-append-le x.inside xs ys h.0)) in
-    (omega (arith, h.0, length-append xs ys), inside, both_nested os xs ys fs h.2 k)
+    let inside : drop (entries_inside x.content) (entries_in os (xs ++ ys) fs) ≡ entries_in os (drop x.inside (xs ++ ys)) fs = ap (λ (l : List (Option Datum)). drop (entries_inside x.content) l) (in_both os xs ys fs) ∙ h.1.0 ∙ sym (in_both os (drop x.inside xs) ys fs) ∙ ap (λ (l : List Slot). entries_in os l fs) (sym (drop-append-le x.inside xs ys h.0)) in
+    (omega (arith, h.0, length-append xs ys), (inside, (subst (λ (l : List (Option Datum)). IsCounted x.content l) (sym (in_both os xs ys fs)) h.1.1.0, both_nested os xs ys fs h.1.1.1 k)))
 
 pub both_nest : (os : List ℕ) (xs ys : List Slot) → Nest os xs → Nest os ys → Nest os (xs ++ ys)
 both_nest os xs ys h k = λ a fs. both_nested (os ++ a) xs ys fs (h a (entries_in (os ++ a) ys fs)) (k a fs)
@@ -64,6 +64,10 @@ nest_stays r s ss g h = subst (λ (o : List ℕ). Nest o ss) (sym g.1) (nest_lat
 abbrev pub alone : Content → Slot
 alone c = record { content = c; absent_before = 0; inside = 0 }
 
+counted_alone : (c : Content) (es : List (Option Datum)) → entries_inside c ≡ 0 → IsCounted c es
+counted_alone (content.List count) es h = rw h refl
+counted_alone _ es h = tt
+
 pub put_alone : (r m s : Room) (c : Content) (d : Datum) (at : ℕ) → Grows r m → m.slots ≡ r.slots
     → s.octets ≡ m.octets → s.slots.items ≡ m.slots.items ++ alone c ∷ [] → at ≡ length m.slots.items
     → entries_inside c ≡ 0 → ((more : List ℕ) (es : List (Option Datum)) → value_at (m.octets.items ++ more) c es ≡ d)
@@ -79,7 +83,7 @@ put_alone r m s c d at g same os slots here none is =
       here = here ∙ ap (λ (l : List Slot). length l) old;
       alone = refl;
       stand = λ a fs. (let v : value_at (s.octets.items ++ a) c fs ≡ d = rw all (is a fs) in rw (v, none) refl);
-      nest = λ a fs. (omega arith, rw none refl, tt);
+      nest = λ a fs. (omega arith, (rw none refl, (counted_alone c fs none, tt)));
     }
 
 -- the same value, seen otherwise
@@ -124,8 +128,9 @@ pub closed : (r s t : Room) (at p : ℕ) (c : Content) (es : List (Option Datum)
     → ((xs : List Slot) (old : Slot) (ys : List Slot) → s.slots.items ≡ xs ++ old ∷ ys → at ≡ length xs
     → t.slots.items ≡ xs ++ record { content = c; absent_before = 0; inside = length ys } ∷ ys)
     → p ≡ at → ((os : List ℕ) (fs : List (Option Datum)) → value_at os c (es ++ fs) ≡ d)
-    → ((fs : List (Option Datum)) → drop (entries_inside c) (es ++ fs) ≡ fs) → IsPut r t p d
-closed r s t at p c es d h os slots e value rest =
+    → ((fs : List (Option Datum)) → drop (entries_inside c) (es ++ fs) ≡ fs)
+    → ((fs : List (Option Datum)) → IsCounted c (es ++ fs)) → IsPut r t p d
+closed r s t at p c es d h os slots e value rest counted =
     let all : t.octets.items ≡ s.octets.items = ap (λ (v : Vec ℕ Global). v.items) os in
     record {
       grows = grows_both r s t h.grows (grows_nothing s t os);
@@ -135,7 +140,7 @@ closed r s t at p c es d h os slots e value rest =
       here = e ∙ h.here;
       alone = refl;
       stand = λ a fs. (let i : entries_in (t.octets.items ++ a) h.inside fs ≡ es ++ fs = rw all (h.stand a fs) in rw (i, value (t.octets.items ++ a) fs, rest fs) refl);
-      nest = λ a fs. (let i : entries_in (t.octets.items ++ a) h.inside fs ≡ es ++ fs = rw all (h.stand a fs) in let n : AreNested (t.octets.items ++ a) fs h.inside = rw all (h.nest a fs) in (omega arith, rw (i, rest fs, drop_all (length h.inside) h.inside (omega arith)) refl, n));
+      nest = λ a fs. (let i : entries_in (t.octets.items ++ a) h.inside fs ≡ es ++ fs = rw all (h.stand a fs) in let n : AreNested (t.octets.items ++ a) fs h.inside = rw all (h.nest a fs) in (omega arith, (rw (i, rest fs, drop_all (length h.inside) h.inside (omega arith)) refl, (subst (λ (l : List (Option Datum)). IsCounted c l) (sym i) (counted fs), n))));
     }
 
 -- ---- SEQUENCE
@@ -175,7 +180,7 @@ marked os x y xs d n h none same count = λ a fs.
 
 marked_nest : (os : List ℕ) (x y : Slot) (xs : List Slot) → Nest os (x ∷ xs) → y.content ≡ x.content → y.inside ≡ x.inside
     → Nest os (y ∷ xs)
-marked_nest os x y xs h same count = λ a fs. (let n = h a fs in (rw count n.0, rw (same, count) n.1, n.2))
+marked_nest os x y xs h same count = λ a fs. (let n = h a fs in (rw count n.0, (rw (same, count) n.1.0, (subst (λ (c : Content). IsCounted c (entries_in (os ++ a) xs fs)) (sym same) n.1.1.0, n.1.1.1))))
 
 pub present_more : (r s t u : Room) (e f : Entries) (p : ℕ) (es : List (Option Datum)) (d : Datum) (x y : Slot)
     → AreEntries r s e es → IsPut s t p d → x ≡ get_or t.slots.items p x → u.octets ≡ t.octets
@@ -204,7 +209,7 @@ pub sequence_put : (r s t : Room) (e : Entries) (p : ℕ) (es : List (Option Dat
     → t.slots.items ≡ xs ++ record { content = content.Sequence e.taken e.absent; absent_before = 0; inside = length ys } ∷ ys)
     → p ≡ e.at → IsPut r t p (components (components_of es))
 sequence_put r s t e p es h os slots here =
-    closed r s t e.at p (content.Sequence e.taken e.absent) h.first (components (components_of es)) h.inside os slots here (λ o fs. rw (take_at h.first fs e.taken (sym h.count), ← h.all) refl) (λ fs. drop_at h.first fs e.taken (sym h.count))
+    closed r s t e.at p (content.Sequence e.taken e.absent) h.first (components (components_of es)) h.inside os slots here (λ o fs. rw (take_at h.first fs e.taken (sym h.count), ← h.all) refl) (λ fs. drop_at h.first fs e.taken (sym h.count)) (λ fs. tt)
 
 -- ---- SEQUENCE OF
 
@@ -229,7 +234,7 @@ pub list_put : (r s t : Room) (e : Elements) (p : ℕ) (ds : List Datum) → Are
     → p ≡ e.at → IsPut r t p (elements (elements_of ds))
 list_put r s t e p ds h os slots here =
     let n : length (map (λ (d : Datum). Some d) ds) ≡ e.count = length-map ds (λ d. Some d) ∙ sym h.count in
-    closed r s t e.at p (content.List e.count) (map (λ d. Some d) ds) (elements (elements_of ds)) h.inside os slots here (λ o fs. rw (take_at (map (λ d. Some d) ds) fs e.count n, values_somes ds) refl) (λ fs. drop_at (map (λ d. Some d) ds) fs e.count n)
+    closed r s t e.at p (content.List e.count) (map (λ d. Some d) ds) (elements (elements_of ds)) h.inside os slots here (λ o fs. rw (take_at (map (λ d. Some d) ds) fs e.count n, values_somes ds) refl) (λ fs. drop_at (map (λ d. Some d) ds) fs e.count n) (λ fs. rw (take_at (map (λ (d : Datum). Some d) ds) fs e.count n, values_somes ds) (sym h.count))
 
 -- ---- CHOICE
 
@@ -239,13 +244,24 @@ pub choice_put : (r s t u : Room) (at p part place : ℕ) (d : Datum) → AreIns
     → u.slots.items ≡ xs ++ record { content = content.Choice place; absent_before = 0; inside = length ys } ∷ ys)
     → p ≡ at → IsPut r u p (alternative place d)
 choice_put r s t u at p part place d h k os slots here =
-    closed r t u at p (content.Choice place) (Some d ∷ []) (alternative place d) (put_inside r s t at part [] d h k) os slots here (λ o fs. refl) (λ fs. refl)
+    closed r t u at p (content.Choice place) (Some d ∷ []) (alternative place d) (put_inside r s t at part [] d h k) os slots here (λ o fs. refl) (λ fs. refl) (λ fs. tt)
 
 -- ---- a whole message
+
+whole_entries : (r s : Room) (at : ℕ) (d : Datum) (h : IsPut r s at d) → entries_in s.octets.items (h.first ∷ h.inside) [] ≡ Some d ∷ []
+whole_entries r s at d h =
+    subst (λ (o : List ℕ). entries_in o (h.first ∷ h.inside) [] ≡ Some d ∷ []) (append-nil s.octets.items) (h.stand [] [])
 
 pub whole_value : (r s : Room) (at : ℕ) (d : Datum) → r.slots.items ≡ [] → IsPut r s at d
     → value_in s.octets.items s.slots.items ≡ d
 whole_value r s at d none h =
     let is : s.slots.items ≡ h.first ∷ h.inside = h.slots ∙ ap (λ (l : List Slot). l ++ h.first ∷ h.inside) none in
-    let all : entries_in s.octets.items (h.first ∷ h.inside) [] ≡ Some d ∷ [] = subst (λ (o : List ℕ). entries_in o (h.first ∷ h.inside) [] ≡ Some d ∷ []) (append-nil s.octets.items) (h.stand [] []) in
-    ap (λ (l : List Slot). first_of (entries_in s.octets.items l [])) is ∙ ap first_of all
+    let all = rw h.alone at (whole_entries r s at d h) in
+    ap (λ (l : List Slot). value_in s.octets.items l) is ∙ ap first_of all
+
+pub whole_nested : (r s : Room) (at : ℕ) (d : Datum) → r.slots.items ≡ [] → IsPut r s at d
+    → AreNested s.octets.items [] s.slots.items
+whole_nested r s at d none h =
+    let is : s.slots.items ≡ h.first ∷ h.inside = h.slots ∙ ap (λ (l : List Slot). l ++ h.first ∷ h.inside) none in
+    let all : AreNested s.octets.items [] (h.first ∷ h.inside) = subst (λ (o : List ℕ). AreNested o [] (h.first ∷ h.inside)) (append-nil s.octets.items) (h.nest [] []) in
+    subst (λ (l : List Slot). AreNested s.octets.items [] l) (sym is) all

@@ -96,13 +96,13 @@ absent_pushed es n vs ws h f =
 
 -- ---- a slot more, from the last one on
 
-pub restored_one : (os : List ℕ) (ss : List Slot) (i : ℕ) (x : Slot) (old new : List (Option Datum)) → i < length ss
-    → x ≡ get_or ss (length ss - 1 - i) x → old ≡ entries_in os (drop (length ss - i) ss) []
+pub restored_one : (os : List ℕ) (ss : List Slot) (i : ℕ) (x d : Slot) (old new : List (Option Datum)) → i < length ss
+    → x ≡ get_or ss (length ss - 1 - i) d → old ≡ entries_in os (drop (length ss - i) ss) []
     → new ≡ absents x.absent_before ++ (Some (value_at os x.content old) ∷ drop (entries_inside x.content) old)
     → new ≡ entries_in os (drop (length ss - (i + 1)) ss) []
-restored_one os ss i x old new l is h k =
+restored_one os ss i x d old new l is h k =
     let at = length ss - 1 - i in
-    let one : drop at ss ≡ x ∷ drop (at + 1) ss = drop_more ss at x (omega (arith, l)) ∙ ap (λ (y : Slot). y ∷ drop (at + 1) ss) (sym is) in
+    let one : drop at ss ≡ x ∷ drop (at + 1) ss = drop_more ss at d (omega (arith, l)) ∙ ap (λ (y : Slot). y ∷ drop (at + 1) ss) (sym is) in
     let after : length ss - i ≡ at + 1 = omega (arith, l) in
     let here : length ss - (i + 1) ≡ at = omega (arith, l) in
     let before : old ≡ entries_in os (drop (at + 1) ss) [] = h ∙ ap (λ (n : ℕ). entries_in os (drop n ss) []) after in

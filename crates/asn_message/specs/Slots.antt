@@ -55,14 +55,30 @@ entries_in os (s ∷ ss) es =
     absents s.absent_before
     ++ (Some (value_at os s.content (entries_in os ss es)) ∷ drop (entries_inside s.content) (entries_in os ss es))
 
--- the value that stands in them
+-- the value of the first slot; NULL if there is none
 abbrev pub value_in : List ℕ → List Slot → Datum
-value_in os ss = first_of (entries_in os ss [])
+value_in os [] = nothing
+value_in os (s ∷ ss) = value_at os s.content (entries_in os ss [])
+
+-- the entries after those inside the first value
+abbrev pub entries_after : List ℕ → List Slot → List (Option Datum)
+entries_after os [] = []
+entries_after os (s ∷ ss) = drop (entries_inside s.content) (entries_in os ss [])
+
+-- the entries from the first value on, without those that are absent before it
+abbrev pub entries_from : List ℕ → List Slot → List (Option Datum)
+entries_from os [] = []
+entries_from os (s ∷ ss) = Some (value_in os (s ∷ ss)) ∷ entries_after os (s ∷ ss)
+
+-- a SEQUENCE OF has as many elements as its slot tells
+abbrev pub IsCounted : Content → List (Option Datum) → Type 0
+IsCounted (content.List count) es = length (values_of (take count es)) ≡ count
+IsCounted _ es = ⊤
 
 -- each slot tells how many slots the values inside it have: after these stand the entries that are not inside it
 abbrev pub AreNested : List ℕ → List (Option Datum) → List Slot → Type 0
 AreNested os es [] = ⊤
 AreNested os es (s ∷ ss) =
     (s.inside ≤ length ss)
-    × (drop (entries_inside s.content) (entries_in os ss es) ≡ entries_in os (drop s.inside ss) es)
-    × AreNested os es ss
+    × ((drop (entries_inside s.content) (entries_in os ss es) ≡ entries_in os (drop s.inside ss) es)
+    × (IsCounted s.content (entries_in os ss es) × AreNested os es ss))

@@ -30,14 +30,18 @@ pub(crate) fn octets_of(octets: &[u8], span: Span) -> &[u8]
 pub(crate) fn value_of(alloc: Global, slots: &[Slot], octets: &[u8]) -> Result<Value, AllocError>
     ensures { IfOk result (λ v. datum_of v ≡ value_in octets.now slots.now) }
 {
+    let Some((first, others)) = slots.split_first() else {
+        return Ok(Value::Null);
+    };
     let mut left = VecDeque::new(alloc);
-    let count = slots.len();
+    let count = others.len();
     for i in 0..count {
         let at = count - 1 - i;
-        let slot = &slots[at];
+        let slot = &others[at];
         restore(alloc, slot, octets, &mut left)?;
     }
-    Ok(take_value(&mut left))
+    let value = restored(alloc, first.content, octets, &mut left)?;
+    Ok(value)
 }
 
 /// Puts the entries that a slot makes in front of those that are left of the slots after it.

@@ -1,31 +1,52 @@
-use Rattle.std.proofs.Common.{◌≡◌, refl, sym, ap, ◌∙◌}
+use Rattle.std.proofs.Common.{◌≡◌, ℕ, ℤ, Bool, String, string_bytes, refl, sym, ap, ◌∙◌, rules}
 use Rattle.asn_values.specs.Datum.{truth, nothing, number, item, bit_list, octet_list, characters, unicode}
 use Rattle.asn_values.specs.View.{datum_of}
+use Rattle.asn_values.specs.declared.value.Value as values
+use Rattle.asn_values.specs.declared.value.Value.TheVariants as value
 use Rattle.asn_values.proofs.Views.{datum_of-Bits, datum_of-Octets, datum_of-Text}
 use Rattle.asn_message.proofs.Filled.{grows_nothing}
 use Rattle.asn_message.proofs.flat.put_alone.Goals as goal
 
+datum_of-Bool : (b : Bool) → datum_of (value.Bool b) ≡ truth b
+datum_of-Bool b = search (rules, values.the_lemmas)
+
+datum_of-Null : datum_of value.Null ≡ nothing
+datum_of-Null = search (rules, values.the_lemmas)
+
+datum_of-Int : (z : ℤ) → datum_of (value.Int z) ≡ number z
+datum_of-Int z = search (rules, values.the_lemmas)
+
+datum_of-Enum : (n : ℕ) → datum_of (value.Enum n) ≡ item n
+datum_of-Enum n = search (rules, values.the_lemmas)
+
+datum_of-Utf8 : (s : String) → datum_of (value.Utf8 s) ≡ unicode (string_bytes s)
+datum_of-Utf8 s = search (rules, values.the_lemmas)
+
 pub returns-in_ok-at-in-Bool : goal.returns-in_ok-at-in-Bool
 returns-in_ok-at-in-Bool c =
-    c.in_ok-at-in-Bool.ensures c.args.room.now (datum_of c.args.value.now) (grows_nothing c.args.room.now c.args.room.now refl) refl refl (λ more es. sym (ap datum_of c.in-Bool.is))
+    let is = ap datum_of c.in-Bool.is ∙ datum_of-Bool c.in-Bool.truth in
+    c.in_ok-at-in-Bool.ensures c.args.room.now (datum_of c.args.value.now) (grows_nothing c.args.room.now c.args.room.now refl) refl refl (λ more es. sym is)
 
 pub returns-in_ok-at-in-Null : goal.returns-in_ok-at-in-Null
 returns-in_ok-at-in-Null c =
-    c.in_ok-at-in-Null.ensures c.args.room.now (datum_of c.args.value.now) (grows_nothing c.args.room.now c.args.room.now refl) refl refl (λ more es. sym (ap datum_of c.in-Null.is))
+    let is = ap datum_of c.in-Null.is ∙ datum_of-Null in
+    c.in_ok-at-in-Null.ensures c.args.room.now (datum_of c.args.value.now) (grows_nothing c.args.room.now c.args.room.now refl) refl refl (λ more es. sym is)
 
 pub returns-in_ok-at-in-Int : goal.returns-in_ok-at-in-Int
 returns-in_ok-at-in-Int c =
-    c.in_ok-at-in-Int.ensures c.args.room.now (datum_of c.args.value.now) (grows_nothing c.args.room.now c.args.room.now refl) refl refl (λ more es. sym (ap datum_of c.in-Int.is))
+    let is = ap datum_of c.in-Int.is ∙ datum_of-Int c.in-Int.number in
+    c.in_ok-at-in-Int.ensures c.args.room.now (datum_of c.args.value.now) (grows_nothing c.args.room.now c.args.room.now refl) refl refl (λ more es. ap number (let h = c.in_ok-number-in-Int.ensures in ?) ∙ sym is)
 
 pub returns-in_ok-at-in-Enum : goal.returns-in_ok-at-in-Enum
 returns-in_ok-at-in-Enum c =
-    c.in_ok-at-in-Enum.ensures c.args.room.now (datum_of c.args.value.now) (grows_nothing c.args.room.now c.args.room.now refl) refl refl (λ more es. sym (ap datum_of c.in-Enum.is))
+    let is = ap datum_of c.in-Enum.is ∙ datum_of-Enum c.in-Enum.index in
+    c.in_ok-at-in-Enum.ensures c.args.room.now (datum_of c.args.value.now) (grows_nothing c.args.room.now c.args.room.now refl) refl refl (λ more es. sym is)
 
 pub returns-in_ok-at-in-Bits : goal.returns-in_ok-at-in-Bits
 returns-in_ok-at-in-Bits c =
     let p = c.in_ok-span-in-Bits.ensures in
     let is = ap datum_of c.in-Bits.is ∙ datum_of-Bits c.in-Bits.bits in
-    c.in_ok-at-in-Bits.ensures c.args.room.now (datum_of c.args.value.now) (p.octets refl) p.slots refl (λ more es. ap bit_list (p.at more ∙ c.deref-in-Bits.ensures.value) ∙ sym is)
+    c.in_ok-at-in-Bits.ensures c.args.room.now (datum_of c.args.value.now) (p.octets refl) p.slots refl (λ more es. ap bit_list (p.at more ∙ c.deref.ensures.value) ∙ sym is)
 
 pub returns-in_ok-at-in-Octets : goal.returns-in_ok-at-in-Octets
 returns-in_ok-at-in-Octets c =
@@ -42,4 +63,5 @@ returns-in_ok-at-in-Text c =
 pub returns-in_ok-at-in-Utf8 : goal.returns-in_ok-at-in-Utf8
 returns-in_ok-at-in-Utf8 c =
     let p = c.in_ok-span-in-Utf8.ensures in
-    c.in_ok-at-in-Utf8.ensures c.args.room.now (datum_of c.args.value.now) (_, p.octets refl) p.slots refl (λ more es. ap unicode (p.at more) ∙ sym (ap datum_of c.in-Utf8.is))
+    let is = ap datum_of c.in-Utf8.is ∙ datum_of-Utf8 c.in-Utf8.text in
+    c.in_ok-at-in-Utf8.ensures c.args.room.now (datum_of c.args.value.now) (_, p.octets refl) p.slots refl (λ more es. ap unicode (p.at more ∙ (let h = c.as_bytes.ensures in ?)) ∙ sym is)

@@ -1,4 +1,4 @@
-use Rattle.std.proofs.Common.{map}
+use Rattle.std.proofs.Common.{map, refl}
 use Rattle.asn_values.specs.View.{datum_of, entries_seen}
 use Rattle.asn_message.proofs.Restored.{element_taken, no_element_taken}
 use Rattle.asn_message.proofs.restoring.take_elements.Goals as goal

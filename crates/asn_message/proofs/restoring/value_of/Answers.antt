@@ -5,4 +5,5 @@ use Rattle.asn_message.proofs.restoring.value_of.Goals as goal
 
 pub loop-i-preserved : goal.loop-i-preserved
 loop-i-preserved c =
-    restored_one c.args.octets.now c.args.slots.now c.loop-i.i c.index-slots-at.result (entries_seen c.loop-i.left.items) (entries_seen c.restore.new.left.items) c.loop-i-test.true c.index-slots-at.is c.loop-i.invariant (c.in_ok-restore.ensures refl)
+    let told = c.in_ok-restore.ensures refl in
+    restored_one c.args.octets.now c.in-Some.others.now c.loop-i.i _ _ (entries_seen c.loop-i.left.items) (entries_seen c.restore.new.left.items) c.loop-i-test.true refl c.loop-i.invariant told

@@ -4,4 +4,4 @@ use Rattle.asn_message.specs.Slots.{entries_in}
 use Rattle.asn_message.proofs.restoring.value_of.Given as goal
 
 abbrev pub invariant-loop-i : goal.invariant-loop-i
-invariant-loop-i l = entries_seen l.left.items ≡ entries_in l.octets (drop (l.count - l.i) l.slots) []
+invariant-loop-i l = entries_seen l.left.items ≡ entries_in l.octets (drop (l.count - l.i) l.others) []

@@ -1,5 +1,5 @@
 -- The parts of a value in slots, as the type has them.
-use Rattle.std.proofs.Common.{◌≡◌, ◌≢◌, ◌<◌, ◌∙◌, ℕ, zero, suc, List, [], ◌∷◌, ◌++◌, map, slice_get, drop, Option, Some, None, Vec, Global, refl, ap, ap₂, sym, append-nil, rules}
+use Rattle.std.proofs.Common.{◌≡◌, ◌≢◌, ◌<◌, ◌∙◌, ◌+◌, ◌-◌, ℕ, zero, suc, List, [], ◌∷◌, ◌++◌, map, slice_get, Option, Some, None, Vec, Global, refl, ap, ap₂, sym, arith}
 use Rattle.std.specs.Option.{option_map}
 use Rattle.std.specs.Global.{Box}
 use Rattle.std.proofs.lemmas.Option.{slice_get-map}
@@ -48,6 +48,19 @@ elements_of_values t e d b s ds et ee ed = rw (et, ee, ed, shape_of-SeqOf b s, e
 pub elements_of_none : (t : Shape) (d : Datum) → ((ds : Elements) → d ≢ elements ds) → elements_by t d ≡ []
 elements_of_none (sequence_of t s) (elements ds) h = absurd (h ds refl)
 elements_of_none t d h = refl
+
+-- one more element is passed
+pub element_passed : (xs ys : List Typed) (x : Typed) (n i : ℕ) → i < n → xs ≡ x ∷ ys
+    → slice_get xs (n - i) ≡ slice_get ys (n - (i + 1))
+element_passed xs ys x n i l e =
+    let one : n - i ≡ suc (n - (i + 1)) = omega (arith, l) in
+    rw (e, one) refl
+
+pub no_element_there : (xs : List Typed) (n : ℕ) → xs ≡ [] → slice_get xs n ≡ None
+no_element_there xs n e = rw e refl
+
+pub element_there : (xs ys : List Typed) (x : Typed) (n : ℕ) → n ≡ 0 → xs ≡ x ∷ ys → slice_get xs n ≡ Some x
+element_there xs ys x n z e = rw (z, e) refl
 
 -- ---- the alternative
 

@@ -152,15 +152,11 @@ pub(crate) fn of_alternative<'a>(alternative: &'a Alt, place: Place<'a>) -> (&'a
 }
 
 /// The element at this index.
-pub(crate) fn element_at<'a>(index: usize, elements: ElementViews<'a>) -> Option<MessageView<'a>>
+pub(crate) fn element_at<'a>(index: usize, mut elements: ElementViews<'a>) -> Option<MessageView<'a>>
     ensures { option_map seen result ≡ slice_get (left_elements elements.entry) index }
 {
-    let mut at = 0;
-    for element in elements {
-        if at == index {
-            return Some(element);
-        }
-        at += 1;
+    for passed in 0..index {
+        elements.next()?;
     }
-    None
+    elements.next()
 }

@@ -48,19 +48,16 @@ pub no_value_passed : (count absent : ℕ) (xs : List (Option Datum)) → count 
     → (None ≡ first_of_values (values_of (take count (absents absent ++ xs)))) × (values_of (take count (absents absent ++ xs)) ≡ drop 1 (values_of (take count (absents absent ++ xs))))
 no_value_passed count absent xs h = rw (no_value count absent xs h) (refl, refl)
 
-pub no_slot_passed : (count absent : ℕ)
-    → (None ≡ first_of_values (values_of (take count (absents absent ++ [])))) × (values_of (take count (absents absent ++ [])) ≡ drop 1 (values_of (take count (absents absent ++ []))))
-no_slot_passed count absent = rw (no_slot count absent) (refl, refl)
+pub no_slot_passed : (count absent : ℕ) (xs : List (Option Datum)) → xs ≡ []
+    → (None ≡ first_of_values (values_of (take count (absents absent ++ xs)))) × (values_of (take count (absents absent ++ xs)) ≡ drop 1 (values_of (take count (absents absent ++ xs))))
+no_slot_passed count absent xs e = rw (e, no_slot count absent) (refl, refl)
 
 next_among : (n absent : ℕ) (v : Datum) (xs : List (Option Datum)) (count : ℕ) → count ≡ n + absent + 1
     → values_of (take count (absents absent ++ (Some v ∷ xs))) ≡ v ∷ values_of (take n xs)
 next_among n zero v xs count h = (let e : count ≡ suc n = omega (arith, h) in rw e refl)
 next_among n (suc a) v xs count h = (let e : count ≡ suc (n + a + 1) = omega (arith, h) in rw e (next_among n a v xs (n + a + 1) refl))
 
-pub next_value_passed : (n : ℕ) (v : Datum) (xs : List (Option Datum)) (count absent : ℕ) → count ≡ n + absent + 1
-    → (Some v ≡ first_of_values (values_of (take count (absents absent ++ (Some v ∷ xs))))) × (values_of (take n xs) ≡ drop 1 (values_of (take count (absents absent ++ (Some v ∷ xs)))))
-next_value_passed n v xs count absent h = rw (next_among n absent v xs count h) (refl, refl)
-
--- ---- components
-
--- entries that are absent at the end change no component
+pub next_value_passed : (n : ℕ) (v : Datum) (xs ys : List (Option Datum)) (count absent : ℕ) → count ≡ n + absent + 1
+    → ys ≡ Some v ∷ xs
+    → (Some v ≡ first_of_values (values_of (take count (absents absent ++ ys)))) × (values_of (take n xs) ≡ drop 1 (values_of (take count (absents absent ++ ys))))
+next_value_passed n v xs ys count absent h e = rw (e, next_among n absent v xs count h) (refl, refl)

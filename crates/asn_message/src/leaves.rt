@@ -149,7 +149,7 @@ impl<'a> Place<'a> {
         ensures { result ≡ option_and_then (λ bs. slice_get bs index) (bits_of (place_value self.now)) }
     {
         match self {
-            Place::Tree(Value::Bits(bits)) => bits.get(index).copied(),
+            Place::Tree(Value::Bits(bits)) => flag_at(bits, index),
             Place::Tree(_) => None,
             Place::Slots(row) => match row.content() {
                 Some(Content::Bits(span)) => bit_at(octets_of(row.octets, span), index),
@@ -189,6 +189,16 @@ fn bit_at(octets: &[u8], index: usize) -> Option<bool>
 {
     match octets.get(index) {
         Some(octet) => Some(*octet == 1),
+        None => None,
+    }
+}
+
+/// The truth value at an index.
+fn flag_at(flags: &[bool], index: usize) -> Option<bool>
+    ensures { result ≡ slice_get flags.now index }
+{
+    match flags.get(index) {
+        Some(flag) => Some(*flag),
         None => None,
     }
 }

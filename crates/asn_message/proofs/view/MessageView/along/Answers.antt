@@ -2,7 +2,7 @@ use Rattle.std.proofs.Common.{◌≡◌, ◌∙◌, ◌<◌, ◌+◌, false, tru
 use Rattle.asn_view.specs.Paths.{is_separator, value_after, value_at_step}
 use Rattle.asn_message.specs.Views.{seen}
 use Rattle.asn_view.proofs.Pieces.{piece_of, piece_goes_on, piece_ends, nothing_after}
-use Rattle.asn_message.proofs.path.MessageView.along.Goals as goal
+use Rattle.asn_message.proofs.view.MessageView.along.Goals as goal
 
 pub loop-index-preserved-then-not-is_separator : goal.loop-index-preserved-then-not-is_separator
 loop-index-preserved-then-not-is_separator c =

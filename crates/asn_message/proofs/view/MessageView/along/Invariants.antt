@@ -1,7 +1,7 @@
 use Rattle.std.proofs.Common.{◌≡◌, ◌≤◌, ◌-◌, take, drop, Some}
 use Rattle.asn_view.specs.Paths.{value_after, value_along}
 use Rattle.asn_message.specs.Views.{seen}
-use Rattle.asn_message.proofs.path.MessageView.along.Given as goal
+use Rattle.asn_message.proofs.view.MessageView.along.Given as goal
 
 -- the piece begun and what is left of the path go on from the part that was reached
 abbrev pub invariant-loop-index : goal.invariant-loop-index

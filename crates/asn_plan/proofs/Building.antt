@@ -118,7 +118,7 @@ absents_are ns ms closed p = ap (λ (l : List Node). absents (length l)) p
 absents_are ns ms (marked fs) p = absents_listed ns ms fs p
 
 -- one more
-absents_more : (n : ℕ) → absents (suc n) ≡ absents n ++ None ∷ []
+pub absents_more : (n : ℕ) → absents (suc n) ≡ absents n ++ None ∷ []
 absents_more zero = refl
 absents_more (suc n) = ap (λ (l : List (Option Datum)). None ∷ l) (absents_more n)
 

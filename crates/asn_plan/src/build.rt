@@ -1,5 +1,5 @@
 //! What the walk of a plan builds of the values that it reads: nothing, where it only checks, or values.
-ghost use Rattle.std.specs.Prelude.{◌≡◌, ◌<◌, ◌^◌, ◌++◌, ◌∷◌, [], map, List, Option, Some, None, IfSome, IsSome, ⊤};
+ghost use Rattle.std.specs.Prelude.{◌≡◌, ℕ, ◌<◌, ◌^◌, ◌++◌, ◌∷◌, [], map, List, Option, Some, None, IfSome, IsSome, ⊤};
 ghost use Rattle.asn_values.specs.Datum.{Datum, number, components, components_of, elements, elements_of, alternative};
 ghost use Rattle.asn_values.specs.View.{datum_of, entries_seen};
 ghost use Rattle.asn_walk.specs.Integers.{IsOfProfile};
@@ -7,8 +7,13 @@ ghost use Rattle.asn_walk.specs.Integers.{IsOfProfile};
 use asn_values::Value;
 use std::alloc::Global;
 
-/// What is built of values. A method that gives `None` has given up, as for want of memory.
+/// What is built of values, in a room that all parts share. What a part, entries or elements are of is said of two
+/// states of the room: before the first of them was put there, and now. A method that gives `None` has given up, as for
+/// want of memory; of the room nothing is said then.
 pub trait Build {
+    /// Where it is built.
+    type Room;
+
     /// What is built of a value.
     type Part: Drop;
 
@@ -18,113 +23,151 @@ pub trait Build {
     /// What is built of the elements of a SEQUENCE OF, up to some element.
     type Elements: Drop;
 
-    ghost built: { Self.Part → Datum → Type 0 };
+    /// What is built of a CHOICE before the value of its alternative.
+    type Chosen: Drop;
 
-    ghost listed: { Self.Entries → List (Option Datum) → Type 0 };
+    ghost built: { Self.Room → Self.Room → Self.Part → Datum → Type 0 };
 
-    ghost rowed: { Self.Elements → List Datum → Type 0 };
+    ghost listed: { Self.Room → Self.Room → Self.Entries → List (Option Datum) → Type 0 };
+
+    ghost rowed: { Self.Room → Self.Room → Self.Elements → List Datum → Type 0 };
+
+    ghost opened: { Self.Room → Self.Room → Self.Chosen → ℕ → Type 0 };
 
     /// Of an INTEGER.
-    fn number(integer: i128) -> Self::Part
+    fn number(room: &mut Self::Room, integer: i128) -> Option<Self::Part>
         requires { IsOfProfile integer }
-        ensures { built result (number integer) };
+        ensures { IfSome result (λ p. built room.old room.new p (number integer)) };
 
     /// Of a value without parts; it may give up at another.
-    fn value(value: Value) -> Option<Self::Part>
-        ensures { IfSome result (λ p. built p (datum_of value)) };
+    fn value(room: &mut Self::Room, value: Value) -> Option<Self::Part>
+        ensures { IfSome result (λ p. built room.old room.new p (datum_of value)) };
 
-    /// Of no entries, with room for this many.
-    fn entries(alloc: Global, count: usize) -> Option<Self::Entries>
-        ensures { IfSome result (λ es. listed es []) };
+    /// Of no entries, where there will be this many.
+    fn entries(alloc: Global, room: &mut Self::Room, count: usize) -> Option<Self::Entries>
+        ensures { IfSome result (λ es. listed room.old room.new es []) };
 
     /// Adds the entry of a component that is absent.
-    fn absent(entries: &mut Self::Entries) -> Option<()>
-        ensures { IsSome result → (es : List (Option Datum)) → listed entries.old es
-            → listed entries.new (es ++ None ∷ []) };
+    fn absent(room: &mut Self::Room, entries: &mut Self::Entries) -> Option<()>
+        ensures { IsSome result → (s : Self.Room) (es : List (Option Datum)) → listed s room.old entries.old es
+            → listed s room.new entries.new (es ++ None ∷ []) };
 
-    /// Adds that of one with a value.
-    fn present(entries: &mut Self::Entries, part: Self::Part) -> Option<()>
-        ensures { IsSome result → (es : List (Option Datum)) (d : Datum) → listed entries.old es → built part d
-            → listed entries.new (es ++ Some d ∷ []) };
+    /// Adds that of one with a value, which was built after the entries.
+    fn present(room: &mut Self::Room, entries: &mut Self::Entries, part: Self::Part) -> Option<()>
+        ensures { IsSome result → (s m : Self.Room) (es : List (Option Datum)) (d : Datum)
+            → listed s m entries.old es → built m room.old part d → listed s room.new entries.new (es ++ Some d ∷ []) };
 
     /// Of a SEQUENCE.
-    fn sequence(entries: Self::Entries) -> Self::Part
-        ensures { (es : List (Option Datum)) → listed entries es → built result (components (components_of es)) };
+    fn sequence(room: &mut Self::Room, entries: Self::Entries) -> Option<Self::Part>
+        ensures { IfSome result (λ p. (s : Self.Room) (es : List (Option Datum)) → listed s room.old entries es
+            → built s room.new p (components (components_of es))) };
 
     /// Of no elements.
-    fn elements(alloc: Global) -> Self::Elements
-        ensures { rowed result [] };
+    fn elements(alloc: Global, room: &mut Self::Room) -> Option<Self::Elements>
+        ensures { IfSome result (λ row. rowed room.old room.new row []) };
 
-    /// Adds an element.
-    fn element(row: &mut Self::Elements, part: Self::Part) -> Option<()>
-        ensures { IsSome result → (ds : List Datum) (d : Datum) → rowed row.old ds → built part d
-            → rowed row.new (ds ++ d ∷ []) };
+    /// Adds an element, which was built after the others.
+    fn element(room: &mut Self::Room, row: &mut Self::Elements, part: Self::Part) -> Option<()>
+        ensures { IsSome result → (s m : Self.Room) (ds : List Datum) (d : Datum)
+            → rowed s m row.old ds → built m room.old part d → rowed s room.new row.new (ds ++ d ∷ []) };
 
     /// Of a SEQUENCE OF.
-    fn list(row: Self::Elements) -> Self::Part
-        ensures { (ds : List Datum) → rowed row ds → built result (elements (elements_of ds)) };
+    fn list(room: &mut Self::Room, row: Self::Elements) -> Option<Self::Part>
+        ensures { IfSome result (λ p. (s : Self.Room) (ds : List Datum) → rowed s room.old row ds
+            → built s room.new p (elements (elements_of ds))) };
 
-    /// Of a CHOICE whose alternative at this place, counted from 0, has a value.
-    fn choice(alloc: Global, place: usize, part: Self::Part) -> Option<Self::Part>
+    /// Of a CHOICE, before the value of its alternative at this place, counted from 0, is built.
+    fn choosing(room: &mut Self::Room, place: usize) -> Option<Self::Chosen>
         requires { place < 2 ^ 32 }
-        ensures { IfSome result (λ p. (d : Datum) → built part d → built p (alternative place d)) };
+        ensures { IfSome result (λ c. opened room.old room.new c place) };
+
+    /// Of a CHOICE, with the value of its alternative, which was built after it.
+    fn choice(
+        alloc: Global,
+        room: &mut Self::Room,
+        chosen: Self::Chosen,
+        place: usize,
+        part: Self::Part,
+    ) -> Option<Self::Part>
+        requires { place < 2 ^ 32 }
+        ensures { IfSome result (λ p. (s m : Self.Room) (d : Datum) → opened s m chosen place → built m room.old part d
+            → built s room.new p (alternative place d)) };
 }
 
 /// Builds nothing.
 pub struct Nothing;
 
 impl Build for Nothing {
+    type Room = ();
+
     type Part = ();
 
     type Entries = ();
 
     type Elements = ();
 
-    ghost built = { λ p d. ⊤ };
+    type Chosen = ();
 
-    ghost listed = { λ p es. ⊤ };
+    ghost built = { λ s r p d. ⊤ };
 
-    ghost rowed = { λ p ds. ⊤ };
+    ghost listed = { λ s r p es. ⊤ };
+
+    ghost rowed = { λ s r p ds. ⊤ };
+
+    ghost opened = { λ s r c n. ⊤ };
 
     #[inline(always)]
-    fn number(_integer: i128) {}
-
-    #[inline(always)]
-    fn value(_value: Value) -> Option<()> {
+    fn number(_room: &mut (), _integer: i128) -> Option<()> {
         Some(())
     }
 
     #[inline(always)]
-    fn entries(_alloc: Global, _count: usize) -> Option<()> {
+    fn value(_room: &mut (), _value: Value) -> Option<()> {
         Some(())
     }
 
     #[inline(always)]
-    fn absent(_entries: &mut ()) -> Option<()> {
+    fn entries(_alloc: Global, _room: &mut (), _count: usize) -> Option<()> {
         Some(())
     }
 
     #[inline(always)]
-    fn present(_entries: &mut (), _part: ()) -> Option<()> {
+    fn absent(_room: &mut (), _entries: &mut ()) -> Option<()> {
         Some(())
     }
 
     #[inline(always)]
-    fn sequence(_entries: ()) {}
-
-    #[inline(always)]
-    fn elements(_alloc: Global) {}
-
-    #[inline(always)]
-    fn element(_row: &mut (), _part: ()) -> Option<()> {
+    fn present(_room: &mut (), _entries: &mut (), _part: ()) -> Option<()> {
         Some(())
     }
 
     #[inline(always)]
-    fn list(_row: ()) {}
+    fn sequence(_room: &mut (), _entries: ()) -> Option<()> {
+        Some(())
+    }
 
     #[inline(always)]
-    fn choice(_alloc: Global, _place: usize, _part: ()) -> Option<()> {
+    fn elements(_alloc: Global, _room: &mut ()) -> Option<()> {
+        Some(())
+    }
+
+    #[inline(always)]
+    fn element(_room: &mut (), _row: &mut (), _part: ()) -> Option<()> {
+        Some(())
+    }
+
+    #[inline(always)]
+    fn list(_room: &mut (), _row: ()) -> Option<()> {
+        Some(())
+    }
+
+    #[inline(always)]
+    fn choosing(_room: &mut (), _place: usize) -> Option<()> {
+        Some(())
+    }
+
+    #[inline(always)]
+    fn choice(_alloc: Global, _room: &mut (), _chosen: (), _place: usize, _part: ()) -> Option<()> {
         Some(())
     }
 }
@@ -133,65 +176,82 @@ impl Build for Nothing {
 pub struct Values;
 
 impl Build for Values {
+    type Room = ();
+
     type Part = Value;
 
     type Entries = Vec<Option<Value>>;
 
     type Elements = Vec<Value>;
 
-    ghost built = { λ p d. datum_of p ≡ d };
+    type Chosen = ();
 
-    ghost listed = { λ p es. entries_seen p.items ≡ es };
+    ghost built = { λ s r p d. datum_of p ≡ d };
 
-    ghost rowed = { λ p ds. map datum_of p.items ≡ ds };
+    ghost listed = { λ s r p es. entries_seen p.items ≡ es };
+
+    ghost rowed = { λ s r p ds. map datum_of p.items ≡ ds };
+
+    ghost opened = { λ s r c n. ⊤ };
 
     #[inline(always)]
-    fn number(integer: i128) -> Value {
-        Value::Int(integer)
+    fn number(_room: &mut (), integer: i128) -> Option<Value> {
+        Some(Value::Int(integer))
     }
 
     #[inline(always)]
-    fn value(value: Value) -> Option<Value> {
+    fn value(_room: &mut (), value: Value) -> Option<Value> {
         Some(value)
     }
 
     #[inline(always)]
-    fn entries(alloc: Global, count: usize) -> Option<Vec<Option<Value>>> {
+    fn entries(alloc: Global, _room: &mut (), count: usize) -> Option<Vec<Option<Value>>> {
         Vec::with_capacity(alloc, count).ok()
     }
 
     #[inline(always)]
-    fn absent(entries: &mut Vec<Option<Value>>) -> Option<()> {
+    fn absent(_room: &mut (), entries: &mut Vec<Option<Value>>) -> Option<()> {
         entries.push(None).ok()
     }
 
     #[inline(always)]
-    fn present(entries: &mut Vec<Option<Value>>, part: Value) -> Option<()> {
+    fn present(_room: &mut (), entries: &mut Vec<Option<Value>>, part: Value) -> Option<()> {
         entries.push(Some(part)).ok()
     }
 
     #[inline(always)]
-    fn sequence(entries: Vec<Option<Value>>) -> Value {
-        Value::Seq(entries)
+    fn sequence(_room: &mut (), entries: Vec<Option<Value>>) -> Option<Value> {
+        Some(Value::Seq(entries))
     }
 
     #[inline(always)]
-    fn elements(alloc: Global) -> Vec<Value> {
-        Vec::new(alloc)
+    fn elements(alloc: Global, _room: &mut ()) -> Option<Vec<Value>> {
+        Some(Vec::new(alloc))
     }
 
     #[inline(always)]
-    fn element(row: &mut Vec<Value>, part: Value) -> Option<()> {
+    fn element(_room: &mut (), row: &mut Vec<Value>, part: Value) -> Option<()> {
         row.push(part).ok()
     }
 
     #[inline(always)]
-    fn list(row: Vec<Value>) -> Value {
-        Value::List(row)
+    fn list(_room: &mut (), row: Vec<Value>) -> Option<Value> {
+        Some(Value::List(row))
     }
 
     #[inline(always)]
-    fn choice(alloc: Global, place: usize, part: Value) -> Option<Value> {
+    fn choosing(_room: &mut (), _place: usize) -> Option<()> {
+        Some(())
+    }
+
+    #[inline(always)]
+    fn choice(
+        alloc: Global,
+        _room: &mut (),
+        _chosen: (),
+        place: usize,
+        part: Value,
+    ) -> Option<Value> {
         let part = Box::new(alloc, part).ok()?;
         Some(Value::Choice(place as u32, part))
     }

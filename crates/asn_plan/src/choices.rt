@@ -24,11 +24,12 @@ pub(crate) fn build_choice<R: PlanLeaves, B: Build>(
     nodes: &[Node],
     parts: &AlternativeRows,
     units: &mut BitCursor<'_>,
+    room: &mut B::Room,
 ) -> Option<B::Part>
     requires at_unit { R.rules.at_unit units.old }
     ensures at_unit { IsSome result → R.rules.at_unit units.new }
     ensures some { IfSome result (λ p. (t : Shape) → InProfile t → IsPlan nodes.now t (kind.Choice parts.now)
-        → Builds R.rules B.built t p units.old units.new) }
+        → Builds R.rules (B.built room.old room.new) t p units.old units.new) }
 {
     R::keep_laws();
     if parts.begin >= parts.end || parts.end > nodes.len() {
@@ -51,17 +52,20 @@ pub(crate) fn build_choice<R: PlanLeaves, B: Build>(
             if place >= root.len() {
                 return None;
             }
-            let part = build_at::<R, B>(alloc, before, &root[place].kind, units)?;
-            let chosen = B::choice(alloc, place, part)?;
-            Some(chosen)
+            let chosen = B::choosing(room, place)?;
+            let part = build_at::<R, B>(alloc, before, &root[place].kind, units, room)?;
+            let whole = B::choice(alloc, room, chosen, place, part)?;
+            Some(whole)
         }
         Index::Added(place) => {
             if place >= added.len() || place > MAX_ALTERNATIVES {
                 return None;
             }
-            let part = build_open::<R, B>(alloc, before, &added[place].kind, units)?;
-            let chosen = B::choice(alloc, root.len() + place, part)?;
-            Some(chosen)
+            let place_in_all = root.len() + place;
+            let chosen = B::choosing(room, place_in_all)?;
+            let part = build_open::<R, B>(alloc, before, &added[place].kind, units, room)?;
+            let whole = B::choice(alloc, room, chosen, place_in_all, part)?;
+            Some(whole)
         }
     }
 }

@@ -29,18 +29,19 @@ pub(crate) fn build_sequence<R: PlanLeaves, B: Build>(
     nodes: &[Node],
     parts: &ComponentRows,
     units: &mut BitCursor<'_>,
+    room: &mut B::Room,
 ) -> Option<B::Part>
     requires at_unit { R.rules.at_unit units.old }
     ensures at_unit { IsSome result → R.rules.at_unit units.new }
     ensures some { IfSome result (λ p. (t : Shape) → InProfile t → IsPlan nodes.now t (kind.Sequence parts.now)
-        → Builds R.rules B.built t p units.old units.new) }
+        → Builds R.rules (B.built room.old room.new) t p units.old units.new) }
 {
     R::keep_laws();
     if parts.begin > parts.middle || parts.middle > parts.end || parts.end > nodes.len() {
         return None;
     }
     if parts.begin >= parts.end {
-        let empty = build_empty::<R, B>(alloc, parts.additions, units)?;
+        let empty = build_empty::<R, B>(alloc, parts.additions, units, room)?;
         return Some(empty);
     }
     if parts.width > 64 {
@@ -56,14 +57,16 @@ pub(crate) fn build_sequence<R: PlanLeaves, B: Build>(
         bitmap: preamble.bitmap,
         left: parts.width,
     };
-    let room = parts.end - parts.begin;
-    let mut entries = build_components::<R, B>(alloc, before, root, presence, room, units)?;
+    let count = parts.end - parts.begin;
+    let mut entries = build_components::<R, B>(alloc, before, root, presence, count, units, room)?;
     if !preamble.extended {
-        add_absent::<B>(added, &mut entries)?;
-        return Some(B::sequence(entries));
+        add_absent::<B>(added, &mut entries, room)?;
+        let whole = B::sequence(room, entries)?;
+        return Some(whole);
     }
-    build_additions::<R, B>(alloc, before, added, &mut entries, units)?;
-    Some(B::sequence(entries))
+    build_additions::<R, B>(alloc, before, added, &mut entries, units, room)?;
+    let part = B::sequence(room, entries)?;
+    Some(part)
 }
 
 /// What is built of the SEQUENCE with neither components nor extension additions with which the units begin, and which
@@ -73,12 +76,13 @@ fn build_empty<R: PlanLeaves, B: Build>(
     alloc: Global,
     additions: Option<usize>,
     units: &mut BitCursor<'_>,
+    room: &mut B::Room,
 ) -> Option<B::Part>
     requires at_unit { R.rules.at_unit units.old }
     ensures at_unit { IsSome result → R.rules.at_unit units.new }
     ensures some { IfSome result (λ p. (more : MoreFields) → InProfile (sequence no_fields more)
         → more_fields more ≡ no_fields → additions ≡ added more
-        → Builds R.rules B.built (sequence no_fields more) p units.old units.new) }
+        → Builds R.rules (B.built room.old room.new) (sequence no_fields more) p units.old units.new) }
 {
     R::keep_laws();
     let Ok(preamble) = R::read_preamble(0, additions, units) else {
@@ -87,12 +91,13 @@ fn build_empty<R: PlanLeaves, B: Build>(
     if preamble.extended {
         return None;
     }
-    let entries = B::entries(alloc, 0)?;
-    Some(B::sequence(entries))
+    let entries = B::entries(alloc, room, 0)?;
+    let part = B::sequence(room, entries)?;
+    Some(part)
 }
 
-/// What is built of the components that the presence bits tell, with which the units begin, and which are taken, with
-/// room for this many entries.
+/// What is built of the components that the presence bits tell, with which the units begin, and which are taken, where
+/// there are this many with the extension additions.
 #[inline(always)]
 #[cycle(walk)]
 fn build_components<R: PlanLeaves, B: Build>(
@@ -100,20 +105,21 @@ fn build_components<R: PlanLeaves, B: Build>(
     nodes: &[Node],
     parts: &[Node],
     presence: PresenceBits,
-    room: usize,
+    count: usize,
     units: &mut BitCursor<'_>,
+    room: &mut B::Room,
 ) -> Option<B::Entries>
     requires at_unit { R.rules.at_unit units.old }
     requires few { presence.left ≤ 64 }
     ensures at_unit { IsSome result → R.rules.at_unit units.new }
     ensures some { IfSome result (λ p. (root : Fields) → AreOfProfile root → ArePlans nodes.now parts.now root
         → presence.left ≡ bitmap_length root
-        → BuildsComponents R.rules B.listed root presence.bitmap presence.left p units.old units.new) }
+        → BuildsComponents R.rules (B.listed room.old room.new) root presence.bitmap presence.left p units.old units.new) }
 {
     let mut presence = presence;
-    let mut entries = B::entries(alloc, room)?;
+    let mut entries = B::entries(alloc, room, count)?;
     for part in parts {
-        build_component::<R, B>(alloc, nodes, part, &mut presence, &mut entries, units)?;
+        build_component::<R, B>(alloc, nodes, part, &mut presence, &mut entries, units, room)?;
     }
     Some(entries)
 }
@@ -128,29 +134,31 @@ fn build_component<R: PlanLeaves, B: Build>(
     presence: &mut PresenceBits,
     entries: &mut B::Entries,
     units: &mut BitCursor<'_>,
+    room: &mut B::Room,
 ) -> Option<()>
     requires at_unit { R.rules.at_unit units.old }
     requires few { presence.old.left ≤ 64 }
     ensures at_unit { IsSome result → R.rules.at_unit units.new }
     ensures bitmap { IsSome result → presence.new.bitmap ≡ presence.old.bitmap }
-    ensures some { IsSome result → BuildsEntry R.rules (B.listed entries.old) (B.listed entries.new)
+    ensures some { IsSome result → (s : B.Room)
+        → BuildsEntry R.rules (B.listed s room.old entries.old) (B.listed s room.new entries.new)
         nodes.now part.now presence.old.bitmap presence.old.left presence.new.left
         (R.rules.to_units units.old) (R.rules.to_units units.new) }
 {
     match &part.presence {
         Presence::Must => {
-            let value = build_at::<R, B>(alloc, nodes, &part.kind, units)?;
-            B::present(entries, value)
+            let value = build_at::<R, B>(alloc, nodes, &part.kind, units, room)?;
+            B::present(room, entries, value)
         }
         Presence::Optional => {
             if presence.left == 0 {
                 return None;
             }
             if !presence.next() {
-                return B::absent(entries);
+                return B::absent(room, entries);
             }
-            let value = build_at::<R, B>(alloc, nodes, &part.kind, units)?;
-            B::present(entries, value)
+            let value = build_at::<R, B>(alloc, nodes, &part.kind, units, room)?;
+            B::present(room, entries, value)
         }
         Presence::Default(with_default) => {
             if presence.left == 0 {
@@ -158,12 +166,12 @@ fn build_component<R: PlanLeaves, B: Build>(
             }
             if !presence.next() {
                 let default = copy_default(&with_default.default)?;
-                let absent = B::value(default)?;
-                return B::present(entries, absent);
+                let absent = B::value(room, default)?;
+                return B::present(room, entries, absent);
             }
             let value = read_other::<R>(with_default, units)?;
-            let part = B::value(value)?;
-            B::present(entries, part)
+            let part = B::value(room, value)?;
+            B::present(room, entries, part)
         }
     }
 }
@@ -178,11 +186,12 @@ fn build_additions<R: PlanLeaves, B: Build>(
     parts: &[Node],
     entries: &mut B::Entries,
     units: &mut BitCursor<'_>,
+    room: &mut B::Room,
 ) -> Option<()>
     requires at_unit { R.rules.at_unit units.old }
     ensures at_unit { IsSome result → R.rules.at_unit units.new }
-    ensures some { IsSome result → (fs : Fields) → AreOfProfile fs → ArePlans nodes.now parts.now fs
-        → BuildsMore R.rules (B.listed entries.old) (B.listed entries.new) (AdditionsOf R.rules fs)
+    ensures some { IsSome result → (s : B.Room) → (fs : Fields) → AreOfProfile fs → ArePlans nodes.now parts.now fs
+        → BuildsMore R.rules (B.listed s room.old entries.old) (B.listed s room.new entries.new) (AdditionsOf R.rules fs)
         (R.rules.to_units units.old) (R.rules.to_units units.new) }
 {
     if parts.is_empty() || parts.len() > 64 {
@@ -196,7 +205,7 @@ fn build_additions<R: PlanLeaves, B: Build>(
         bitmap,
         left: count,
     };
-    build_open_fields::<R, B>(alloc, nodes, parts, presence, entries, units)
+    build_open_fields::<R, B>(alloc, nodes, parts, presence, entries, units, room)
 }
 
 /// Adds the entries of extension additions that the presence bits tell, in whose open type fields the units begin, and
@@ -210,19 +219,20 @@ fn build_open_fields<R: PlanLeaves, B: Build>(
     presence: PresenceBits,
     entries: &mut B::Entries,
     units: &mut BitCursor<'_>,
+    room: &mut B::Room,
 ) -> Option<()>
     requires at_unit { R.rules.at_unit units.old }
     requires few { presence.left ≤ 64 }
     ensures at_unit { IsSome result → R.rules.at_unit units.new }
-    ensures some { IsSome result → (fs : Fields) → AreOfProfile fs → ArePlans nodes.now parts.now fs
+    ensures some { IsSome result → (s : B.Room) → (fs : Fields) → AreOfProfile fs → ArePlans nodes.now parts.now fs
         → presence.left ≡ length (demands fs)
-        → BuildsMore R.rules (B.listed entries.old) (B.listed entries.new)
+        → BuildsMore R.rules (B.listed s room.old entries.old) (B.listed s room.new entries.new)
         (OpenListed R.rules fs (bits presence.left presence.bitmap))
         (R.rules.to_units units.old) (R.rules.to_units units.new) }
 {
     let mut presence = presence;
     for part in parts {
-        build_addition::<R, B>(alloc, nodes, part, &mut presence, entries, units)?;
+        build_addition::<R, B>(alloc, nodes, part, &mut presence, entries, units, room)?;
     }
     Some(())
 }
@@ -238,13 +248,14 @@ fn build_addition<R: PlanLeaves, B: Build>(
     presence: &mut PresenceBits,
     entries: &mut B::Entries,
     units: &mut BitCursor<'_>,
+    room: &mut B::Room,
 ) -> Option<()>
     requires at_unit { R.rules.at_unit units.old }
     requires few { presence.old.left ≤ 64 }
     ensures at_unit { IsSome result → R.rules.at_unit units.new }
     ensures bitmap { IsSome result → presence.new.bitmap ≡ presence.old.bitmap }
-    ensures some { IsSome result → BuildsAddition R.rules
-        (B.listed entries.old) (B.listed entries.new)
+    ensures some { IsSome result → (s : B.Room) → BuildsAddition R.rules
+        (B.listed s room.old entries.old) (B.listed s room.new entries.new)
         nodes.now part.now presence.old.bitmap presence.old.left presence.new.left
         (R.rules.to_units units.old) (R.rules.to_units units.new) }
 {
@@ -252,20 +263,20 @@ fn build_addition<R: PlanLeaves, B: Build>(
         return None;
     }
     if !presence.next() {
-        return B::absent(entries);
+        return B::absent(room, entries);
     }
-    let value = build_open::<R, B>(alloc, nodes, &part.kind, units)?;
-    B::present(entries, value)
+    let value = build_open::<R, B>(alloc, nodes, &part.kind, units, room)?;
+    B::present(room, entries, value)
 }
 
 /// Adds the entry of an absent component for each of these.
 #[inline(always)]
-fn add_absent<B: Build>(parts: &[Node], entries: &mut B::Entries) -> Option<()>
-    ensures { IsSome result → (es : List (Option Datum)) → B.listed entries.old es
-        → B.listed entries.new (es ++ absents (length parts.now)) }
+fn add_absent<B: Build>(parts: &[Node], entries: &mut B::Entries, room: &mut B::Room) -> Option<()>
+    ensures { IsSome result → (s : B.Room) (es : List (Option Datum)) → B.listed s room.old entries.old es
+        → B.listed s room.new entries.new (es ++ absents (length parts.now)) }
 {
     for _ in parts {
-        B::absent(entries)?;
+        B::absent(room, entries)?;
     }
     Some(())
 }

@@ -1,5 +1,5 @@
 //! A builder that counts what a value takes, and keeps nothing of it.
-ghost use Rattle.std.specs.Prelude.{◌≡◌, ◌+◌, true, false, IfSome};
+ghost use Rattle.std.specs.Prelude.{◌≡◌, ◌+◌, true, false, IfSome, ⊤};
 ghost use Rattle.asn_values.specs.Datum.{components, components_of, elements, elements_of};
 ghost use Rattle.asn_values.specs.View.{datum_of};
 ghost use Rattle.asn_plan.specs.Taken.{Takes, IsNoMore};
@@ -66,68 +66,85 @@ fn taken_alone(value: &Value) -> Option<Taken>
 }
 
 impl Build for Counting {
+    type Room = ();
+
     type Part = Taken;
 
     type Entries = Taken;
 
     type Elements = Taken;
 
-    ghost built = { λ p d. Takes p d };
+    type Chosen = ();
 
-    ghost listed = { λ p es. Takes p (components (components_of es)) };
+    ghost built = { λ s r p d. Takes p d };
 
-    ghost rowed = { λ p ds. Takes p (elements (elements_of ds)) };
+    ghost listed = { λ s r p es. Takes p (components (components_of es)) };
 
-    #[inline(always)]
-    fn number(_integer: i128) -> Taken {
-        Taken::of_string(0)
-    }
+    ghost rowed = { λ s r p ds. Takes p (elements (elements_of ds)) };
 
-    #[inline(always)]
-    fn value(value: Value) -> Option<Taken> {
-        taken_alone(&value)
-    }
+    ghost opened = { λ s r c n. ⊤ };
 
     #[inline(always)]
-    fn entries(_alloc: Global, _count: usize) -> Option<Taken> {
+    fn number(_room: &mut (), _integer: i128) -> Option<Taken> {
         Some(Taken::of_string(0))
     }
 
     #[inline(always)]
-    fn absent(entries: &mut Taken) -> Option<()> {
+    fn value(_room: &mut (), value: Value) -> Option<Taken> {
+        taken_alone(&value)
+    }
+
+    #[inline(always)]
+    fn entries(_alloc: Global, _room: &mut (), _count: usize) -> Option<Taken> {
+        Some(Taken::of_string(0))
+    }
+
+    #[inline(always)]
+    fn absent(_room: &mut (), entries: &mut Taken) -> Option<()> {
         *entries = entries.plus(Taken::of_string(0))?;
         Some(())
     }
 
     #[inline(always)]
-    fn present(entries: &mut Taken, part: Taken) -> Option<()> {
+    fn present(_room: &mut (), entries: &mut Taken, part: Taken) -> Option<()> {
         *entries = entries.plus(part)?;
         Some(())
     }
 
     #[inline(always)]
-    fn sequence(entries: Taken) -> Taken {
-        entries
+    fn sequence(_room: &mut (), entries: Taken) -> Option<Taken> {
+        Some(entries)
     }
 
     #[inline(always)]
-    fn elements(_alloc: Global) -> Taken {
-        Taken::of_string(0)
+    fn elements(_alloc: Global, _room: &mut ()) -> Option<Taken> {
+        Some(Taken::of_string(0))
     }
 
     #[inline(always)]
-    fn element(row: &mut Taken, part: Taken) -> Option<()> {
+    fn element(_room: &mut (), row: &mut Taken, part: Taken) -> Option<()> {
         *row = row.plus(part)?;
         Some(())
     }
 
     #[inline(always)]
-    fn list(row: Taken) -> Taken {
-        row
+    fn list(_room: &mut (), row: Taken) -> Option<Taken> {
+        Some(row)
     }
 
     #[inline(always)]
-    fn choice(_alloc: Global, _place: usize, part: Taken) -> Option<Taken> {
+    fn choosing(_room: &mut (), _place: usize) -> Option<()> {
+        Some(())
+    }
+
+    #[inline(always)]
+    fn choice(
+        _alloc: Global,
+        _room: &mut (),
+        _chosen: (),
+        _place: usize,
+        part: Taken,
+    ) -> Option<Taken> {
         let chosen = part.plus(Taken::of_string(0))?;
         Some(chosen)
     }

@@ -23,11 +23,12 @@ pub(crate) fn build_list<R: PlanLeaves, B: Build>(
     nodes: &[Node],
     list: &ElementRow,
     units: &mut BitCursor<'_>,
+    room: &mut B::Room,
 ) -> Option<B::Part>
     requires at_unit { R.rules.at_unit units.old }
     ensures at_unit { IsSome result → R.rules.at_unit units.new }
     ensures some { IfSome result (λ p. (t : Shape) → InProfile t → IsPlan nodes.now t (kind.List list.now)
-        → Builds R.rules B.built t p units.old units.new) }
+        → Builds R.rules (B.built room.old room.new) t p units.old units.new) }
 {
     R::keep_laws();
     if list.element >= nodes.len() {
@@ -38,8 +39,9 @@ pub(crate) fn build_list<R: PlanLeaves, B: Build>(
     let Ok(fragments) = R::start_list(&list.size, units) else {
         return None;
     };
-    let row = build_fragments::<R, B>(alloc, before, &element.kind, fragments, units)?;
-    Some(B::list(row))
+    let row = build_fragments::<R, B>(alloc, before, &element.kind, fragments, units, room)?;
+    let part = B::list(room, row)?;
+    Some(part)
 }
 
 /// What is built of the elements of the fragments that are ahead, with which the units begin, and which are taken.
@@ -51,16 +53,17 @@ fn build_fragments<R: PlanLeaves, B: Build>(
     kind: &Kind,
     fragments: R::Fragments,
     units: &mut BitCursor<'_>,
+    room: &mut B::Room,
 ) -> Option<B::Elements>
     requires at_unit { R.rules.at_unit units.old }
     requires between { R.is_between fragments }
     ensures at_unit { IsSome result → R.rules.at_unit units.new }
     ensures some { IfSome result (λ p. (t : Shape) → InProfile t → IsPlan nodes.now t kind.now
-        → BuildsList R.rules B.rowed (Remaining (ValuesOf R.rules t) (R.ahead fragments)) p units.old units.new) }
+        → BuildsList R.rules (B.rowed room.old room.new) (Remaining (ValuesOf R.rules t) (R.ahead fragments)) p units.old units.new) }
 {
     R::keep_laws();
     let mut fragments = fragments;
-    let mut row = B::elements(alloc);
+    let mut row = B::elements(alloc, room)?;
     for i in 0..u64::MAX {
         let Ok(next) = R::next_fragment(&mut fragments, units) else {
             return None;
@@ -68,7 +71,7 @@ fn build_fragments<R: PlanLeaves, B: Build>(
         let Some(count) = next else {
             return Some(row);
         };
-        build_elements::<R, B>(alloc, nodes, kind, count, &mut row, units)?;
+        build_elements::<R, B>(alloc, nodes, kind, count, &mut row, units, room)?;
     }
     None
 }
@@ -83,16 +86,17 @@ fn build_elements<R: PlanLeaves, B: Build>(
     count: usize,
     row: &mut B::Elements,
     units: &mut BitCursor<'_>,
+    room: &mut B::Room,
 ) -> Option<()>
     requires at_unit { R.rules.at_unit units.old }
     ensures at_unit { IsSome result → R.rules.at_unit units.new }
-    ensures some { IsSome result → (t : Shape) → InProfile t → IsPlan nodes.now t kind.now
-        → BuildsRow R.rules (B.rowed row.old) (B.rowed row.new) (Row (ValuesOf R.rules t) count)
+    ensures some { IsSome result → (s : B.Room) → (t : Shape) → InProfile t → IsPlan nodes.now t kind.now
+        → BuildsRow R.rules (B.rowed s room.old row.old) (B.rowed s room.new row.new) (Row (ValuesOf R.rules t) count)
         (R.rules.to_units units.old) (R.rules.to_units units.new) }
 {
     for i in 0..count {
-        let value = build_at::<R, B>(alloc, nodes, kind, units)?;
-        B::element(row, value)?;
+        let value = build_at::<R, B>(alloc, nodes, kind, units, room)?;
+        B::element(room, row, value)?;
     }
     Some(())
 }

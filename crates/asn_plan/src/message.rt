@@ -18,21 +18,22 @@ use asn_rules::{DecodeFault, MAX_OCTETS, Rules};
 use asn_values::{Checked, Value};
 use std::alloc::Global;
 
-/// What is built of the value whose encoding the octets are. Where it gives nothing, nothing is said.
+/// What is built, in this room, of the value whose encoding the octets are. Where it gives nothing, nothing is said.
 #[inline(always)]
 pub fn build_octets<R: PlanLeaves, B: Build>(
     alloc: Global,
     plan: &Plan,
     octets: &[u8],
+    room: &mut B::Room,
 ) -> Option<B::Part>
     ensures within { IsSome result → length octets.now ≤ max_octets }
     ensures some { IfSome result (λ p. (t : Shape) → InProfile t → IsPlanOf plan.now t
-        → BuildsMessage R.rules.ruling B.built t p octets.now) }
+        → BuildsMessage R.rules.ruling (B.built room.old room.new) t p octets.now) }
 {
     if octets.len() > MAX_OCTETS {
         return None;
     }
-    let part = build_complete::<R, B>(alloc, plan.nodes.as_slice(), &plan.root, octets)?;
+    let part = build_complete::<R, B>(alloc, plan.nodes.as_slice(), &plan.root, octets, room)?;
     Some(part)
 }
 
@@ -52,7 +53,7 @@ pub(crate) fn check_by<R: PlanRules>(
     ensures { Checks R.ruling result (shape_of ty.now) octets.now }
 {
     ty.get();
-    if let Some(()) = build_octets::<R, Nothing>(alloc, plan, octets) {
+    if let Some(()) = build_octets::<R, Nothing>(alloc, plan, octets, &mut ()) {
         return Ok(());
     }
     match R::decode(alloc, ty, octets) {
@@ -76,7 +77,7 @@ pub(crate) fn decode_by<R: PlanRules>(
     ensures { Decoded R.ruling result (shape_of ty.now) octets.now }
 {
     ty.get();
-    if let Some(value) = build_octets::<R, Values>(alloc, plan, octets) {
+    if let Some(value) = build_octets::<R, Values>(alloc, plan, octets, &mut ()) {
         return Ok(value);
     }
     R::decode(alloc, ty, octets)
@@ -94,7 +95,7 @@ pub(crate) fn taken_by<R: PlanRules>(
     ensures { IsTaken R.ruling result (shape_of ty.now) octets.now }
 {
     ty.get();
-    build_octets::<R, Counting>(alloc, plan, octets)
+    build_octets::<R, Counting>(alloc, plan, octets, &mut ())
 }
 
 /// The fault of octets at which the walk gave up: it does so at no encoding unless memory is wanting.

@@ -21,15 +21,16 @@ pub(crate) fn build_complete<R: PlanLeaves, B: Build>(
     nodes: &[Node],
     kind: &Kind,
     octets: &[u8],
+    room: &mut B::Room,
 ) -> Option<B::Part>
     ensures { IfSome result (λ p. (t : Shape) → InProfile t → IsPlan nodes.now t kind.now
-        → BuildsMessage R.rules.ruling B.built t p octets.now) }
+        → BuildsMessage R.rules.ruling (B.built room.old room.new) t p octets.now) }
 {
     R::keep_laws();
     are_octets(octets);
     let mut units = BitCursor::over(octets);
     let given = R::units_left(&units);
-    let part = build_at::<R, B>(alloc, nodes, kind, &mut units)?;
+    let part = build_at::<R, B>(alloc, nodes, kind, &mut units, room)?;
     if R::units_left(&units) > given {
         return None;
     }
@@ -50,17 +51,18 @@ pub(crate) fn build_open<R: PlanLeaves, B: Build>(
     nodes: &[Node],
     kind: &Kind,
     units: &mut BitCursor<'_>,
+    room: &mut B::Room,
 ) -> Option<B::Part>
     requires at_unit { R.rules.at_unit units.old }
     ensures at_unit { IsSome result → R.rules.at_unit units.new }
     ensures some { IfSome result (λ p. (t : Shape) → InProfile t → IsPlan nodes.now t kind.now
-        → BuildsOpen R.rules B.built t p units.old units.new) }
+        → BuildsOpen R.rules (B.built room.old room.new) t p units.old units.new) }
 {
     let mut short = [0; SHORT_OPEN_FIELD];
     let mut long = Vec::new(alloc);
     let Ok(octets) = read_open_octets::<R>(alloc, units, &mut short, &mut long) else {
         return None;
     };
-    let part = build_complete::<R, B>(alloc, nodes, kind, octets)?;
+    let part = build_complete::<R, B>(alloc, nodes, kind, octets, room)?;
     Some(part)
 }

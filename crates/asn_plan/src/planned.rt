@@ -2,7 +2,8 @@
 ghost use Rattle.std.specs.Prelude.{◌≡◌, IfOk};
 
 use crate::budget::{Budget, Taken, WithinFault};
-use crate::message::{check_by, decode_by, decode_within_by, taken_by};
+use crate::build::Build;
+use crate::message::{build_octets, check_by, decode_by, decode_within_by, taken_by};
 use crate::of::plan_of;
 use crate::plan::Plan;
 use crate::rules::PlanRules;
@@ -56,10 +57,11 @@ impl Planned {
 }
 
 impl Planned {
-    ghost use Rattle.std.specs.Prelude.{◌≡◌};
+    ghost use Rattle.std.specs.Prelude.{◌≡◌, ◌≤◌, IfSome, IsSome, length};
     ghost use Rattle.asn_values.specs.View.{shape_of};
+    ghost use Rattle.asn_rules.specs.Answer.{max_octets};
     ghost use Rattle.asn_rules.specs.Codec.{Decoded};
-    ghost use Rattle.asn_plan.specs.Plans.{Checks};
+    ghost use Rattle.asn_plan.specs.Plans.{BuildsMessage, Checks};
     ghost use Rattle.asn_plan.specs.Within.{DecodedWithin, IsTaken};
 
     /// Whether the octets are the complete encoding of some value of the type by the rules R: `Ok` exactly where they
@@ -82,6 +84,23 @@ impl Planned {
         ensures { Decoded R.ruling result (shape_of self.now) octets.now }
     {
         decode_by::<R>(alloc, &self.ty, &self.plan, octets)
+    }
+
+    /// What is built, in this room, of the value of the type whose complete encoding by the rules R the octets are.
+    /// `None` where the octets are no encoding or memory is wanting; then nothing is claimed, of the room neither.
+    #[inline(always)]
+    pub fn build<R: PlanRules, B: Build>(
+        &self,
+        alloc: Global,
+        octets: &[u8],
+        room: &mut B::Room,
+    ) -> Option<B::Part>
+        ensures within { IsSome result → length octets.now ≤ max_octets }
+        ensures some { IfSome result (λ p.
+            BuildsMessage R.ruling (B.built room.old room.new) (shape_of self.now) p octets.now) }
+    {
+        self.ty.get();
+        build_octets::<R, B>(alloc, &self.plan, octets, room)
     }
 
     /// What the value takes whose complete encoding by the rules R the octets are. No value is built: what is taken

@@ -26,22 +26,24 @@ pub fn build_at<R: PlanLeaves, B: Build>(
     nodes: &[Node],
     kind: &Kind,
     units: &mut BitCursor<'_>,
+    room: &mut B::Room,
 ) -> Option<B::Part>
     requires at_unit { R.rules.at_unit units.old }
     ensures at_unit { IsSome result → R.rules.at_unit units.new }
     ensures some { IfSome result (λ p. (t : Shape) → InProfile t → IsPlan nodes.now t kind.now
-        → Builds R.rules B.built t p units.old units.new) }
+        → Builds R.rules (B.built room.old room.new) t p units.old units.new) }
 {
     match kind {
         Kind::Number(number) => {
             if let Some(integer) = R::try_ranged(&number.range, units) {
-                return Some(B::number(integer));
+                let part = B::number(room, integer)?;
+                return Some(part);
             }
-            build_ranged::<R, B>(alloc, &number.range, units)
+            build_ranged::<R, B>(alloc, &number.range, units, room)
         }
-        Kind::Leaf(leaf) => build_leaf::<R, B>(alloc, leaf, units),
-        Kind::Sequence(parts) => build_sequence::<R, B>(alloc, nodes, parts, units),
-        Kind::List(list) => build_list::<R, B>(alloc, nodes, list, units),
-        Kind::Choice(parts) => build_choice::<R, B>(alloc, nodes, parts, units),
+        Kind::Leaf(leaf) => build_leaf::<R, B>(alloc, leaf, units, room),
+        Kind::Sequence(parts) => build_sequence::<R, B>(alloc, nodes, parts, units, room),
+        Kind::List(list) => build_list::<R, B>(alloc, nodes, list, units, room),
+        Kind::Choice(parts) => build_choice::<R, B>(alloc, nodes, parts, units, room),
     }
 }

@@ -18,4 +18,5 @@ pub use given::Given;
 pub use kind::Kind;
 pub use names::{alternative_index, component_index, item_index};
 pub use parts::{Components, Elements};
+pub use path::{from_root, index_in, is_separator};
 pub use view::{View, Viewed};

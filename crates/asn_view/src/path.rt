@@ -50,7 +50,7 @@ impl<'a> View<'a> {
 }
 
 /// The path without a `$` in front.
-fn from_root(path: &[u8]) -> &[u8]
+pub fn from_root(path: &[u8]) -> &[u8]
     ensures { result.now ≡ from_root path.now }
 {
     match path {
@@ -60,7 +60,7 @@ fn from_root(path: &[u8]) -> &[u8]
 }
 
 /// Whether a path is cut there.
-fn is_separator(octet: u8) -> bool
+pub fn is_separator(octet: u8) -> bool
     ensures { result ≡ is_separator octet }
 {
     octet == b'.' || octet == b'[' || octet == b']'
@@ -68,7 +68,7 @@ fn is_separator(octet: u8) -> bool
 
 /// The number that the digits are, of which there is at least one; None where other characters are among them, or they
 /// are too many.
-fn index_in(piece: &[u8]) -> Option<usize>
+pub fn index_in(piece: &[u8]) -> Option<usize>
     ensures { result ≡ index_in piece.now }
 {
     if piece.len() > MAX_DIGITS {

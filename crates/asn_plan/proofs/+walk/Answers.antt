@@ -32,7 +32,7 @@ walk::build_at-returns-in-Some-clause-some g t c s good p =
     let is = number_is c.args.nodes.now s n (rw c.in-Number.is at p) in
     let z = c.in-Some.integer in
     let of_z = c.in-Some.ensures.of_integers in
-    rw is (record { value = number z; of_value = rw (kept z of_z.0 of_z.1) at c.number.ensures; read = c.in-Some.ensures.some })
+    rw is (record { value = number z; of_value = rw (kept z of_z.0 of_z.1) at c.in_ok-part-in-Number.ensures; read = c.in-Some.ensures.some })
 
 pub walk::build_at-returns-in_default-clause-some : goal.walk::build_at-returns-in_default-clause-some
 walk::build_at-returns-in_default-clause-some g t c = if_some c.build_ranged.result _ _ (λ p built s good plan. (
@@ -48,9 +48,9 @@ walk::build_at-returns-in-Leaf-clause-some g t c = if_some c.build_leaf.result _
 pub components::build_components-loop-part-preserved : goal.components::build_components-loop-part-preserved
 components::build_components-loop-part-preserved g t c =
     let h = rw (next_node c.args.parts.now c.loop-part.part-index c.part-item.result c.loop-part-test.true c.part-item.is) at c.loop-part.invariant.0 in
-    let N = g.B.Build.listed c.build_component.new.entries in
+    let N = g.B.Build.listed c.args.room.now c.build_component.new.room c.build_component.new.entries in
     let b = c.in_ok-build_component.ensures in
-    (built_further N c.build_component.new.presence.left (g.R.ReadLeaves.rules.to_units c.build_component.new.units) h (rw c.loop-part.invariant.1 at b.some refl), b.bitmap refl ∙ c.loop-part.invariant.1, b.at_unit refl)
+    (built_further N c.build_component.new.presence.left (g.R.ReadLeaves.rules.to_units c.build_component.new.units) h (rw c.loop-part.invariant.1 at b.some refl c.args.room.now), b.bitmap refl ∙ c.loop-part.invariant.1, b.at_unit refl)
 
 pub components::build_components-returns-clause-some : goal.components::build_components-returns-clause-some
 components::build_components-returns-clause-some g t c root good p width =
@@ -58,9 +58,9 @@ components::build_components-returns-clause-some g t c root good p width =
     record { entries = e.0; of_entries = e.1; read = goes_ends e.2 (drop_all c.loop-part.part-index c.args.parts.now c.loop-part-test.false) }
 
 pub components::build_component-returns-in_ok-value-in-Must-clause-some : goal.components::build_component-returns-in_ok-value-in-Must-clause-some
-components::build_component-returns-in_ok-value-in-Must-clause-some g t c some =
+components::build_component-returns-in_ok-value-in-Must-clause-some g t c some s =
     let r = g.R.ReadLeaves.rules in
-    must_entry r (g.B.Build.listed c.args.entries.now) (g.B.Build.listed c.present.new.entries) c.args.nodes.now c.args.part.now c.args.presence.now.bitmap c.args.presence.now.left (r.to_units c.args.units.now) (r.to_units c.build_at.new.units) (g.B.Build.built c.in_ok-value-in-Must.value) (λ es d l q. c.present.ensures some es d l q) c.in-Must.is (λ s good p. (let b = c.in_ok-value-in-Must.ensures.some s good p in (b.value, b.of_value, b.read)))
+    must_entry r (g.B.Build.listed s c.args.room.now c.args.entries.now) (g.B.Build.listed s c.present.new.room c.present.new.entries) c.args.nodes.now c.args.part.now c.args.presence.now.bitmap c.args.presence.now.left (r.to_units c.args.units.now) (r.to_units c.build_at.new.units) (g.B.Build.built c.args.room.now c.build_at.new.room c.in_ok-value-in-Must.value) (λ es d l q. c.present.ensures some s c.args.room.now es d l q) c.in-Must.is (λ s good p. (let b = c.in_ok-value-in-Must.ensures.some s good p in (b.value, b.of_value, b.read)))
 
 pub components::build_sequence-returns-then-parts-3-clause-some : goal.components::build_sequence-returns-then-parts-3-clause-some
 components::build_sequence-returns-then-parts-3-clause-some g t c s good p =
@@ -77,8 +77,8 @@ components::build_sequence-returns-then-not-preamble-clause-some g t c s good p 
     let r = g.R.ReadLeaves.rules in
     let inside : InProfile (sequence q.root q.more) = rw q.is at good in
     let es = c.in_ok-entries.ensures.some q.root (components_of_profile q.root q.more inside) q.plans q.width in
-    let all = c.in_ok-add_absent.ensures refl es.entries es.of_entries in
-    rw q.is (record { value = _; of_value = c.sequence.ensures _ all; read = sequence_read r c.keep_laws.ensures q.root q.more inside c.args.parts.now.width c.args.parts.now.additions q.width q.additions (preamble_seen c.in-Ok.preamble) (r.to_units c.args.units.now) (r.to_units c.read_preamble.new.units) (r.to_units c.build_components.new.units) c.in-Ok.ensures.done es.entries es.read (turned_true c.in-Ok.preamble.extended c.if-not-preamble.true) _ (absents_are _ _ q.more q.others) })
+    let all = c.in_ok-add_absent.ensures refl c.args.room.now es.entries es.of_entries in
+    rw q.is (record { value = _; of_value = c.in_ok-whole.ensures c.args.room.now _ all; read = sequence_read r c.keep_laws.ensures q.root q.more inside c.args.parts.now.width c.args.parts.now.additions q.width q.additions (preamble_seen c.in-Ok.preamble) (r.to_units c.args.units.now) (r.to_units c.read_preamble.new.units) (r.to_units c.build_components.new.units) c.in-Ok.ensures.done es.entries es.read (turned_true c.in-Ok.preamble.extended c.if-not-preamble.true) _ (absents_are _ _ q.more q.others) })
 
 pub components::build_sequence-returns-clause-some : goal.components::build_sequence-returns-clause-some
 components::build_sequence-returns-clause-some g t c s good p =
@@ -86,93 +86,93 @@ components::build_sequence-returns-clause-some g t c s good p =
     let r = g.R.ReadLeaves.rules in
     let inside : InProfile (sequence q.root q.more) = rw q.is at good in
     let es = c.in_ok-entries.ensures.some q.root (components_of_profile q.root q.more inside) q.plans q.width in
-    let all = extended_read r c.keep_laws.ensures q.root q.more inside c.args.parts.now.width c.args.parts.now.additions q.width q.additions (preamble_seen c.in-Ok.preamble) (r.to_units c.args.units.now) (r.to_units c.read_preamble.new.units) (r.to_units c.build_components.new.units) (r.to_units c.build_additions.new.units) c.in-Ok.ensures.done es.entries es.read (turned_false c.in-Ok.preamble.extended c.if-not-preamble.false) _ _ q.others (g.B.Build.listed c.in_ok-entries.entries) (g.B.Build.listed c.build_additions.new.entries) es.of_entries (λ fs a plans. c.in_ok-build_additions.ensures.some refl fs a plans) in
-    rw q.is (record { value = _; of_value = c.sequence-2.ensures all.0 all.1; read = all.2 })
+    let all = extended_read r c.keep_laws.ensures q.root q.more inside c.args.parts.now.width c.args.parts.now.additions q.width q.additions (preamble_seen c.in-Ok.preamble) (r.to_units c.args.units.now) (r.to_units c.read_preamble.new.units) (r.to_units c.build_components.new.units) (r.to_units c.build_additions.new.units) c.in-Ok.ensures.done es.entries es.read (turned_false c.in-Ok.preamble.extended c.if-not-preamble.false) _ _ q.others (g.B.Build.listed c.args.room.now c.build_components.new.room c.in_ok-entries.entries) (g.B.Build.listed c.args.room.now c.build_additions.new.room c.build_additions.new.entries) es.of_entries (λ fs a plans. c.in_ok-build_additions.ensures.some refl c.args.room.now fs a plans) in
+    rw q.is (record { value = _; of_value = c.in_ok-part.ensures c.args.room.now all.0 all.1; read = all.2 })
 
 pub components::build_additions-returns-clause-some : goal.components::build_additions-returns-clause-some
-components::build_additions-returns-clause-some g t c some fs good plans =
+components::build_additions-returns-clause-some g t c some s fs good plans =
     let r = g.R.ReadLeaves.rules in
     let n : length c.args.parts.now ≡ length (demands fs) = plans_count c.args.nodes.now c.args.parts.now fs plans in
-    additions_read r (g.B.Build.listed c.args.entries.now) (g.B.Build.listed c.build_open_fields.new.entries) fs (length c.args.parts.now) c.in-Ok.bitmap (r.to_units c.args.units.now) (r.to_units c.read_addition_bitmap.new.units) (r.to_units c.build_open_fields.new.units) n c.in-Ok.ensures.done (c.build_open_fields.ensures.some some fs good plans n)
+    additions_read r (g.B.Build.listed s c.args.room.now c.args.entries.now) (g.B.Build.listed s c.build_open_fields.new.room c.build_open_fields.new.entries) fs (length c.args.parts.now) c.in-Ok.bitmap (r.to_units c.args.units.now) (r.to_units c.read_addition_bitmap.new.units) (r.to_units c.build_open_fields.new.units) n c.in-Ok.ensures.done (c.build_open_fields.ensures.some some s fs good plans n)
 
 pub components::build_open_fields-loop-part-init : goal.components::build_open_fields-loop-part-init
 components::build_open_fields-loop-part-init g t c =
-    (added_starts g.R.ReadLeaves.rules (g.B.Build.listed c.args.entries.now) c.args.nodes.now c.args.parts.now c.args.presence.left c.args.presence.bitmap (g.R.ReadLeaves.rules.to_units c.args.units.now) c.requires.few, refl, c.requires.at_unit)
+    (λ s. added_starts g.R.ReadLeaves.rules (g.B.Build.listed s c.args.room.now c.args.entries.now) c.args.nodes.now c.args.parts.now c.args.presence.left c.args.presence.bitmap (g.R.ReadLeaves.rules.to_units c.args.units.now) c.requires.few, refl, c.requires.at_unit, c.requires.few)
 
 pub components::build_open_fields-loop-part-preserved : goal.components::build_open_fields-loop-part-preserved
 components::build_open_fields-loop-part-preserved g t c =
     let h = rw (next_node c.args.parts.now c.loop-part.part-index c.part-item.result c.loop-part-test.true c.part-item.is) at c.loop-part.invariant.0 in
     let b = c.in_ok-build_addition.ensures in
-    (added_further (g.B.Build.listed c.build_addition.new.entries) c.build_addition.new.presence.left (g.R.ReadLeaves.rules.to_units c.build_addition.new.units) h (rw c.loop-part.invariant.1 at b.some refl), b.bitmap refl ∙ c.loop-part.invariant.1, b.at_unit refl)
+    (λ s. added_further (g.B.Build.listed s c.build_addition.new.room c.build_addition.new.entries) c.build_addition.new.presence.left (g.R.ReadLeaves.rules.to_units c.build_addition.new.units) (h s) (rw c.loop-part.invariant.1 at b.some refl s), b.bitmap refl ∙ c.loop-part.invariant.1, b.at_unit refl, omega (arith, c.loop-part.invariant.3, (b.some refl c.args.room.now).less))
 
 pub components::build_open_fields-returns-clause-some : goal.components::build_open_fields-returns-clause-some
-components::build_open_fields-returns-clause-some g t c some fs good plans width =
-    added_ends c.loop-part.invariant.0 (drop_all c.loop-part.part-index c.args.parts.now c.loop-part-test.false) fs good plans
+components::build_open_fields-returns-clause-some g t c some s fs good plans width =
+    added_ends (c.loop-part.invariant.0 s) (drop_all c.loop-part.part-index c.args.parts.now c.loop-part-test.false) fs good plans
 
 pub components::build_addition-returns-then-not-next-clause-some : goal.components::build_addition-returns-then-not-next-clause-some
-components::build_addition-returns-then-not-next-clause-some g t c some =
+components::build_addition-returns-then-not-next-clause-some g t c some s =
     let r = g.R.ReadLeaves.rules in
     let bit : 0 ≡ c.args.presence.now.bitmap / 2 ^ c.next.new.self.left % 2 = ap bit_of (sym c.if-not-next.true) ∙ c.next.ensures.bit.1 in
-    absent_addition r (g.B.Build.listed c.args.entries.now) (g.B.Build.listed c.absent.new.entries) c.args.nodes.now c.args.part.now c.args.presence.now.bitmap c.args.presence.now.left c.next.new.self.left (r.to_units c.args.units.now) (r.to_units c.args.units.now) c.next.ensures.bit.0 (λ es l. c.absent.ensures some es l) bit refl
+    absent_addition r (g.B.Build.listed s c.args.room.now c.args.entries.now) (g.B.Build.listed s c.absent.new.room c.absent.new.entries) c.args.nodes.now c.args.part.now c.args.presence.now.bitmap c.args.presence.now.left c.next.new.self.left (r.to_units c.args.units.now) (r.to_units c.args.units.now) c.next.ensures.bit.0 (λ es l. c.absent.ensures some s es l) bit refl
 
 pub components::build_addition-returns-clause-some : goal.components::build_addition-returns-clause-some
-components::build_addition-returns-clause-some g t c some =
+components::build_addition-returns-clause-some g t c some s =
     let r = g.R.ReadLeaves.rules in
     let bit : 1 ≡ c.args.presence.now.bitmap / 2 ^ c.next.new.self.left % 2 = ap bit_of (sym c.if-not-next.false) ∙ c.next.ensures.bit.1 in
-    present_addition r (g.B.Build.listed c.args.entries.now) (g.B.Build.listed c.present.new.entries) c.args.nodes.now c.args.part.now c.args.presence.now.bitmap c.args.presence.now.left c.next.new.self.left (r.to_units c.args.units.now) (r.to_units c.build_open.new.units) c.next.ensures.bit.0 (g.B.Build.built c.in_ok-value.value) (λ es d l q. c.present.ensures some es d l q) bit (λ s good p. (let b = c.in_ok-value.ensures.some s good p in (b.value, b.of_value, b.read)))
+    present_addition r (g.B.Build.listed s c.args.room.now c.args.entries.now) (g.B.Build.listed s c.present.new.room c.present.new.entries) c.args.nodes.now c.args.part.now c.args.presence.now.bitmap c.args.presence.now.left c.next.new.self.left (r.to_units c.args.units.now) (r.to_units c.build_open.new.units) c.next.ensures.bit.0 (g.B.Build.built c.args.room.now c.build_open.new.room c.in_ok-value.value) (λ es d l q. c.present.ensures some s c.args.room.now es d l q) bit (λ s good p. (let b = c.in_ok-value.ensures.some s good p in (b.value, b.of_value, b.read)))
 
 pub components::build_component-returns-in_ok-value-in-Optional-clause-some : goal.components::build_component-returns-in_ok-value-in-Optional-clause-some
-components::build_component-returns-in_ok-value-in-Optional-clause-some g t c some =
+components::build_component-returns-in_ok-value-in-Optional-clause-some g t c some s =
     let r = g.R.ReadLeaves.rules in
     let bit : 1 ≡ c.args.presence.now.bitmap / 2 ^ c.next.new.self.left % 2 = ap bit_of (sym c.if-not-next.false) ∙ c.next.ensures.bit.1 in
-    present_entry r (g.B.Build.listed c.args.entries.now) (g.B.Build.listed c.present-in-Optional.new.entries) c.args.nodes.now c.args.part.now c.args.presence.now.bitmap c.args.presence.now.left (r.to_units c.args.units.now) (r.to_units c.build_at-in-Optional.new.units) (g.B.Build.built c.in_ok-value-in-Optional.value) (λ es d l q. c.present-in-Optional.ensures some es d l q) c.next.new.self.left c.next.ensures.bit.0 c.in-Optional.is bit (λ s good p. (let b = c.in_ok-value-in-Optional.ensures.some s good p in (b.value, b.of_value, b.read)))
+    present_entry r (g.B.Build.listed s c.args.room.now c.args.entries.now) (g.B.Build.listed s c.present-in-Optional.new.room c.present-in-Optional.new.entries) c.args.nodes.now c.args.part.now c.args.presence.now.bitmap c.args.presence.now.left (r.to_units c.args.units.now) (r.to_units c.build_at-in-Optional.new.units) (g.B.Build.built c.args.room.now c.build_at-in-Optional.new.room c.in_ok-value-in-Optional.value) (λ es d l q. c.present-in-Optional.ensures some s c.args.room.now es d l q) c.next.new.self.left c.next.ensures.bit.0 c.in-Optional.is bit (λ s good p. (let b = c.in_ok-value-in-Optional.ensures.some s good p in (b.value, b.of_value, b.read)))
 
 pub components::build_component-returns-then-not-next-clause-some : goal.components::build_component-returns-then-not-next-clause-some
-components::build_component-returns-then-not-next-clause-some g t c some =
+components::build_component-returns-then-not-next-clause-some g t c some s =
     let r = g.R.ReadLeaves.rules in
     let bit : 0 ≡ c.args.presence.now.bitmap / 2 ^ c.next.new.self.left % 2 = ap bit_of (sym c.if-not-next.true) ∙ c.next.ensures.bit.1 in
-    absent_entry r (g.B.Build.listed c.args.entries.now) (g.B.Build.listed c.absent.new.entries) c.args.nodes.now c.args.part.now c.args.presence.now.bitmap c.args.presence.now.left (r.to_units c.args.units.now) (r.to_units c.args.units.now) (λ es l. c.absent.ensures some es l) c.next.new.self.left c.next.ensures.bit.0 c.in-Optional.is bit refl
+    absent_entry r (g.B.Build.listed s c.args.room.now c.args.entries.now) (g.B.Build.listed s c.absent.new.room c.absent.new.entries) c.args.nodes.now c.args.part.now c.args.presence.now.bitmap c.args.presence.now.left (r.to_units c.args.units.now) (r.to_units c.args.units.now) (λ es l. c.absent.ensures some s es l) c.next.new.self.left c.next.ensures.bit.0 c.in-Optional.is bit refl
 
 pub components::build_component-returns-in_ok-part-in-Default-clause-some : goal.components::build_component-returns-in_ok-part-in-Default-clause-some
-components::build_component-returns-in_ok-part-in-Default-clause-some g t c some =
+components::build_component-returns-in_ok-part-in-Default-clause-some g t c some s =
     let r = g.R.ReadLeaves.rules in
     let bit : 1 ≡ c.args.presence.now.bitmap / 2 ^ c.next-in-Default.new.self.left % 2 = ap bit_of (sym c.if-not-next-2.false) ∙ c.next-in-Default.ensures.bit.1 in
-    other_entry r (g.B.Build.listed c.args.entries.now) (g.B.Build.listed c.present-in-Default.new.entries) c.args.nodes.now c.args.part.now c.args.presence.now.bitmap c.args.presence.now.left (r.to_units c.args.units.now) (r.to_units c.read_other.new.units) (g.B.Build.built c.in_ok-part-in-Default.part) (λ es d l q. c.present-in-Default.ensures some es d l q) c.next-in-Default.new.self.left c.next-in-Default.ensures.bit.0 c.in-Default.with_default c.in-Default.is bit (datum_of c.in_ok-value-in-Default.value) c.in_ok-part-in-Default.ensures c.in_ok-value-in-Default.ensures.some
+    other_entry r (g.B.Build.listed s c.args.room.now c.args.entries.now) (g.B.Build.listed s c.present-in-Default.new.room c.present-in-Default.new.entries) c.args.nodes.now c.args.part.now c.args.presence.now.bitmap c.args.presence.now.left (r.to_units c.args.units.now) (r.to_units c.read_other.new.units) (g.B.Build.built c.args.room.now c.value-in-Default.new.room c.in_ok-part-in-Default.part) (λ es d l q. c.present-in-Default.ensures some s c.args.room.now es d l q) c.next-in-Default.new.self.left c.next-in-Default.ensures.bit.0 c.in-Default.with_default c.in-Default.is bit (datum_of c.in_ok-value-in-Default.value) c.in_ok-part-in-Default.ensures c.in_ok-value-in-Default.ensures.some
 
 pub components::build_component-returns-then-not-next-2-clause-some : goal.components::build_component-returns-then-not-next-2-clause-some
-components::build_component-returns-then-not-next-2-clause-some g t c some =
+components::build_component-returns-then-not-next-2-clause-some g t c some s =
     let r = g.R.ReadLeaves.rules in
     let bit : 0 ≡ c.args.presence.now.bitmap / 2 ^ c.next-in-Default.new.self.left % 2 = ap bit_of (sym c.if-not-next-2.true) ∙ c.next-in-Default.ensures.bit.1 in
-    default_entry r (g.B.Build.listed c.args.entries.now) (g.B.Build.listed c.present-then-not-next-2.new.entries) c.args.nodes.now c.args.part.now c.args.presence.now.bitmap c.args.presence.now.left (r.to_units c.args.units.now) (r.to_units c.args.units.now) (g.B.Build.built c.in_ok-absent-in-Default.absent) (λ es d l q. c.present-then-not-next-2.ensures some es d l q) c.next-in-Default.new.self.left c.next-in-Default.ensures.bit.0 c.in-Default.with_default c.in-Default.is bit (datum_of c.in_ok-default-in-Default.default) c.in_ok-absent-in-Default.ensures c.in_ok-default-in-Default.ensures refl
+    default_entry r (g.B.Build.listed s c.args.room.now c.args.entries.now) (g.B.Build.listed s c.present-then-not-next-2.new.room c.present-then-not-next-2.new.entries) c.args.nodes.now c.args.part.now c.args.presence.now.bitmap c.args.presence.now.left (r.to_units c.args.units.now) (r.to_units c.args.units.now) (g.B.Build.built c.args.room.now c.value.new.room c.in_ok-absent-in-Default.absent) (λ es d l q. c.present-then-not-next-2.ensures some s c.args.room.now es d l q) c.next-in-Default.new.self.left c.next-in-Default.ensures.bit.0 c.in-Default.with_default c.in-Default.is bit (datum_of c.in_ok-default-in-Default.default) c.in_ok-absent-in-Default.ensures c.in_ok-default-in-Default.ensures refl
 
 -- ---- SEQUENCE OF
 
 pub lists::build_elements-loop-i-init : goal.lists::build_elements-loop-i-init
 lists::build_elements-loop-i-init g t c =
     let r = g.R.ReadLeaves.rules in
-    (λ s good p. row_begins r (g.B.Build.rowed c.args.row.now) (Spelt r.code None s) (r.to_units c.args.units.now), c.requires.at_unit)
+    (λ s t good p. row_begins r (g.B.Build.rowed s c.args.room.now c.args.row.now) (Spelt r.code None t) (r.to_units c.args.units.now), c.requires.at_unit)
 
 pub lists::build_elements-loop-i-preserved : goal.lists::build_elements-loop-i-preserved
 lists::build_elements-loop-i-preserved g t c =
     let r = g.R.ReadLeaves.rules in
-    (λ s good p. (let b = c.in_ok-value.ensures.some s good p in row_further r (g.B.Build.rowed c.args.row.now) (g.B.Build.rowed c.loop-i.row) (g.B.Build.rowed c.element.new.row) (g.B.Build.built c.in_ok-value.value) (Spelt r.code None s) c.loop-i.i (r.to_units c.args.units.now) (r.to_units c.loop-i.units) (r.to_units c.build_at.new.units) (λ ds d m q. c.in_ok-element.ensures refl ds d m q) (c.loop-i.invariant.0 s good p) b.value b.of_value b.read), c.in_ok-value.ensures.at_unit refl)
+    (λ s t good p. (let b = c.in_ok-value.ensures.some t good p in row_further r (g.B.Build.rowed s c.args.room.now c.args.row.now) (g.B.Build.rowed s c.loop-i.room c.loop-i.row) (g.B.Build.rowed s c.element.new.room c.element.new.row) (g.B.Build.built c.loop-i.room c.build_at.new.room c.in_ok-value.value) (Spelt r.code None t) c.loop-i.i (r.to_units c.args.units.now) (r.to_units c.loop-i.units) (r.to_units c.build_at.new.units) (λ ds d m q. c.in_ok-element.ensures refl s c.loop-i.room ds d m q) (c.loop-i.invariant.0 s t good p) b.value b.of_value b.read), c.in_ok-value.ensures.at_unit refl)
 
 pub lists::build_elements-returns-clause-some : goal.lists::build_elements-returns-clause-some
-lists::build_elements-returns-clause-some g t c some s good p =
+lists::build_elements-returns-clause-some g t c some s x good p =
     let all : c.loop-i.i ≡ c.args.count = omega (arith, c.loop-i-test.false, c.loop-i.auto.i-end) in
-    rw all at (c.loop-i.invariant.0 s good p)
+    rw all at (c.loop-i.invariant.0 s x good p)
 
 pub lists::build_fragments-loop-i-init : goal.lists::build_fragments-loop-i-init
 lists::build_fragments-loop-i-init g t c =
     let r = g.R.ReadLeaves.rules in
-    (λ s good p. listed_starts r (g.B.Build.rowed c.elements-row.result) s (g.R.ReadLeaves.ahead c.args.fragments) (r.to_units c.args.units.now) c.elements-row.ensures, c.requires.between, c.requires.at_unit)
+    (λ s good p. listed_starts r (g.B.Build.rowed c.args.room.now c.elements.new.room c.in_ok-row.row) s (g.R.ReadLeaves.ahead c.args.fragments) (r.to_units c.args.units.now) c.in_ok-row.ensures, c.requires.between, c.requires.at_unit)
 
 pub lists::build_fragments-loop-i-preserved : goal.lists::build_fragments-loop-i-preserved
 lists::build_fragments-loop-i-preserved g t c =
     let r = g.R.ReadLeaves.rules in
     let a = g.R.ReadLeaves.ahead in
     let next : Next r.ruling.fielding (a c.loop-i.fragments) (Some c.in-Some.count) (a c.next_fragment.new.fragments) (r.to_units c.loop-i.units) (r.to_units c.next_fragment.new.units) = rw c.in-Some.is at c.in-Ok.ensures.done in
-    (λ s good p. listed_further r c.keep_laws.ensures (g.B.Build.rowed c.loop-i.row) (g.B.Build.rowed c.build_elements.new.row) s good (a c.args.fragments) (a c.loop-i.fragments) (a c.next_fragment.new.fragments) c.in-Some.count (r.to_units c.args.units.now) (r.to_units c.loop-i.units) (r.to_units c.next_fragment.new.units) (r.to_units c.build_elements.new.units) next (c.in_ok-build_elements.ensures.some refl s good p) (c.loop-i.invariant.0 s good p), c.in-Ok.ensures.between, c.in_ok-build_elements.ensures.at_unit refl)
+    (λ s good p. listed_further r c.keep_laws.ensures (g.B.Build.rowed c.args.room.now c.loop-i.room c.loop-i.row) (g.B.Build.rowed c.args.room.now c.build_elements.new.room c.build_elements.new.row) s good (a c.args.fragments) (a c.loop-i.fragments) (a c.next_fragment.new.fragments) c.in-Some.count (r.to_units c.args.units.now) (r.to_units c.loop-i.units) (r.to_units c.next_fragment.new.units) (r.to_units c.build_elements.new.units) next (c.in_ok-build_elements.ensures.some refl c.args.room.now s good p) (c.loop-i.invariant.0 s good p), c.in-Ok.ensures.between, c.in_ok-build_elements.ensures.at_unit refl)
 
 pub lists::build_fragments-returns-in_default-next-clause-some : goal.lists::build_fragments-returns-in_default-next-clause-some
 lists::build_fragments-returns-in_default-next-clause-some g t c s good p =
@@ -189,12 +189,12 @@ lists::build_list-returns-clause-some g t c s good p =
     let q = list_is c.args.nodes.now s l c.index-nodes-list.result (omega (arith, c.if-list-nodes.false)) c.index-nodes-list.is p in
     let inside : InProfile (sequence_of q.element (size_range_of l.size)) = rw q.is at good in
     let es = c.in_ok-row.ensures.some q.element (element_of_profile q.element (size_range_of l.size) inside) q.plan in
-    rw q.is (record { value = _; of_value = c.list.ensures es.value es.of_value; read = list_read r c.keep_laws.ensures q.element (size_range_of l.size) inside l.of_profile (g.R.ReadLeaves.ahead c.in-Ok.fragments) (r.to_units c.args.units.now) (r.to_units c.start_list.new.units) (r.to_units c.build_fragments.new.units) c.in-Ok.ensures.done es.value es.read })
+    rw q.is (record { value = _; of_value = c.in_ok-part.ensures c.args.room.now es.value es.of_value; read = list_read r c.keep_laws.ensures q.element (size_range_of l.size) inside l.of_profile (g.R.ReadLeaves.ahead c.in-Ok.fragments) (r.to_units c.args.units.now) (r.to_units c.start_list.new.units) (r.to_units c.build_fragments.new.units) c.in-Ok.ensures.done es.value es.read })
 
 -- ---- CHOICE
 
-pub choices::build_choice-returns-in_ok-chosen-in-Root-clause-some : goal.choices::build_choice-returns-in_ok-chosen-in-Root-clause-some
-choices::build_choice-returns-in_ok-chosen-in-Root-clause-some g t c s good p =
+pub choices::build_choice-returns-in_ok-whole-in-Root-clause-some : goal.choices::build_choice-returns-in_ok-whole-in-Root-clause-some
+choices::build_choice-returns-in_ok-whole-in-Root-clause-some g t c s good p =
     let r = g.R.ReadLeaves.rules in
     let q = choice_is c.args.nodes.now s c.args.parts.now p in
     let inside : InProfile (choice q.root q.more) = rw q.is at good in
@@ -203,17 +203,17 @@ choices::build_choice-returns-in_ok-chosen-in-Root-clause-some g t c s good p =
     let a = alternative_at r.ruling.fielding (λ t. Spelt r.code None t) _ _ q.root i x q.plans (root_good q.root q.more inside) (omega (arith, c.if-place-root.false)) in
     let b = c.in_ok-part-in-Root.ensures.some a.shape a.good a.plan in
     let told : Spells r.ruling.fielding (IndexOf r _ c.args.parts.now.additions) (inl i) (r.to_units c.args.units.now) (r.to_units c.read_index.new.units) = rw c.in-Root.is at c.in-Ok.ensures.done in
-    rw q.is (record { value = alternative i b.value; of_value = c.in_ok-chosen-in-Root.ensures b.value b.of_value; read = root_read r c.keep_laws.ensures q.root q.more inside _ c.args.parts.now.additions (each_count _ _ q.root q.plans) q.additions i (r.to_units c.args.units.now) (r.to_units c.read_index.new.units) (r.to_units c.build_at.new.units) told b.value (a.on b.value _ _ b.read) })
+    rw q.is (record { value = alternative i b.value; of_value = c.in_ok-whole-in-Root.ensures c.args.room.now c.choosing.new.room b.value c.in_ok-chosen-in-Root.ensures b.of_value; read = root_read r c.keep_laws.ensures q.root q.more inside _ c.args.parts.now.additions (each_count _ _ q.root q.plans) q.additions i (r.to_units c.args.units.now) (r.to_units c.read_index.new.units) (r.to_units c.build_at.new.units) told b.value (a.on b.value _ _ b.read) })
 
-pub choices::build_choice-returns-in_ok-chosen-in-Added-clause-some : goal.choices::build_choice-returns-in_ok-chosen-in-Added-clause-some
-choices::build_choice-returns-in_ok-chosen-in-Added-clause-some g t c s good p =
+pub choices::build_choice-returns-in_ok-whole-in-Added-clause-some : goal.choices::build_choice-returns-in_ok-whole-in-Added-clause-some
+choices::build_choice-returns-in_ok-whole-in-Added-clause-some g t c s good p =
     let r = g.R.ReadLeaves.rules in
     let q = choice_is c.args.nodes.now s c.args.parts.now p in
     let inside : InProfile (choice q.root q.more) = rw q.is at good in
     let i = c.in-Added.place in
     let told : Spells r.ruling.fielding (IndexOf r _ c.args.parts.now.additions) (inr i) (r.to_units c.args.units.now) (r.to_units c.read_index.new.units) = rw c.in-Added.is at c.in-Ok.ensures.done in
-    let a = added_read r c.keep_laws.ensures q.root q.more inside _ c.args.parts.now.additions (each_count _ _ q.root q.plans) q.additions i (r.to_units c.args.units.now) (r.to_units c.read_index.new.units) (r.to_units c.build_open.new.units) told _ _ q.others c.index-added-place.result (omega (arith, c.if-place-added.false)) (g.B.Build.built c.in_ok-part-in-Added.part) (λ t good p. (let b = c.in_ok-part-in-Added.ensures.some t good p in (b.value, b.of_value, b.read))) in
-    rw q.is (record { value = _; of_value = c.in_ok-chosen-in-Added.ensures a.0 a.1; read = a.2 })
+    let a = added_read r c.keep_laws.ensures q.root q.more inside _ c.args.parts.now.additions (each_count _ _ q.root q.plans) q.additions i (r.to_units c.args.units.now) (r.to_units c.read_index.new.units) (r.to_units c.build_open.new.units) told _ _ q.others c.index-added-place.result (omega (arith, c.if-place-added.false)) (g.B.Build.built c.choosing-in-Added.new.room c.build_open.new.room c.in_ok-part-in-Added.part) (λ t good p. (let b = c.in_ok-part-in-Added.ensures.some t good p in (b.value, b.of_value, b.read))) in
+    rw q.is (record { value = _; of_value = c.in_ok-whole-in-Added.ensures c.args.room.now c.choosing-in-Added.new.room a.0 c.in_ok-chosen-in-Added.ensures a.1; read = a.2 })
 
 -- ---- complete encodings and open type fields
 

@@ -1,4 +1,4 @@
-use Rattle.std.proofs.Common.{◌≡◌, ◌+◌, ◌*◌, length, drop}
+use Rattle.std.proofs.Common.{◌≡◌, ◌≤◌, ◌+◌, ◌*◌, length, drop}
 use Rattle.asn_values.specs.Profile.{InProfile}
 use Rattle.asn_values.specs.Shape.{Shape}
 use Rattle.asn_rules.specs.Languages.{Row}
@@ -23,7 +23,7 @@ decreases-components::build_sequence g l = 8 * length l.nodes.now
 
 abbrev pub invariant-components::build_components-loop-part : goal.invariant-components::build_components-loop-part
 invariant-components::build_components-loop-part g l =
-    BuiltUpTo g.R.ReadLeaves.rules (g.B.Build.listed l.entries) l.nodes l.parts (drop l.part-index l.parts) l.fn.presence.left l.fn.presence.bitmap l.presence.left (g.R.ReadLeaves.rules.to_units l.fn.units) (g.R.ReadLeaves.rules.to_units l.units)
+    BuiltUpTo g.R.ReadLeaves.rules (g.B.Build.listed l.fn.room l.room l.entries) l.nodes l.parts (drop l.part-index l.parts) l.fn.presence.left l.fn.presence.bitmap l.presence.left (g.R.ReadLeaves.rules.to_units l.fn.units) (g.R.ReadLeaves.rules.to_units l.units)
     × (l.presence.bitmap ≡ l.fn.presence.bitmap) × g.R.ReadLeaves.rules.at_unit l.units
 
 abbrev pub decreases-lists::build_list : goal.decreases-lists::build_list
@@ -37,12 +37,12 @@ decreases-lists::build_elements g l = 8 * length l.nodes.now + 2
 
 abbrev pub invariant-lists::build_elements-loop-i : goal.invariant-lists::build_elements-loop-i
 invariant-lists::build_elements-loop-i g l =
-    ((t : Shape) → InProfile t → IsPlan l.nodes t l.kind → BuildsRow g.R.ReadLeaves.rules (g.B.Build.rowed l.fn.row) (g.B.Build.rowed l.row) (Row (ValuesOf g.R.ReadLeaves.rules t) l.i) (g.R.ReadLeaves.rules.to_units l.fn.units) (g.R.ReadLeaves.rules.to_units l.units))
+    ((s : _) (t : Shape) → InProfile t → IsPlan l.nodes t l.kind → BuildsRow g.R.ReadLeaves.rules (g.B.Build.rowed s l.fn.room l.fn.row) (g.B.Build.rowed s l.room l.row) (Row (ValuesOf g.R.ReadLeaves.rules t) l.i) (g.R.ReadLeaves.rules.to_units l.fn.units) (g.R.ReadLeaves.rules.to_units l.units))
     × g.R.ReadLeaves.rules.at_unit l.units
 
 abbrev pub invariant-lists::build_fragments-loop-i : goal.invariant-lists::build_fragments-loop-i
 invariant-lists::build_fragments-loop-i g l =
-    ((t : Shape) → InProfile t → IsPlan l.nodes t l.kind → ListedUpTo g.R.ReadLeaves.rules (g.B.Build.rowed l.row) t (g.R.ReadLeaves.ahead l.fn.fragments) (g.R.ReadLeaves.rules.to_units l.fn.units) (g.R.ReadLeaves.ahead l.fragments) (g.R.ReadLeaves.rules.to_units l.units))
+    ((t : Shape) → InProfile t → IsPlan l.nodes t l.kind → ListedUpTo g.R.ReadLeaves.rules (g.B.Build.rowed l.fn.room l.room l.row) t (g.R.ReadLeaves.ahead l.fn.fragments) (g.R.ReadLeaves.rules.to_units l.fn.units) (g.R.ReadLeaves.ahead l.fragments) (g.R.ReadLeaves.rules.to_units l.units))
     × g.R.ReadLeaves.is_between l.fragments × g.R.ReadLeaves.rules.at_unit l.units
 
 abbrev pub decreases-choices::build_choice : goal.decreases-choices::build_choice
@@ -65,5 +65,5 @@ decreases-components::build_additions g l = 8 * length l.nodes.now + 6
 
 abbrev pub invariant-components::build_open_fields-loop-part : goal.invariant-components::build_open_fields-loop-part
 invariant-components::build_open_fields-loop-part g l =
-    AddedUpTo g.R.ReadLeaves.rules (g.B.Build.listed l.fn.entries) (g.B.Build.listed l.entries) l.nodes l.parts (drop l.part-index l.parts) l.fn.presence.left l.fn.presence.bitmap l.presence.left (g.R.ReadLeaves.rules.to_units l.fn.units) (g.R.ReadLeaves.rules.to_units l.units)
-    × (l.presence.bitmap ≡ l.fn.presence.bitmap) × g.R.ReadLeaves.rules.at_unit l.units
+    ((s : _) → AddedUpTo g.R.ReadLeaves.rules (g.B.Build.listed s l.fn.room l.fn.entries) (g.B.Build.listed s l.room l.entries) l.nodes l.parts (drop l.part-index l.parts) l.fn.presence.left l.fn.presence.bitmap l.presence.left (g.R.ReadLeaves.rules.to_units l.fn.units) (g.R.ReadLeaves.rules.to_units l.units))
+    × (l.presence.bitmap ≡ l.fn.presence.bitmap) × g.R.ReadLeaves.rules.at_unit l.units × (l.presence.left ≤ 64)

@@ -4,4 +4,4 @@ use Rattle.asn_plan.specs.Plans.{absents}
 use Rattle.asn_plan.proofs.components.add_absent.Given as goal
 
 abbrev pub invariant-loop : goal.invariant-loop
-invariant-loop g l = (es : List (Option Datum)) → g.B.Build.listed l.fn.entries es → g.B.Build.listed l.entries (es ++ absents l.index)
+invariant-loop g l = (s : _) (es : List (Option Datum)) → g.B.Build.listed s l.fn.room l.fn.entries es → g.B.Build.listed s l.room l.entries (es ++ absents l.index)

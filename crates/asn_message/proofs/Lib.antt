@@ -1,0 +1,5 @@
+pub mod Filled
+pub mod Restored
+pub mod Passing
+pub mod ViewParts
+pub mod RowSteps

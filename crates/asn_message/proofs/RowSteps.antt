@@ -1,0 +1,41 @@
+-- Slots that are passed, one value after the other.
+use Rattle.std.proofs.Common.{◌≡◌, ◌<◌, ◌≤◌, ℕ, zero, suc, List, [], ◌∷◌, ◌++◌, length, drop, Option, Some, refl, sym, subst, arith}
+use Rattle.asn_values.specs.Datum.{Datum}
+use Rattle.asn_message.specs.declared.slots.Slot.{Slot}
+use Rattle.asn_message.specs.Slots.{entries_after, entries_from, entries_in, entries_inside, value_in, AreNested, IsCounted}
+
+nested_drop : (os : List ℕ) (ss : List Slot) (n : ℕ) → AreNested os [] ss → AreNested os [] (drop n ss)
+nested_drop os ss zero h = h
+nested_drop os [] (suc n) h = tt
+nested_drop os (s ∷ ss) (suc n) h = nested_drop os ss n h.1.1.1
+
+-- what is said of the slots after the first one
+pub inside_nested : (os : List ℕ) (ss : List Slot) (x : Slot) (xs : List Slot) → ss ≡ x ∷ xs → AreNested os [] ss
+    → AreNested os [] xs
+inside_nested os ss x xs e h = (subst (λ (l : List Slot). AreNested os [] l) e h).1.1.1
+
+pub inside_few : (os : List ℕ) (ss : List Slot) (x : Slot) (xs : List Slot) → ss ≡ x ∷ xs → AreNested os [] ss
+    → x.inside ≤ length xs
+inside_few os ss x xs e h = (subst (λ (l : List Slot). AreNested os [] l) e h).0
+
+pub inside_counted : (os : List ℕ) (ss : List Slot) (x : Slot) (xs : List Slot) → ss ≡ x ∷ xs → AreNested os [] ss
+    → IsCounted x.content (entries_in os (drop 1 ss) [])
+inside_counted os ss x xs e h = rw e ((subst (λ (l : List Slot). AreNested os [] l) e h).1.1.0)
+
+-- and of those after the first value
+pub after_nested : (os : List ℕ) (ss : List Slot) (x : Slot) (xs : List Slot) → ss ≡ x ∷ xs → AreNested os [] ss
+    → AreNested os [] (drop x.inside xs)
+after_nested os ss x xs e h = nested_drop os xs x.inside (inside_nested os ss x xs e h)
+
+pub after_entries : (os : List ℕ) (ss : List Slot) (x : Slot) (xs : List Slot) → ss ≡ x ∷ xs → AreNested os [] ss
+    → entries_in os (drop x.inside xs) [] ≡ entries_after os ss
+after_entries os ss x xs e h = rw e (sym (subst (λ (l : List Slot). AreNested os [] l) e h).1.0)
+
+-- the entries begin with the first value
+pub first_entry_from : (os : List ℕ) (ss : List Slot) → 0 < length ss → entries_from os ss ≡ Some (value_in os ss) ∷ entries_after os ss
+first_entry_from os [] h = absurd (omega arith)
+first_entry_from os (s ∷ ss) h = refl
+
+pub no_entry_from : (os : List ℕ) (ss : List Slot) → length ss ≡ 0 → entries_from os ss ≡ []
+no_entry_from os [] h = refl
+no_entry_from os (s ∷ ss) h = absurd (omega arith)

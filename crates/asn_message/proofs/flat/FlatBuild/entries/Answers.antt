@@ -1,0 +1,9 @@
+use Rattle.std.proofs.Common.{refl}
+use Rattle.asn_message.specs.declared.slots.Content.TheVariants as content
+use Rattle.asn_message.proofs.Filled.{no_entries}
+use Rattle.asn_message.proofs.flat.FlatBuild.entries.Goals as goal
+
+pub returns : goal.returns
+returns c =
+    let p = c.in_ok-at.ensures in
+    no_entries c.args.room.now c.push.new.self _ content.Null p.octets p.slots p.at refl refl

@@ -1,0 +1,58 @@
+-- What is built in slots: it stands after what was there, and nothing that was there is changed.
+use Rattle.std.specs.Prelude.{◌≡◌, ℕ, List, [], ◌∷◌, ◌++◌, length, map, Option, Some}
+use Rattle.asn_values.specs.Datum.{Datum}
+use Rattle.asn_plan.specs.Plans.{absents}
+use Rattle.asn_message.specs.declared.flat.Elements.{Elements}
+use Rattle.asn_message.specs.declared.flat.Entries.{Entries}
+use Rattle.asn_message.specs.declared.slots.Room.{Room}
+use Rattle.asn_message.specs.declared.slots.Slot.{Slot}
+use Rattle.asn_message.specs.Slots.{entries_in, AreNested}
+
+-- these entries stand in the slots, whatever octets and slots come after
+abbrev pub Stand : List ℕ → List Slot → List (Option Datum) → Type 0
+Stand os ss es = (more : List ℕ) (fs : List (Option Datum)) → entries_in (os ++ more) ss fs ≡ es ++ fs
+
+-- and each tells how many slots are inside it
+abbrev pub Nest : List ℕ → List Slot → Type 0
+Nest os ss = (more : List ℕ) (fs : List (Option Datum)) → AreNested (os ++ more) fs ss
+
+-- octets were added
+abbrev pub Grows : Room → Room → Type 0
+Grows r s = (more : List ℕ) × (s.octets.items ≡ r.octets.items ++ more)
+
+-- a value was put into slots, of which the first one is here
+pub record IsPut (r s : Room) (at : ℕ) (d : Datum) : Type 0 where
+  pub grows : Grows r s
+  pub first : Slot
+  pub inside : List Slot
+  pub slots : s.slots.items ≡ r.slots.items ++ first ∷ inside
+  pub here : at ≡ length r.slots.items
+  pub alone : first.absent_before ≡ 0
+  pub stand : Stand s.octets.items (first ∷ inside) (Some d ∷ [])
+  pub nest : Nest s.octets.items (first ∷ inside)
+
+-- values were put after a slot that is for what they are inside of; `es` stand in their slots
+pub record AreInside (r s : Room) (at : ℕ) (es : List (Option Datum)) : Type 0 where
+  pub grows : Grows r s
+  pub first : Slot
+  pub inside : List Slot
+  pub slots : s.slots.items ≡ r.slots.items ++ first ∷ inside
+  pub here : at ≡ length r.slots.items
+  pub stand : Stand s.octets.items inside es
+  pub nest : Nest s.octets.items inside
+
+-- these entries of a SEQUENCE
+pub record AreEntries (r s : Room) (e : Entries) (es : List (Option Datum)) : Type 0 where
+  pub first : List (Option Datum)
+  pub inside : AreInside r s e.at first
+  pub count : e.taken ≡ length first
+  pub all : es ≡ first ++ absents e.absent
+
+-- these elements of a SEQUENCE OF
+pub record AreElements (r s : Room) (e : Elements) (ds : List Datum) : Type 0 where
+  pub inside : AreInside r s e.at (map (λ d. Some d) ds)
+  pub count : e.count ≡ length ds
+
+-- the slot of a CHOICE, whose alternative is not there yet
+abbrev pub IsBegun : Room → Room → ℕ → ℕ → Type 0
+IsBegun r s at place = AreInside r s at []

@@ -1,0 +1,215 @@
+//! A builder that puts values into slots.
+ghost use Rattle.std.specs.Prelude.{◌≡◌, ◌++◌, ℕ, List, Option, IfSome};
+ghost use Rattle.asn_values.specs.Datum.{Datum};
+ghost use Rattle.asn_values.specs.View.{datum_of};
+ghost use Rattle.asn_message.specs.declared.slots.Room.{Room};
+ghost use Rattle.asn_message.specs.Building.{IsPut, AreEntries, AreElements, IsBegun, Grows};
+ghost use Rattle.asn_message.specs.Slots.{entries_inside, value_at};
+
+use crate::slots::{Content, Room, Slot};
+use asn_plan::Build;
+use asn_values::Value;
+use std::alloc::Global;
+
+/// Puts values into slots.
+pub struct Flat;
+
+/// A SEQUENCE whose entries are not all there.
+#[derive(Debug, Drop)]
+pub struct Entries {
+    /// Where its slot is.
+    pub(crate) at: usize,
+    /// How many entries there are up to the last one that is present.
+    pub(crate) taken: u32,
+    /// How many there are after it.
+    pub(crate) absent: u32,
+}
+
+/// A SEQUENCE OF whose elements are not all there.
+#[derive(Debug, Drop)]
+pub struct Elements {
+    /// Where its slot is.
+    pub(crate) at: usize,
+    /// How many elements there are.
+    pub(crate) count: u32,
+}
+
+impl Build for Flat {
+    type Room = Room;
+
+    type Part = usize;
+
+    type Entries = Entries;
+
+    type Elements = Elements;
+
+    type Chosen = usize;
+
+    ghost built = { IsPut };
+
+    ghost listed = { AreEntries };
+
+    ghost rowed = { AreElements };
+
+    ghost opened = { IsBegun };
+
+    #[inline(always)]
+    fn number(room: &mut Room, integer: i128) -> Option<usize> {
+        let at = put_slot(room, Content::Number(integer as i64))?;
+        Some(at)
+    }
+
+    #[inline(always)]
+    fn value(room: &mut Room, value: Value) -> Option<usize> {
+        put_alone(room, &value)
+    }
+
+    #[inline(always)]
+    fn entries(_alloc: Global, room: &mut Room, _count: usize) -> Option<Entries> {
+        let at = room.push(Content::Null)?;
+        Some(Entries {
+            at,
+            taken: 0,
+            absent: 0,
+        })
+    }
+
+    #[inline(always)]
+    fn absent(_room: &mut Room, entries: &mut Entries) -> Option<()> {
+        let absent = entries.absent.checked_add(1)?;
+        *entries = Entries {
+            at: entries.at,
+            taken: entries.taken,
+            absent,
+        };
+        Some(())
+    }
+
+    #[inline(always)]
+    fn present(room: &mut Room, entries: &mut Entries, part: usize) -> Option<()> {
+        if part >= room.slots.len() {
+            return None;
+        }
+        let before = entries.taken.checked_add(entries.absent)?;
+        let taken = before.checked_add(1)?;
+        let slot = room.slots[part];
+        let slot = Slot {
+            content: slot.content,
+            absent_before: entries.absent,
+            inside: slot.inside,
+        };
+        room.replace(part, slot)?;
+        *entries = Entries {
+            at: entries.at,
+            taken,
+            absent: 0,
+        };
+        Some(())
+    }
+
+    #[inline(always)]
+    fn sequence(room: &mut Room, entries: Entries) -> Option<usize> {
+        let content = Content::Sequence {
+            taken: entries.taken,
+            absent: entries.absent,
+        };
+        let part = room.close(entries.at, content)?;
+        Some(part)
+    }
+
+    #[inline(always)]
+    fn elements(_alloc: Global, room: &mut Room) -> Option<Elements> {
+        let at = room.push(Content::Null)?;
+        Some(Elements { at, count: 0 })
+    }
+
+    #[inline(always)]
+    fn element(_room: &mut Room, row: &mut Elements, _part: usize) -> Option<()> {
+        let count = row.count.checked_add(1)?;
+        *row = Elements { at: row.at, count };
+        Some(())
+    }
+
+    #[inline(always)]
+    fn list(room: &mut Room, row: Elements) -> Option<usize> {
+        let part = room.close(row.at, Content::List(row.count))?;
+        Some(part)
+    }
+
+    #[inline(always)]
+    fn choosing(room: &mut Room, _place: usize) -> Option<usize> {
+        let chosen = room.push(Content::Null)?;
+        Some(chosen)
+    }
+
+    #[inline(always)]
+    fn choice(
+        _alloc: Global,
+        room: &mut Room,
+        chosen: usize,
+        place: usize,
+        _part: usize,
+    ) -> Option<usize> {
+        let part = room.close(chosen, Content::Choice(place as u32))?;
+        Some(part)
+    }
+}
+
+/// Puts a value into a slot that has no others inside it.
+#[inline(always)]
+fn put_slot(room: &mut Room, content: Content) -> Option<usize>
+    ensures { IfSome result (λ at. (r : Room) (d : Datum) → Grows r room.old → room.old.slots ≡ r.slots
+        → entries_inside content ≡ 0
+        → ((more : List ℕ) (es : List (Option Datum)) → value_at (room.old.octets.items ++ more) content es ≡ d)
+        → IsPut r room.new at d) }
+{
+    let at = room.push(content)?;
+    Some(at)
+}
+
+/// Puts a value without parts into a slot.
+#[inline(always)]
+pub(crate) fn put_alone(room: &mut Room, value: &Value) -> Option<usize>
+    ensures { IfSome result (λ at. IsPut room.old room.new at (datum_of value.now)) }
+{
+    match value {
+        Value::Bool(truth) => {
+            let at = put_slot(room, Content::Truth(*truth))?;
+            Some(at)
+        }
+        Value::Null => {
+            let at = put_slot(room, Content::Null)?;
+            Some(at)
+        }
+        Value::Int(number) => {
+            let number = i64::try_from(*number).ok()?;
+            let at = put_slot(room, Content::Number(number))?;
+            Some(at)
+        }
+        Value::Enum(index) => {
+            let at = put_slot(room, Content::Item(*index))?;
+            Some(at)
+        }
+        Value::Bits(bits) => {
+            let span = room.push_bits(bits)?;
+            let at = put_slot(room, Content::Bits(span))?;
+            Some(at)
+        }
+        Value::Octets(octets) => {
+            let span = room.push_octets(octets)?;
+            let at = put_slot(room, Content::Octets(span))?;
+            Some(at)
+        }
+        Value::Text(codes) => {
+            let span = room.push_octets(codes)?;
+            let at = put_slot(room, Content::Text(span))?;
+            Some(at)
+        }
+        Value::Utf8(text) => {
+            let span = room.push_octets(text.as_bytes())?;
+            let at = put_slot(room, Content::Utf8(span))?;
+            Some(at)
+        }
+        _ => None,
+    }
+}

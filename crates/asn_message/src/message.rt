@@ -1,0 +1,148 @@
+//! A value in slots.
+ghost use Rattle.std.specs.Prelude.{[]};
+ghost use Rattle.asn_message.specs.Slots.{AreNested};
+ghost use Rattle.asn_message.specs.DataSets.{nested_prop};
+
+use crate::flat::Flat;
+use crate::place::Place;
+use crate::restoring::value_of;
+use crate::row::Row;
+use crate::slots::Room;
+use crate::values::put;
+use crate::view::MessageView;
+use asn_plan::{PlanRules, Planned};
+use asn_rules::DecodeFault;
+use asn_values::{Checked, Value};
+use std::alloc::{AllocError, Global};
+use std::mem;
+
+/// A value in one vector of slots, and the octets of its strings in another. It is used again for the next message, in
+/// the same memory.
+#[derive(Drop)]
+pub struct Message {
+    room: Room,
+    ghost nested: { AreNested room.octets.items [] room.slots.items } by { nested_prop room.octets.items [] room.slots.items },
+}
+
+impl Message {
+    ghost use Rattle.std.specs.Prelude.{◌≡◌, ◌≤◌, length, true, false, IfOk, IsNone, IsSome, OnErr};
+    ghost use Rattle.asn_values.specs.Datum.{nothing};
+    ghost use Rattle.asn_values.specs.View.{datum_of, shape_of};
+    ghost use Rattle.asn_view.specs.Typed.{typed};
+    ghost use Rattle.asn_rules.specs.Answer.{IsEncoding, max_octets};
+    ghost use Rattle.asn_message.specs.Decoding.{DecodedAs};
+    ghost use Rattle.asn_message.specs.Seen.{value_seen};
+    ghost use Rattle.asn_message.specs.Views.{seen};
+
+    /// NULL.
+    pub fn new(alloc: Global) -> Message
+        ensures { value_seen result ≡ nothing }
+    {
+        Message {
+            room: Room::new(alloc),
+        }
+    }
+
+    /// Takes the memory for the next value, and leaves NULL.
+    fn take_room(&mut self) -> Room
+        ensures slots { result.slots.items ≡ [] }
+        ensures octets { result.octets.items ≡ [] }
+        ensures left { value_seen self.new ≡ nothing }
+    {
+        let alloc = *self.room.slots.allocator();
+        let Message { mut room } = mem::replace(self, Message::new(alloc));
+        room.clear();
+        room
+    }
+
+    /// Becomes the value of the type whose complete encoding by the rules R the octets are.
+    ///
+    /// # Errors
+    /// As `asn_rules::decode`. It is NULL then.
+    pub fn decode<R: PlanRules>(
+        &mut self,
+        alloc: Global,
+        planned: &Planned,
+        octets: &[u8],
+    ) -> Result<(), DecodeFault>
+        ensures told { DecodedAs R.ruling result (value_seen self.new) (shape_of planned.now) octets.now }
+        ensures fault { OnErr result (value_seen self.new ≡ nothing) }
+    {
+        if self.build::<R>(alloc, planned, octets) {
+            return Ok(());
+        }
+        let value = R::decode(alloc, planned.get(), octets)?;
+        match self.set(&value) {
+            Some(()) => Ok(()),
+            None => Err(DecodeFault::Memory),
+        }
+    }
+
+    /// Becomes the value that is built by the plan. Where the walk of the plan gives up, it is NULL.
+    fn build<R: PlanRules>(&mut self, alloc: Global, planned: &Planned, octets: &[u8]) -> bool
+        ensures within { result ≡ true → length octets.now ≤ max_octets }
+        ensures value { result ≡ true → IsEncoding R.ruling (shape_of planned.now) (value_seen self.new) octets.now }
+        ensures none { result ≡ false → value_seen self.new ≡ nothing }
+    {
+        let mut room = self.take_room();
+        match planned.build::<R, Flat>(alloc, octets, &mut room) {
+            Some(at) => {
+                *self = Message { room };
+                true
+            }
+            None => {
+                room.clear();
+                *self = Message { room };
+                false
+            }
+        }
+    }
+
+    /// Becomes this value. `None` where memory is wanting, and of a value that fits no type: it is NULL then.
+    pub fn set(&mut self, value: &Value) -> Option<()>
+        ensures set { IsSome result → value_seen self.new ≡ datum_of value.now }
+        ensures none { IsNone result → value_seen self.new ≡ nothing }
+    {
+        let mut room = self.take_room();
+        match put(&mut room, value) {
+            Some(at) => {
+                *self = Message { room };
+                Some(())
+            }
+            None => {
+                room.clear();
+                *self = Message { room };
+                None
+            }
+        }
+    }
+
+    /// The value as a tree.
+    ///
+    /// # Errors
+    /// `AllocError` where an allocation failed.
+    pub fn to_value(&self, alloc: Global) -> Result<Value, AllocError>
+        ensures { IfOk result (λ v. datum_of v ≡ value_seen self.now) }
+    {
+        value_of(
+            alloc,
+            self.room.slots.as_slice(),
+            self.room.octets.as_slice(),
+        )
+    }
+
+    /// The value beside this type. Whether it is one of the type does not matter: a part that the type has not is not
+    /// found. Allocates nothing.
+    pub fn view<'a>(&'a self, ty: &'a Checked) -> MessageView<'a>
+        ensures { seen result ≡ typed (shape_of ty.now) (value_seen self.now) }
+    {
+        let row = Row {
+            slots: self.room.slots.as_slice(),
+            octets: self.room.octets.as_slice(),
+        };
+        MessageView {
+            ty: ty.get(),
+            place: Place::Slots(row),
+        }
+    }
+}

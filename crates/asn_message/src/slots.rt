@@ -1,0 +1,168 @@
+//! The slots of a value.
+ghost use Rattle.std.specs.Prelude.{◌≡◌, ◌++◌, ◌∷◌, [], ℕ, List, length, IfSome, IsSome};
+ghost use Rattle.asn_message.specs.declared.slots.Slot.{Slot};
+ghost use Rattle.asn_message.specs.Building.{Grows};
+ghost use Rattle.asn_message.specs.Slots.{octets_at, bits_at};
+
+use std::alloc::Global;
+
+/// Where a string stands among the octets of a message.
+#[derive(Clone, Copy, Debug, PartialEq, Eq)]
+pub struct Span {
+    pub begin: u32,
+    pub length: u32,
+}
+
+/// What a slot is of.
+#[derive(Clone, Copy, Debug, PartialEq, Eq)]
+pub enum Content {
+    /// A BOOLEAN.
+    Truth(bool),
+    /// NULL.
+    Null,
+    /// An INTEGER.
+    Number(i64),
+    /// An ENUMERATED: the index of the item, counted from 0 as written.
+    Item(u32),
+    /// A BIT STRING: an octet for each bit, 1 or 0.
+    Bits(Span),
+    /// An OCTET STRING.
+    Octets(Span),
+    /// A restricted character string: the codes of its characters.
+    Text(Span),
+    /// A UTF8String.
+    Utf8(Span),
+    /// A SEQUENCE: how many components there are up to the last one that is present, and how many after it.
+    Sequence { taken: u32, absent: u32 },
+    /// A SEQUENCE OF, with this many elements.
+    List(u32),
+    /// A CHOICE whose alternative at this place, counted from 0, has a value.
+    Choice(u32),
+}
+
+/// A value, or one inside it: a slot of its own, and after it those of the values inside.
+#[derive(Clone, Copy, Debug, PartialEq, Eq)]
+pub struct Slot {
+    pub content: Content,
+    /// How many components of its SEQUENCE are absent between the present one before and this one.
+    pub absent_before: u32,
+    /// How many slots the values inside have.
+    pub inside: u32,
+}
+
+/// Slots, and the octets of the strings among them.
+#[derive(Debug, Drop)]
+pub struct Room {
+    pub slots: Vec<Slot>,
+    pub octets: Vec<u8>,
+}
+
+impl Room {
+    /// A room with nothing in it.
+    pub fn new(alloc: Global) -> Room
+        ensures slots { result.slots.items ≡ [] }
+        ensures octets { result.octets.items ≡ [] }
+    {
+        Room {
+            slots: Vec::new(alloc),
+            octets: Vec::new(alloc),
+        }
+    }
+
+    /// Takes all out, and keeps the memory.
+    pub fn clear(&mut self)
+        ensures slots { self.new.slots.items ≡ [] }
+        ensures octets { self.new.octets.items ≡ [] }
+    {
+        self.slots.clear();
+        self.octets.clear();
+    }
+
+    /// Adds a slot, and tells where.
+    #[inline(always)]
+    pub(crate) fn push(&mut self, content: Content) -> Option<usize>
+        ensures octets { self.new.octets ≡ self.old.octets }
+        ensures at { IfSome result (λ at. at ≡ length self.old.slots.items) }
+        ensures slots { IfSome result (λ at. self.new.slots.items
+            ≡ self.old.slots.items ++ record { content = content; absent_before = 0; inside = 0 } ∷ []) }
+    {
+        let at = self.slots.len();
+        let slot = Slot {
+            content,
+            absent_before: 0,
+            inside: 0,
+        };
+        let Ok(()) = self.slots.push(slot) else {
+            return None;
+        };
+        Some(at)
+    }
+
+    /// Puts this slot in the place of the one that is there.
+    #[inline(always)]
+    pub(crate) fn replace(&mut self, at: usize, slot: Slot) -> Option<()>
+        ensures octets { self.new.octets ≡ self.old.octets }
+        ensures slots { IsSome result → (xs : List Slot) (old : Slot) (ys : List Slot)
+            → self.old.slots.items ≡ xs ++ old ∷ ys → at ≡ length xs → self.new.slots.items ≡ xs ++ slot ∷ ys }
+    {
+        if at >= self.slots.len() {
+            return None;
+        }
+        self.slots[at] = slot;
+        Some(())
+    }
+
+    /// Puts the slot of a value with parts in its place, once these are there, and tells where.
+    #[inline(always)]
+    pub(crate) fn close(&mut self, at: usize, content: Content) -> Option<usize>
+        ensures octets { self.new.octets ≡ self.old.octets }
+        ensures at { IfSome result (λ here. here ≡ at) }
+        ensures slots { IsSome result → (xs : List Slot) (old : Slot) (ys : List Slot)
+            → self.old.slots.items ≡ xs ++ old ∷ ys → at ≡ length xs → self.new.slots.items
+            ≡ xs ++ record { content = content; absent_before = 0; inside = length ys } ∷ ys }
+    {
+        let count = self.slots.len();
+        if at >= count {
+            return None;
+        }
+        let inside = u32::try_from(count - at - 1).ok()?;
+        let slot = Slot {
+            content,
+            absent_before: 0,
+            inside,
+        };
+        self.replace(at, slot)?;
+        Some(at)
+    }
+
+    /// Adds the octets of a string, and tells where.
+    #[inline(always)]
+    pub(crate) fn push_octets(&mut self, octets: &[u8]) -> Option<Span>
+        ensures slots { self.new.slots ≡ self.old.slots }
+        ensures octets { IsSome result → self.new.octets.items ≡ self.old.octets.items ++ octets.now }
+        ensures at { IfSome result (λ s. (more : List ℕ) → octets_at (self.new.octets.items ++ more) s ≡ octets.now) }
+    {
+        let begin = u32::try_from(self.octets.len()).ok()?;
+        let length = u32::try_from(octets.len()).ok()?;
+        let Ok(()) = self.octets.extend_from_slice(octets) else {
+            return None;
+        };
+        Some(Span { begin, length })
+    }
+
+    /// The same of bits, an octet for each.
+    pub(crate) fn push_bits(&mut self, bits: &[bool]) -> Option<Span>
+        ensures slots { self.new.slots ≡ self.old.slots }
+        ensures octets { IsSome result → Grows self.old self.new }
+        ensures at { IfSome result (λ s. (more : List ℕ) → bits_at (self.new.octets.items ++ more) s ≡ bits.now) }
+    {
+        let begin = u32::try_from(self.octets.len()).ok()?;
+        let length = u32::try_from(bits.len()).ok()?;
+        for bit in bits {
+            let Ok(()) = self.octets.push(u8::from(*bit)) else {
+                return None;
+            };
+        }
+        Some(Span { begin, length })
+    }
+}

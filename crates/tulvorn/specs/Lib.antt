@@ -2,6 +2,7 @@
 pub use Rattle.asn_values.specs.Datum
 pub use Rattle.asn_values.specs.Shape
 pub use Rattle.asn_values.specs.Fits
+pub use Rattle.asn_values.specs.Older
 pub use Rattle.asn_values.specs.View
 -- values by the names of their type
 pub use Rattle.asn_view.specs.Typed
@@ -43,3 +44,4 @@ pub use Rattle.asn_module.specs.Bounded
 pub use Rattle.asn_json.specs.Written
 pub use Rattle.asn_json.specs.Shown
 pub use Rattle.asn_json.specs.Errors
+pub use Rattle.asn_json.specs.Older as OlderJson

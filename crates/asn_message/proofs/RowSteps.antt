@@ -1,9 +1,8 @@
 -- Slots that are passed, one value after the other.
-use Rattle.std.proofs.Common.{◌≡◌, ◌<◌, ◌≤◌, ◌-◌, ℕ, zero, suc, List, [], ◌∷◌, length, take, drop, Some, refl, sym, subst, arith}
+use Rattle.std.proofs.Common.{◌≡◌, ◌<◌, ◌-◌, ℕ, zero, suc, List, [], ◌∷◌, length, take, drop, Some, refl, sym, subst, arith}
 use Rattle.std.proofs.lemmas.List.{take_all, length-drop}
-use Rattle.asn_values.specs.Datum.{Datum}
 use Rattle.asn_message.specs.declared.slots.Slot.{Slot}
-use Rattle.asn_message.specs.Slots.{entries_after, entries_from, entries_in, entries_inside, value_in, AreNested, IsCounted}
+use Rattle.asn_message.specs.Slots.{entries_after, entries_from, value_in, AreNested}
 
 nested_drop : (os : List ℕ) (ss : List Slot) (n : ℕ) → AreNested os [] ss → AreNested os [] (drop n ss)
 nested_drop os ss zero h = h

@@ -12,7 +12,7 @@ use Rattle.asn_values.specs.declared.types.AsnType.TheVariants as asn_type
 use Rattle.asn_values.specs.Datum.{Datum, Components, Elements, item, components, components_of, elements, elements_of, alternative}
 use Rattle.asn_values.specs.Shape.{Shape, enumerated, sequence, sequence_of, choice}
 use Rattle.asn_values.specs.LookUp.{added}
-use Rattle.asn_values.specs.View.{Part, shape_of, label_of, part_of_field, branch_of}
+use Rattle.asn_values.specs.View.{Part, shape_of, label_of, branch_of}
 use Rattle.asn_values.proofs.Views.{shape_of-Enum, shape_of-Seq, shape_of-SeqOf, shape_of-Choice, component_list-components_of, element_list-elements_of}
 use Rattle.asn_view.specs.Seen.{parts_seen}
 use Rattle.asn_view.specs.Typed.{Typed, typed, branch_value, component_value, values_of_parts, components_by, chosen_by, elements_by, item_name_by, length_of}

@@ -115,7 +115,9 @@ impl<'a> Place<'a> {
             Place::Tree(Value::Utf8(text)) => Some(text.as_bytes()),
             Place::Tree(_) => None,
             Place::Slots(row) => match row.content() {
-                Some(Content::Text(span) | Content::Utf8(span)) => Some(octets_of(row.octets, span)),
+                Some(Content::Text(span) | Content::Utf8(span)) => Some(octets_of(
+                    row.octets, span,
+                )),
                 _ => None,
             },
         }

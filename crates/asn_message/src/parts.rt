@@ -98,7 +98,10 @@ fn component_value<'a>(field: &'a Field, entry: Option<Place<'a>>) -> Option<Mes
 }
 
 /// What stands at the first component of this name.
-pub(crate) fn value_at_name<'a>(name: &[u8], components: ComponentViews<'a>) -> Option<MessageView<'a>>
+pub(crate) fn value_at_name<'a>(
+    name: &[u8],
+    components: ComponentViews<'a>,
+) -> Option<MessageView<'a>>
     ensures { option_map seen result ≡ value_at_name name.now (left_components components.entry) }
 {
     for (component, value) in components {
@@ -144,7 +147,10 @@ impl<'a> Iterator for ElementViews<'a> {
 }
 
 /// The name of an alternative, and its value.
-pub(crate) fn of_alternative<'a>(alternative: &'a Alt, place: Place<'a>) -> (&'a str, MessageView<'a>)
+pub(crate) fn of_alternative<'a>(
+    alternative: &'a Alt,
+    place: Place<'a>,
+) -> (&'a str, MessageView<'a>)
     ensures { seen_chosen result ≡ branch_value (branch_of alternative.now) (place_value place.entry) }
 {
     let ty = &alternative.ty;
@@ -152,7 +158,10 @@ pub(crate) fn of_alternative<'a>(alternative: &'a Alt, place: Place<'a>) -> (&'a
 }
 
 /// The element at this index.
-pub(crate) fn element_at<'a>(index: usize, mut elements: ElementViews<'a>) -> Option<MessageView<'a>>
+pub(crate) fn element_at<'a>(
+    index: usize,
+    mut elements: ElementViews<'a>,
+) -> Option<MessageView<'a>>
     ensures { option_map seen result ≡ slice_get (left_elements elements.entry) index }
 {
     for passed in 0..index {

@@ -1,4 +1,4 @@
-use Rattle.std.proofs.Common.{◌≡◌, ◌∙◌, ap, sym, slice_get, Bool, List, Option}
+use Rattle.std.proofs.Common.{◌∙◌, ap, sym, slice_get, Bool, List, Option}
 use Rattle.std.specs.Option.{option_and_then}
 use Rattle.asn_values.specs.View.{datum_of}
 use Rattle.asn_values.proofs.Views.{datum_of-Bits}

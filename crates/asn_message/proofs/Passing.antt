@@ -1,5 +1,5 @@
 -- Entries that are passed, one after the other.
-use Rattle.std.proofs.Common.{◌≡◌, ◌≤◌, ◌<◌, ◌+◌, ◌-◌, ℕ, zero, suc, List, [], ◌∷◌, ◌++◌, take, drop, Option, Some, None, refl, sym, ap, ◌∙◌, arith}
+use Rattle.std.proofs.Common.{◌≡◌, ◌≤◌, ◌+◌, ℕ, zero, suc, List, [], ◌∷◌, ◌++◌, take, drop, Option, Some, None, refl, arith}
 use Rattle.std.proofs.Math.Numerals.{add-one}
 use Rattle.asn_values.specs.Datum.{Datum}
 use Rattle.asn_view.specs.Typed.{first_entry}

@@ -1,8 +1,8 @@
 -- Slots that are passed, one value after the other.
-use Rattle.std.proofs.Common.{◌≡◌, ◌<◌, ◌≤◌, ℕ, zero, suc, List, [], ◌∷◌, ◌++◌, length, drop, Option, Some, refl, sym, subst, arith}
-use Rattle.asn_values.specs.Datum.{Datum}
+use Rattle.std.proofs.Common.{◌≡◌, ◌<◌, ◌-◌, ℕ, zero, suc, List, [], ◌∷◌, length, take, drop, Some, refl, sym, subst, arith}
+use Rattle.std.proofs.lemmas.List.{take_all, length-drop}
 use Rattle.asn_message.specs.declared.slots.Slot.{Slot}
-use Rattle.asn_message.specs.Slots.{entries_after, entries_from, entries_in, entries_inside, value_in, AreNested, IsCounted}
+use Rattle.asn_message.specs.Slots.{entries_after, entries_from, value_in, AreNested}
 
 nested_drop : (os : List ℕ) (ss : List Slot) (n : ℕ) → AreNested os [] ss → AreNested os [] (drop n ss)
 nested_drop os ss zero h = h
@@ -14,22 +14,14 @@ pub inside_nested : (os : List ℕ) (ss : List Slot) (x : Slot) (xs : List Slot)
     → AreNested os [] xs
 inside_nested os ss x xs e h = (subst (λ (l : List Slot). AreNested os [] l) e h).1.1.1
 
-pub inside_few : (os : List ℕ) (ss : List Slot) (x : Slot) (xs : List Slot) → ss ≡ x ∷ xs → AreNested os [] ss
-    → x.inside ≤ length xs
-inside_few os ss x xs e h = (subst (λ (l : List Slot). AreNested os [] l) e h).0
-
-pub inside_counted : (os : List ℕ) (ss : List Slot) (x : Slot) (xs : List Slot) → ss ≡ x ∷ xs → AreNested os [] ss
-    → IsCounted x.content (entries_in os (drop 1 ss) [])
-inside_counted os ss x xs e h = rw e ((subst (λ (l : List Slot). AreNested os [] l) e h).1.1.0)
-
 -- and of those after the first value
-pub after_nested : (os : List ℕ) (ss : List Slot) (x : Slot) (xs : List Slot) → ss ≡ x ∷ xs → AreNested os [] ss
-    → AreNested os [] (drop x.inside xs)
-after_nested os ss x xs e h = nested_drop os xs x.inside (inside_nested os ss x xs e h)
+rest_of : (n : ℕ) (xs : List Slot) → take (length xs - n) (drop n xs) ≡ drop n xs
+rest_of n xs = take_all (length xs - n) (drop n xs) (omega (arith, length-drop n xs))
 
-pub after_entries : (os : List ℕ) (ss : List Slot) (x : Slot) (xs : List Slot) → ss ≡ x ∷ xs → AreNested os [] ss
-    → entries_in os (drop x.inside xs) [] ≡ entries_after os ss
-after_entries os ss x xs e h = rw e (sym (subst (λ (l : List Slot). AreNested os [] l) e h).1.0)
+pub after_nested : (os : List ℕ) (ss : List Slot) (x : Slot) (xs : List Slot) → ss ≡ x ∷ xs → AreNested os [] ss
+    → AreNested os [] (take (length xs - x.inside) (drop x.inside xs))
+after_nested os ss x xs e h =
+    subst (λ (l : List Slot). AreNested os [] l) (sym (rest_of x.inside xs)) (nested_drop os xs x.inside (inside_nested os ss x xs e h))
 
 -- the entries begin with the first value
 pub first_entry_from : (os : List ℕ) (ss : List Slot) → 0 < length ss → entries_from os ss ≡ Some (value_in os ss) ∷ entries_after os ss

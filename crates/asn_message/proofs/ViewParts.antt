@@ -1,5 +1,5 @@
 -- The parts of a value in slots, as the type has them.
-use Rattle.std.proofs.Common.{◌≡◌, ◌≢◌, ◌<◌, ◌∙◌, ◌+◌, ◌-◌, ℕ, zero, suc, List, [], ◌∷◌, ◌++◌, map, slice_get, length, take, Bool, Option, Some, None, Vec, Global, refl, ap, ap₂, sym, arith}
+use Rattle.std.proofs.Common.{◌≡◌, ◌≢◌, ◌<◌, ◌∙◌, ◌+◌, ◌-◌, ℕ, zero, suc, List, [], ◌∷◌, ◌++◌, map, slice_get, length, take, Option, Some, None, Vec, Global, refl, ap, ap₂, sym, arith}
 use Rattle.std.specs.Option.{option_map}
 use Rattle.std.specs.Global.{Box}
 use Rattle.std.proofs.lemmas.Option.{slice_get-map}
@@ -9,23 +9,17 @@ use Rattle.asn_values.specs.declared.types.Alt.{Alt}
 use Rattle.asn_values.specs.declared.types.Field.{Field}
 use Rattle.asn_values.specs.declared.types.AsnType.{AsnType, Seq, SeqOf, Choice}
 use Rattle.asn_values.specs.declared.types.AsnType.TheVariants as asn_type
-use Rattle.std.specs.Borrow.{Bor}
-use Rattle.asn_values.specs.declared.value.Value.{Value}
-use Rattle.asn_values.specs.declared.value.Value.TheVariants as value
 use Rattle.asn_values.specs.Datum.{Datum, Components, Elements, item, components, components_of, elements, elements_of, alternative}
 use Rattle.asn_values.specs.Shape.{Shape, enumerated, sequence, sequence_of, choice}
 use Rattle.asn_values.specs.LookUp.{added}
-use Rattle.asn_values.specs.View.{Part, shape_of, label_of, part_of_field, branch_of}
-use Rattle.asn_values.proofs.Views.{shape_of-Enum, shape_of-Seq, shape_of-SeqOf, shape_of-Choice, datum_of-Bits, component_list-components_of, element_list-elements_of}
+use Rattle.asn_values.specs.View.{Part, shape_of, label_of, branch_of}
+use Rattle.asn_values.proofs.Views.{shape_of-Enum, shape_of-Seq, shape_of-SeqOf, shape_of-Choice, component_list-components_of, element_list-elements_of}
 use Rattle.asn_view.specs.Seen.{parts_seen}
-use Rattle.asn_view.specs.Typed.{Typed, typed, branch_value, component_value, values_of_parts, components_by, chosen_by, elements_by, item_name_by, bits_of, length_of}
-use Rattle.asn_view.proofs.PartLists.{all_parts, all_branches, all_labels, length_of-List}
+use Rattle.asn_view.specs.Typed.{Typed, typed, branch_value, component_value, values_of_parts, components_by, chosen_by, elements_by, item_name_by, length_of}
+use Rattle.asn_view.proofs.PartLists.{all_parts, all_branches, all_labels}
 use Rattle.asn_plan.specs.Plans.{absents}
-use Rattle.asn_message.specs.declared.place.Place.{Place}
-use Rattle.asn_message.specs.declared.place.Place.TheVariants as place
 use Rattle.asn_message.specs.declared.slots.Content.{Content}
 use Rattle.asn_message.specs.declared.slots.Content.TheVariants as content
-use Rattle.asn_message.specs.Places.{place_value}
 use Rattle.asn_message.specs.Slots.{value_at, values_of, IsCounted}
 
 -- ---- components
@@ -100,16 +94,7 @@ pub item_of_none : (t : Shape) (d : Datum) → ((n : ℕ) → d ≢ item n) → 
 item_of_none (enumerated root more) (item n) h = absurd (h n refl)
 item_of_none t d h = refl
 
--- ---- bits and lengths
-
--- the bits of a BIT STRING that is a tree
-pub bits_of_tree : (p : Place) (v : Bor Value) (bs : Vec Bool Global) → p ≡ place.Tree v → v.now ≡ value.Bits bs
-    → bits_of (place_value p) ≡ Some bs.items
-bits_of_tree p v bs ep ev = rw (ep, ev, datum_of-Bits bs) refl
-
-pub length_of_tree : (p : Place) (v : Bor Value) (vs : Vec Value Global) → p ≡ place.Tree v → v.now ≡ value.List vs
-    → length_of (place_value p) ≡ length vs.items
-length_of_tree p v vs ep ev = ap (λ q. length_of (place_value q)) ep ∙ length_of-List v.now vs ev
+-- ---- lengths
 
 -- how many elements stand in slots
 pub length_of_list : (d : Datum) (c : Content) (os : List ℕ) (es : List (Option Datum)) (count : ℕ) → c ≡ content.List count

@@ -1,5 +1,5 @@
 -- What is left of a row of slots.
-use Rattle.std.specs.Prelude.{ℕ, List, [], ◌∷◌, ◌++◌, take, Option, Some, None}
+use Rattle.std.specs.Prelude.{List, [], ◌∷◌, ◌++◌, take, Option, Some, None}
 use Rattle.asn_values.specs.Datum.{Datum}
 use Rattle.asn_plan.specs.Plans.{absents}
 use Rattle.asn_message.specs.declared.left.Left.{Left}

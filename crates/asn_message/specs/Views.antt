@@ -2,9 +2,8 @@
 use Rattle.std.specs.Prelude.{ℕ, List, ◌++◌, map, Option}
 use Rattle.std.specs.Option.{option_map}
 use Rattle.std.specs.Borrow.{Bor}
-use Rattle.asn_values.specs.Datum.{Datum}
 use Rattle.asn_values.specs.declared.types.Field.{Field}
-use Rattle.asn_values.specs.View.{shape_of, datum_of, entries_seen}
+use Rattle.asn_values.specs.View.{shape_of}
 use Rattle.asn_view.specs.Seen.{parts_seen}
 use Rattle.asn_view.specs.Typed.{Typed, typed, Named, values_of_parts}
 use Rattle.asn_message.specs.declared.parts.ComponentViews.{ComponentViews}

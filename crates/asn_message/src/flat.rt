@@ -2,6 +2,7 @@
 ghost use Rattle.std.specs.Prelude.{◌≡◌, ◌++◌, ℕ, List, Option, IfSome};
 ghost use Rattle.asn_values.specs.Datum.{Datum};
 ghost use Rattle.asn_values.specs.View.{datum_of};
+ghost use Rattle.asn_walk.specs.Integers.{IsOfProfile};
 ghost use Rattle.asn_message.specs.declared.slots.Room.{Room};
 ghost use Rattle.asn_message.specs.Building.{IsPut, AreEntries, AreElements, IsBegun, Grows};
 ghost use Rattle.asn_message.specs.Slots.{entries_inside, value_at};
@@ -182,7 +183,7 @@ pub(crate) fn put_alone(room: &mut Room, value: &Value) -> Option<usize>
             Some(at)
         }
         Value::Int(number) => {
-            let number = i64::try_from(*number).ok()?;
+            let number = narrow(number)?;
             let at = put_slot(room, Content::Number(number))?;
             Some(at)
         }
@@ -212,4 +213,14 @@ pub(crate) fn put_alone(room: &mut Room, value: &Value) -> Option<usize>
         }
         _ => None,
     }
+}
+
+/// The number in 64 bits, where it fits in them.
+fn narrow(number: &i128) -> Option<i64>
+    ensures { IfSome result (λ n. (n ≡ number.now) × IsOfProfile n) }
+{
+    if *number < i64::MIN as i128 || *number > i64::MAX as i128 {
+        return None;
+    }
+    Some(*number as i64)
 }

@@ -1,6 +1,7 @@
 //! What a value in slots or as a tree is.
 ghost use Rattle.std.specs.Prelude.{◌≡◌, ◌≢◌, ◌++◌, ◌==◌, ◌↔◌, ℕ, IsTrue, IfSome, IfNone, map, option_and_then, option_map, slice_get};
 ghost use Rattle.asn_values.specs.Datum.{Components, Datum, Elements, nothing, item, components, components_of, elements, elements_of, alternative};
+ghost use Rattle.asn_values.specs.View.{datum_of};
 ghost use Rattle.asn_view.specs.Typed.{truth_of, integer_of, octets_of, bits_of, text_of, length_of};
 ghost use Rattle.asn_plan.specs.Plans.{absents};
 ghost use Rattle.asn_message.specs.Places.{place_value, entries_of_left, values_of_left};
@@ -151,8 +152,7 @@ impl<'a> Place<'a> {
         ensures { result ≡ option_and_then (λ bs. slice_get bs index) (bits_of (place_value self.now)) }
     {
         match self {
-            Place::Tree(Value::Bits(bits)) => flag_at(bits, index),
-            Place::Tree(_) => None,
+            Place::Tree(value) => tree_bit(value, index),
             Place::Slots(row) => match row.content() {
                 Some(Content::Bits(span)) => bit_at(octets_of(row.octets, span), index),
                 _ => None,
@@ -165,12 +165,7 @@ impl<'a> Place<'a> {
         ensures { result ≡ length_of (place_value self.now) }
     {
         match self {
-            Place::Tree(Value::List(values)) => values.len(),
-            Place::Tree(Value::Bits(bits)) => bits.len(),
-            Place::Tree(Value::Octets(octets)) => octets.len(),
-            Place::Tree(Value::Text(codes)) => codes.len(),
-            Place::Tree(Value::Utf8(text)) => text.len(),
-            Place::Tree(_) => 0,
+            Place::Tree(value) => tree_len(value),
             Place::Slots(row) => match row.content() {
                 Some(Content::List(count)) => count as usize,
                 Some(
@@ -202,5 +197,29 @@ fn flag_at(flags: &[bool], index: usize) -> Option<bool>
     match flags.get(index) {
         Some(flag) => Some(*flag),
         None => None,
+    }
+}
+
+/// The bit of a BIT STRING that is a tree.
+fn tree_bit(value: &Value, index: usize) -> Option<bool>
+    ensures { result ≡ option_and_then (λ bs. slice_get bs index) (bits_of (datum_of value.now)) }
+{
+    match value {
+        Value::Bits(bits) => flag_at(bits, index),
+        _ => None,
+    }
+}
+
+/// How many elements, bits, octets or characters a tree has; 0 of another value.
+fn tree_len(value: &Value) -> usize
+    ensures { result ≡ length_of (datum_of value.now) }
+{
+    match value {
+        Value::List(values) => values.len(),
+        Value::Bits(bits) => bits.len(),
+        Value::Octets(octets) => octets.len(),
+        Value::Text(codes) => codes.len(),
+        Value::Utf8(text) => text.len(),
+        _ => 0,
     }
 }

@@ -53,12 +53,12 @@ impl<'a> Row<'a> {
         ensures { entries_in result.octets.now result.slots.now []
             ≡ entries_after self.now.octets.now self.now.slots.now }
     {
-        match self.slots.split_first() {
-            Some((slot, others)) => Row {
-                slots: &others[slot.inside as usize..],
-                octets: self.octets,
-            },
-            None => *self,
+        let Some((slot, others)) = self.slots.split_first() else {
+            return *self;
+        };
+        Row {
+            slots: &others[slot.inside as usize..],
+            octets: self.octets,
         }
     }
 

@@ -1,12 +1,12 @@
-use Rattle.std.proofs.Common.{◌≡◌, ℕ, ℤ, Bool, Global, String, string_bytes, refl, sym, ap, ◌∙◌, rules}
+use Rattle.std.proofs.Common.{◌≡◌, ℕ, ℤ, Bool, Global, String, string_bytes, ◌≤ℤ◌, refl, sym, ap, ◌∙◌, arith, rules}
+use Rattle.std.proofs.lemmas.Int.{ints}
 use Rattle.asn_values.specs.Datum.{truth, nothing, number, item, bit_list, octet_list, characters, unicode}
+use Rattle.asn_values.specs.Fits.{lowest_integer, highest_integer}
 use Rattle.asn_values.specs.View.{datum_of}
+use Rattle.asn_walk.specs.Integers.{IsOfProfile}
 use Rattle.asn_values.specs.declared.value.Value as values
-use Rattle.std.specs.Prelude.{Result, Ok, Err, Some}
-use Rattle.std.specs.Result.{result_ok, OkIff}
-use mir.Facts.{to_z-of_z}
 use mir.Syntax.{w64}
-use mir.Val.{SFits, to_z, of_z}
+use mir.Val.{to_z, of_z}
 use Rattle.asn_values.specs.declared.value.Value.TheVariants as value
 use Rattle.asn_values.proofs.Views.{datum_of-Bits, datum_of-Octets, datum_of-Text}
 use Rattle.asn_message.proofs.Filled.{grows_nothing}
@@ -27,13 +27,13 @@ datum_of-Enum n = search (rules, values.the_lemmas)
 datum_of-Utf8 : (s : String Global) → datum_of (value.Utf8 s) ≡ unicode (string_bytes s)
 datum_of-Utf8 s = search (rules, values.the_lemmas)
 
--- a number that fits in 64 bits is kept in them
-kept_in_64 : {E : Type 0} (n z : ℤ) (r : Result ℤ E) → OkIff r (SFits w64 z) z → Some n ≡ result_ok r
-    → to_z w64 (of_z w64 n) ≡ z
-kept_in_64 n z (Ok m) h e =
-    let same : n ≡ z = (let f : n ≡ m = cc in f ∙ h.1) in
-    ap (λ (x : ℤ). to_z w64 (of_z w64 x)) same ∙ to_z-of_z {w = w64} {z = z} h.0
-kept_in_64 n z (Err why) h e = absurd (cc)
+-- a number of the profile is kept in 64 bits
+kept_in_64 : (n z : ℤ) → (n ≡ z) × IsOfProfile n → to_z w64 (of_z w64 n) ≡ z
+kept_in_64 n z h =
+    let low : lowest_integer ≤ℤ n = h.1.0 in
+    let high : n ≤ℤ highest_integer = h.1.1 in
+    let same : to_z w64 (of_z w64 n) ≡ n = omega (arith, ints) in
+    same ∙ h.0
 
 pub returns-in_ok-at-in-Bool : goal.returns-in_ok-at-in-Bool
 returns-in_ok-at-in-Bool c =
@@ -48,7 +48,7 @@ returns-in_ok-at-in-Null c =
 pub returns-in_ok-at-in-Int : goal.returns-in_ok-at-in-Int
 returns-in_ok-at-in-Int c =
     let is = ap datum_of c.in-Int.is ∙ datum_of-Int c.in-Int.number in
-    c.in_ok-at-in-Int.ensures c.args.room.now (datum_of c.args.value.now) (grows_nothing c.args.room.now c.args.room.now refl) refl refl (λ more es. ap number (kept_in_64 c.in_ok-number-in-Int.number c.in-Int.number c.try_from.result c.try_from.ensures c.in_ok-number-in-Int.ensures.value) ∙ sym is)
+    c.in_ok-at-in-Int.ensures c.args.room.now (datum_of c.args.value.now) (grows_nothing c.args.room.now c.args.room.now refl) refl refl (λ more es. ap number (kept_in_64 c.in_ok-number-in-Int.number c.in-Int.number c.in_ok-number-in-Int.ensures) ∙ sym is)
 
 pub returns-in_ok-at-in-Enum : goal.returns-in_ok-at-in-Enum
 returns-in_ok-at-in-Enum c =

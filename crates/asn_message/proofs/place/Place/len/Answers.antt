@@ -1,15 +1,9 @@
-use Rattle.std.proofs.Common.{◌≡◌, ◌∙◌, ap, sym, length, drop, rules, vec_len, []}
+use Rattle.std.proofs.Common.{◌∙◌, ap, sym, drop, []}
 use Rattle.asn_message.specs.Slots.{entries_in, value_in}
 use Rattle.asn_message.specs.Places.{place_value}
 use Rattle.asn_view.specs.Typed.{length_of}
-use Rattle.asn_message.proofs.ViewParts.{length_of_tree, length_of_list}
+use Rattle.asn_message.proofs.ViewParts.{length_of_list}
 use Rattle.asn_message.proofs.place.Place.len.Goals as goal
-
-pub returns-in-Tree-List : goal.returns-in-Tree-List
-returns-in-Tree-List c =
-    let arm = c.in-Tree-List in
-    let count : vec_len arm.values ≡ length arm.values.items = search rules in
-    c.len.ensures ∙ count ∙ sym (length_of_tree c.args.self.now arm.field-0 arm.values arm.is arm.field-0-is)
 
 pub returns-in-Some-List : goal.returns-in-Some-List
 returns-in-Some-List c =

@@ -28,6 +28,10 @@ pub use Rattle.asn_oer.specs.Rules as OerRules
 pub use Rattle.asn_plan.specs.Plans
 pub use Rattle.asn_plan.specs.Taken
 pub use Rattle.asn_plan.specs.Within
+-- a value in slots
+pub use Rattle.asn_message.specs.Decoding as MessageDecoding
+pub use Rattle.asn_message.specs.Seen as MessageSeen
+pub use Rattle.asn_message.specs.Views as MessageViews
 -- where octets are no message, other versions, conversion
 pub use Rattle.asn_explain.specs.Explains
 pub use Rattle.asn_explain.specs.Texts

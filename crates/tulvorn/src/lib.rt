@@ -10,6 +10,7 @@ pub use asn_fields::{
     Extent, FieldKind, MessageField, MessageFields, TypeSizes, fields, outline, sizes,
 };
 pub use asn_json::{JsonFault, from_json, to_json};
+pub use asn_message::{ComponentViews, ElementViews, Message, MessageView};
 pub use asn_module::{
     BoundFault, Module, ModuleFault, RefusedText, TypeNames, read, read_explained, read_within,
 };

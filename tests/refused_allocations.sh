@@ -99,6 +99,8 @@ for of in message simple composed; do
   told_of "$of in PER" encode decode decode_into Planned::new feed
   told_of "$of in OER" encode decode decode_into Planned::new feed
 done
+told_of 'message in PER' Message::decode
+told_of 'message in OER' Message::decode
 told_of 'simple in PER' decode_within
 told_of 'simple in OER' decode_within
 told_of 'empty in OER' open

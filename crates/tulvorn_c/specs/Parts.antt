@@ -1,5 +1,6 @@
 -- What calls answer about the part of a value at a path.
-use Rattle.std.specs.Prelude.{◌≡◌, ◌⊎◌, ℕ, ℤ, pos, List, Bool, true, false, Option, Some, None, option_map, option_and_then, slice_get, IsUtf8, FitsSigned, FitsUnsigned, MatchOption}
+use Rattle.std.specs.Prelude.{◌≡◌, ◌⊎◌, ℕ, ℤ, pos, List, Bool, true, false, Option, Some, None, option_map, option_and_then, slice_get, IsUtf8, FitsSigned, MatchOption}
+use Rattle.std.specs.Int.{FitsUnsigned}
 use mir.Syntax.{w64}
 use Rattle.asn_view.specs.Typed.{Typed, truth_of, integer_of, octets_of, bits_of, text_of, length_of, item_name_in, chosen_in}
 use Rattle.asn_view.specs.Paths.{value_at_path}

@@ -6,7 +6,7 @@ ghost use Rattle.asn_message.specs.Rows.{row_value, left_entries, first_of_value
 
 use crate::row::Row;
 
-/// The entries that are left: this many, of which so many are absent before the first value of the row.
+/// The entries that are left: how many they are, and how many of them are absent before the first value of the row.
 #[derive(Clone, Copy)]
 pub(crate) struct Left<'a> {
     pub(crate) row: Row<'a>,

@@ -29,7 +29,8 @@ pub(crate) fn build_leaf<R: ReadLeaves, B: Build>(
 ) -> Option<B::Part>
     requires at_unit { R.rules.at_unit units.old }
     ensures at_unit { IsSome result → R.rules.at_unit units.new }
-    ensures some { IfSome result (λ p. Builds R.rules (B.built room.old room.new) (shape_of leaf.now.ty) p units.old units.new) }
+    ensures some { IfSome result (λ p.
+        Builds R.rules (B.built room.old room.new) (shape_of leaf.now.ty) p units.old units.new) }
 {
     if let Some(value) = R::try_simple(alloc, &leaf.ty, units) {
         let part = B::value(room, value)?;
@@ -88,7 +89,8 @@ pub(crate) fn build_ranged<R: ReadLeaves, B: Build>(
     requires at_unit { R.rules.at_unit units.old }
     requires ranged { IsRanged range.now }
     ensures at_unit { IsSome result → R.rules.at_unit units.new }
-    ensures some { IfSome result (λ p. Builds R.rules (B.built room.old room.new) (ranged range.now) p units.old units.new) }
+    ensures some { IfSome result (λ p.
+        Builds R.rules (B.built room.old room.new) (ranged range.now) p units.old units.new) }
 {
     let ty = type_of(range);
     if let Some(value) = R::try_simple(alloc, &ty, units) {

@@ -7,9 +7,7 @@ ghost use Rattle.asn_rules.specs.Fields.{spelled};
 ghost use Rattle.asn_rules.specs.Filled.{unused_bits};
 ghost use Rattle.asn_rules.specs.OctetsWritten.{fixed_octets, filled, flagged};
 
-use asn_bits::internal::{
-    least_parts, octet_count, signed_octet_count, signed_residue,
-};
+use asn_bits::internal::{least_parts, octet_count, signed_octet_count, signed_residue};
 use asn_sinks::Sink;
 
 /// One more than the highest number of 64 bits.
@@ -133,8 +131,7 @@ pub fn write_least_signed<S: Sink>(z: i128, sink: &mut S) -> Result<(), S::Fault
 {
     let count = signed_octet_count(z);
     if count > 8 {
-        sink.push_low_octets(2, 9 << 8)?;
-        return sink.push_low_octets(8, z as u64);
+        return sink.push_least_signed_octets(z);
     }
     let residue = signed_residue(z, count);
     match count {

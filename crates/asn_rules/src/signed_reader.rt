@@ -12,7 +12,7 @@ ghost use Rattle.asn_rules.specs.PlainReading.{StopsPlain};
 use crate::fault::Why;
 use crate::number_reader::{NumberSet, peek_in_octets, read_number, read_number_among};
 use crate::stop::Stop;
-use crate::whole_number_reader::{greatest_of_width, power_of_two};
+use crate::whole_number_reader::{greatest_of_width, power_of_two, wide_power_of_two};
 use asn_bits::internal::{at_offset, signed_octet_count};
 use asn_bits::{BitCursor, Intervals};
 use asn_values::profile::{LOWEST_INTEGER, OFFSET_OF_ZERO};
@@ -34,7 +34,7 @@ pub struct OffsetSet {
 /// `Short` if the bits end before the integer does. `Refused` at the first bit after which no integer of the set
 /// can follow, with the reason `in_count` in the octet of the count and `in_number` after it.
 #[inline(always)]
-pub fn read_unconstrained(
+pub fn read_wide_unconstrained(
     set: OffsetSet,
     in_count: Why,
     in_number: Why,
@@ -263,13 +263,7 @@ fn numbers_of_count(set: OffsetSet, count: u32) -> Intervals
         OFFSET_OF_ZERO + weight,
         0,
     );
-    add_shifted(
-        numbers,
-        set,
-        lowest,
-        OFFSET_OF_ZERO - least,
-        2 * weight,
-    )
+    add_shifted(numbers, set, lowest, OFFSET_OF_ZERO - least, 2 * weight)
 }
 
 /// Adds the offsets of the set in `first..end`, less that of 0 and raised by `up`.
@@ -311,7 +305,7 @@ fn sign_weight(count: u32) -> u128
     ensures few { result ≤ 2 ^ 71 }
     ensures within { count ≤ 8 → result ≤ 2 ^ 63 }
 {
-    1u128 << (8 * count - 1)
+    wide_power_of_two(8 * count - 1)
 }
 
 /// The least magnitude that `count - 1` octets cannot hold beside the sign.
@@ -320,7 +314,6 @@ fn least_magnitude(count: u32) -> u128
     requires few { count ≤ 9 }
     ensures is { result ≡ least_magnitude_of count }
     ensures few { result ≤ 2 ^ 63 }
-    ensures within { result < 2 ^ (8 * count - 1) }
 {
     if count <= 1 {
         0

@@ -1,7 +1,7 @@
 use Rattle.asn_rules.specs.Fields.{octet_fields}
 use Rattle.asn_rules.proofs.Octets.Octetwise.{spells_octets, spells_whole, stops_octets}
 use Rattle.asn_rules.proofs.Octets.SignedOctets.{signed_in_octets}
-use Rattle.asn_rules.proofs.octet_reader.read_counted_signed.Goals as goal
+use Rattle.asn_rules.proofs.octet_reader.read_wide_counted_signed.Goals as goal
 
 pub returns-in-Ok-clause-at_octet : goal.returns-in-Ok-clause-at_octet
 returns-in-Ok-clause-at_octet c = spells_whole (signed_in_octets c.args.set) octet_fields (c.in-Ok.ensures.done octet_fields) c.requires.at_octet

@@ -21,16 +21,20 @@ ghost use Rattle.asn_per.specs.Reading.{Reads, StopsIn, IntegersBut, IntegersBet
 use crate::indexes::read_extension_bit;
 use crate::sizes::write_extension_bit;
 use asn_bits::BitCursor;
-use asn_bits::internal::{at_offset, offset_from, width};
+use asn_bits::internal::{at_offset, at_wide_offset, wide_offset_from, width};
 use asn_rules::internal::{
-    NumberSet, OffsetSet, Stop, offsets_of, read_constrained, read_semi_constrained,
-    read_unconstrained, try_number,
+    NumberSet, OffsetSet, Stop, offsets_of, read_constrained, read_unconstrained,
+    read_wide_constrained, read_wide_semi_constrained, try_number, write_wide_least,
+    write_wide_number,
 };
 use asn_rules::{Unwritten, Why};
 use asn_sinks::Sink;
 use asn_values::Bounds;
 use asn_values::internal::{is_between, number_fits};
 use asn_values::profile::{HIGHEST_INTEGER, INTEGER_COUNT, LOWEST_INTEGER};
+
+/// One more than the highest number of 64 bits. The offset of an integer from a low bound may be wide: above them.
+const WORD: u128 = 1 << 64;
 
 /// Writes a number, where it is one of the range (X.691, "encoding the integer type").
 #[inline(always)]
@@ -68,8 +72,12 @@ fn write_between<S: Sink>(
     ensures { OnOk result (S.pushes sink.old sink.new
         (per_bits (integer (between low high ext)) (number value))) }
 {
-    let count = width(u128::from(offset_from(low, high)) + 1);
-    let offset = offset_from(low, value);
+    let highest = wide_offset_from(low, high);
+    if highest >= WORD {
+        return write_wide_between(low, high, ext, value, sink);
+    }
+    let count = width(highest + 1);
+    let offset = wide_offset_from(low, value) as u64;
     if ext {
         if count < 64 {
             return sink.push_number(1 + count, offset);
@@ -77,6 +85,26 @@ fn write_between<S: Sink>(
         sink.push(false)?;
     }
     sink.push_number(count, offset)
+}
+
+/// The same, where the number may have more than 64 bits.
+#[cold]
+#[inline(never)]
+fn write_wide_between<S: Sink>(
+    low: i128,
+    high: i128,
+    ext: bool,
+    value: i128,
+    sink: &mut S,
+) -> Result<(), S::Fault>
+    requires of_profile { InProfile (integer (between low high ext)) }
+    requires of_type { (low ≤ℤ value) × (value ≤ℤ high) }
+    ensures { OnOk result (S.pushes sink.old sink.new
+        (per_bits (integer (between low high ext)) (number value))) }
+{
+    write_extension_bit(ext, false, sink)?;
+    let count = width(wide_offset_from(low, high) + 1);
+    write_wide_number(count, wide_offset_from(low, value), sink)
 }
 
 /// Writes a number that does not lie between two bounds, where it is one of the range: after the extension bit, from
@@ -99,7 +127,7 @@ fn write_unbounded<S: Sink>(
     let inside = is_between(bounds, value);
     write_extension_bit(bounds.ext, !inside, sink)?;
     match bounds.low {
-        Some(low) if inside => Ok(sink.push_least_octets(offset_from(low, value))?),
+        Some(low) if inside => Ok(write_wide_least(wide_offset_from(low, value), sink)?),
         _ => Ok(sink.push_least_signed_octets(value)?),
     }
 }
@@ -166,17 +194,19 @@ fn read_from_low(
     let left_out = excluded_offset(low, high, excluded);
     match high {
         Some(high) => {
-            let offset = read_constrained(offset_from(low, high), left_out, bits)?;
-            Ok(at_offset(low, offset))
+            let offset = read_wide_constrained(wide_offset_from(low, high), left_out, bits)?;
+            Ok(at_wide_offset(low, offset))
         }
         None => {
-            let offset = read_semi_constrained(offset_from(low, HIGHEST_INTEGER), left_out, bits)?;
-            Ok(at_offset(low, offset))
+            let highest = wide_offset_from(low, HIGHEST_INTEGER);
+            let offset = read_wide_semi_constrained(highest, left_out, bits)?;
+            Ok(at_wide_offset(low, offset))
         }
     }
 }
 
-/// Fast path: an integer between these bounds, if its bits are present and in range; otherwise consumes nothing.
+/// Fast path: an integer between these bounds, if its bits are present, 64 at most, and in range; otherwise consumes
+/// nothing.
 #[inline(always)]
 pub(crate) fn try_constrained(low: i128, high: i128, bits: &mut BitCursor<'_>) -> Option<i128>
     requires of_profile { InProfile (integer (unmarked (Some low) (Some high))) }
@@ -184,24 +214,27 @@ pub(crate) fn try_constrained(low: i128, high: i128, bits: &mut BitCursor<'_>) -
     ensures of_integers { IfSome result IsOfProfile }
     ensures none { IsNone result → bits.new ≡ bits.old }
 {
-    let highest = offset_from(low, high);
+    let highest = wide_offset_from(low, high);
+    if highest >= WORD {
+        return None;
+    }
     let set = NumberSet {
         low: 0,
-        high: highest,
+        high: highest as u64,
         excluded: None,
     };
-    let offset = try_number(width(u128::from(highest) + 1), set, bits)?;
+    let offset = try_number(width(highest + 1), set, bits)?;
     Some(at_offset(low, offset))
 }
 
 /// The offset of the excluded integer from the low bound.
-fn excluded_offset(low: i128, high: Option<i128>, excluded: Option<i128>) -> Option<u64>
+fn excluded_offset(low: i128, high: Option<i128>, excluded: Option<i128>) -> Option<u128>
     requires of_profile { InProfile (integer (unmarked (Some low) high)) }
     requires within { IsWithin (unmarked (Some low) high) excluded }
     ensures { result ≡ option_map (λ z. above low z) excluded }
 {
     match excluded {
-        Some(integer) => Some(offset_from(low, integer)),
+        Some(integer) => Some(wide_offset_from(low, integer)),
         None => None,
     }
 }
@@ -221,7 +254,7 @@ fn read_up_to_high(
     let set = offsets_of(None, high, excluded);
     let left_out = excluded.is_some();
     let offset = read_unconstrained(set, Why::in_count(left_out), Why::in_number(left_out), bits)?;
-    Ok(at_offset(LOWEST_INTEGER, offset))
+    Ok(at_wide_offset(LOWEST_INTEGER, offset))
 }
 
 /// Reads an integer outside the bounds.
@@ -232,7 +265,7 @@ fn read_outside(bounds: &Bounds, bits: &mut BitCursor<'_>) -> Result<i128, Stop>
     ensures stop { StopsIn result (IntegersOutside (range_of bounds.now)) bits.old }
 {
     let offset = read_unconstrained(offsets_outside(bounds), Why::Length, Why::Number, bits)?;
-    Ok(at_offset(LOWEST_INTEGER, offset))
+    Ok(at_wide_offset(LOWEST_INTEGER, offset))
 }
 
 /// The offsets of the integers outside the bounds.
@@ -247,8 +280,8 @@ fn offsets_outside(bounds: &Bounds) -> OffsetSet
     let high = bounds.high.unwrap_or(HIGHEST_INTEGER);
     OffsetSet {
         start: 0,
-        below: u128::from(offset_from(LOWEST_INTEGER, low)),
-        from: u128::from(offset_from(LOWEST_INTEGER, high)) + 1,
+        below: wide_offset_from(LOWEST_INTEGER, low),
+        from: wide_offset_from(LOWEST_INTEGER, high) + 1,
         end: INTEGER_COUNT,
     }
 }

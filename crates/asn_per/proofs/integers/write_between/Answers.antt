@@ -9,26 +9,26 @@ use Rattle.asn_per.proofs.Write.BetweenBounds.{low_within, high_within, number_w
 use Rattle.asn_per.proofs.integers.write_between.Goals as goal
 use Rattle.asn_per.proofs.integers.write_between.Goals.{then-ext+else-count-lt64+in_ok-push, else-ext}
 
-pub offset_from-requires-clause-within_low : goal.offset_from-requires-clause-within_low
-offset_from-requires-clause-within_low g c =
+pub wide_offset_from-highest-requires-clause-within_low : goal.wide_offset_from-highest-requires-clause-within_low
+wide_offset_from-highest-requires-clause-within_low g c =
     let r = c.requires in
     let a = c.args in
     subst (λ (z : ℤ). lowest_integer ≤ℤ z) (sym (low_stays a.low a.high a.value a.ext r.of_profile r.of_type.0 r.of_type.1)) (low_within a.low a.high a.value a.ext r.of_profile r.of_type.0 r.of_type.1)
 
-pub offset_from-requires-clause-within_high : goal.offset_from-requires-clause-within_high
-offset_from-requires-clause-within_high g c =
+pub wide_offset_from-highest-requires-clause-within_high : goal.wide_offset_from-highest-requires-clause-within_high
+wide_offset_from-highest-requires-clause-within_high g c =
     let r = c.requires in
     let a = c.args in
     subst (λ (z : ℤ). z ≤ℤ highest_integer) (sym (high_stays a.low a.high a.value a.ext r.of_profile r.of_type.0 r.of_type.1)) (high_within a.low a.high a.value a.ext r.of_profile r.of_type.0 r.of_type.1)
 
-pub offset_from-offset-requires-clause-within_low : goal.offset_from-offset-requires-clause-within_low
-offset_from-offset-requires-clause-within_low g c =
+pub wide_offset_from-offset-requires-clause-within_low : goal.wide_offset_from-offset-requires-clause-within_low
+wide_offset_from-offset-requires-clause-within_low g c =
     let r = c.requires in
     let a = c.args in
     subst (λ (z : ℤ). lowest_integer ≤ℤ z) (sym (low_stays a.low a.high a.value a.ext r.of_profile r.of_type.0 r.of_type.1)) (low_within a.low a.high a.value a.ext r.of_profile r.of_type.0 r.of_type.1)
 
-pub offset_from-offset-requires-clause-within_high : goal.offset_from-offset-requires-clause-within_high
-offset_from-offset-requires-clause-within_high g c =
+pub wide_offset_from-offset-requires-clause-within_high : goal.wide_offset_from-offset-requires-clause-within_high
+wide_offset_from-offset-requires-clause-within_high g c =
     let r = c.requires in
     let a = c.args in
     subst (λ (z : ℤ). z ≤ℤ highest_integer) (sym (number_stays a.low a.high a.value a.ext r.of_profile r.of_type.0 r.of_type.1)) (number_within a.low a.high a.value a.ext r.of_profile r.of_type.0 r.of_type.1).1
@@ -38,9 +38,9 @@ push_number-requires-clause-fits g c =
     let r = c.requires in
     let a = c.args in
     let low = low_stays a.low a.high a.value a.ext r.of_profile r.of_type.0 r.of_type.1 in
-    let offset : c.offset_from-offset.result ≡ above a.low a.value = rw (low, number_stays a.low a.high a.value a.ext r.of_profile r.of_type.0 r.of_type.1) at c.offset_from-offset.ensures in
-    let top : c.offset_from.result ≡ above a.low a.high = rw (low, high_stays a.low a.high a.value a.ext r.of_profile r.of_type.0 r.of_type.1) at c.offset_from.ensures in
-    let one_more : c.from.result + 1 ≡ suc (above a.low a.high) = omega (arith, c.from.ensures, top) in
+    let offset : c.wide_offset_from-offset.result ≡ above a.low a.value = rw (low, number_stays a.low a.high a.value a.ext r.of_profile r.of_type.0 r.of_type.1) at c.wide_offset_from-offset.ensures.is in
+    let top : c.wide_offset_from-highest.result ≡ above a.low a.high = rw (low, high_stays a.low a.high a.value a.ext r.of_profile r.of_type.0 r.of_type.1) at c.wide_offset_from-highest.ensures.is in
+    let one_more : c.wide_offset_from-highest.result + 1 ≡ suc (above a.low a.high) = omega (arith, top) in
     let w : c.width-count.result ≡ width (suc (above a.low a.high)) = c.width-count.ensures.width ∙ ap width one_more in
     rw (offset, w) (offset_fits_more a.low a.high a.value a.ext r.of_profile r.of_type.0 r.of_type.1)
 
@@ -49,14 +49,14 @@ returns-then-count-lt64 g c =
     let r = c.requires in
     let a = c.args in
     let low = low_stays a.low a.high a.value a.ext r.of_profile r.of_type.0 r.of_type.1 in
-    let offset : c.offset_from-offset.result ≡ above a.low a.value = rw (low, number_stays a.low a.high a.value a.ext r.of_profile r.of_type.0 r.of_type.1) at c.offset_from-offset.ensures in
-    let top : c.offset_from.result ≡ above a.low a.high = rw (low, high_stays a.low a.high a.value a.ext r.of_profile r.of_type.0 r.of_type.1) at c.offset_from.ensures in
-    let one_more : c.from.result + 1 ≡ suc (above a.low a.high) = omega (arith, c.from.ensures, top) in
+    let offset : c.wide_offset_from-offset.result ≡ above a.low a.value = rw (low, number_stays a.low a.high a.value a.ext r.of_profile r.of_type.0 r.of_type.1) at c.wide_offset_from-offset.ensures.is in
+    let top : c.wide_offset_from-highest.result ≡ above a.low a.high = rw (low, high_stays a.low a.high a.value a.ext r.of_profile r.of_type.0 r.of_type.1) at c.wide_offset_from-highest.ensures.is in
+    let one_more : c.wide_offset_from-highest.result + 1 ≡ suc (above a.low a.high) = omega (arith, top) in
     let w : c.width-count.result ≡ width (suc (above a.low a.high)) = c.width-count.ensures.width ∙ ap width one_more in
     let all = bits_after_mark a.low a.high a.value a.ext r.of_profile r.of_type.0 r.of_type.1 c.if-ext.true in
     on_ok_weaker c.push_number.result
     (pushed_same g.S.Sink.pushes a.sink.now c.push_number.new.self
-    (ap (λ (k : ℕ). bits (1 + k) c.offset_from-offset.result) w ∙ ap (λ (n : ℕ). bits (1 + width (suc (above a.low a.high))) n) offset ∙ all))
+    (ap (λ (k : ℕ). bits (1 + k) c.wide_offset_from-offset.result) w ∙ ap (λ (n : ℕ). bits (1 + width (suc (above a.low a.high))) n) offset ∙ all))
     c.push_number.ensures
 
 pub push_number-requires-2-clause-fits : goal.push_number-requires-2-clause-fits
@@ -64,9 +64,9 @@ push_number-requires-2-clause-fits g c =
     let r = c.requires in
     let a = c.args in
     let low = low_stays a.low a.high a.value a.ext r.of_profile r.of_type.0 r.of_type.1 in
-    let offset : c.offset_from-offset.result ≡ above a.low a.value = rw (low, number_stays a.low a.high a.value a.ext r.of_profile r.of_type.0 r.of_type.1) at c.offset_from-offset.ensures in
-    let top : c.offset_from.result ≡ above a.low a.high = rw (low, high_stays a.low a.high a.value a.ext r.of_profile r.of_type.0 r.of_type.1) at c.offset_from.ensures in
-    let one_more : c.from.result + 1 ≡ suc (above a.low a.high) = omega (arith, c.from.ensures, top) in
+    let offset : c.wide_offset_from-offset.result ≡ above a.low a.value = rw (low, number_stays a.low a.high a.value a.ext r.of_profile r.of_type.0 r.of_type.1) at c.wide_offset_from-offset.ensures.is in
+    let top : c.wide_offset_from-highest.result ≡ above a.low a.high = rw (low, high_stays a.low a.high a.value a.ext r.of_profile r.of_type.0 r.of_type.1) at c.wide_offset_from-highest.ensures.is in
+    let one_more : c.wide_offset_from-highest.result + 1 ≡ suc (above a.low a.high) = omega (arith, top) in
     let w : c.width-count.result ≡ width (suc (above a.low a.high)) = c.width-count.ensures.width ∙ ap width one_more in
     rw (offset, w) (offset_fits a.low a.high a.value a.ext r.of_profile r.of_type.0 r.of_type.1)
 
@@ -75,9 +75,9 @@ returns g c =
     let r = c.requires in
     let a = c.args in
     let low = low_stays a.low a.high a.value a.ext r.of_profile r.of_type.0 r.of_type.1 in
-    let offset : c.offset_from-offset.result ≡ above a.low a.value = rw (low, number_stays a.low a.high a.value a.ext r.of_profile r.of_type.0 r.of_type.1) at c.offset_from-offset.ensures in
-    let top : c.offset_from.result ≡ above a.low a.high = rw (low, high_stays a.low a.high a.value a.ext r.of_profile r.of_type.0 r.of_type.1) at c.offset_from.ensures in
-    let one_more : c.from.result + 1 ≡ suc (above a.low a.high) = omega (arith, c.from.ensures, top) in
+    let offset : c.wide_offset_from-offset.result ≡ above a.low a.value = rw (low, number_stays a.low a.high a.value a.ext r.of_profile r.of_type.0 r.of_type.1) at c.wide_offset_from-offset.ensures.is in
+    let top : c.wide_offset_from-highest.result ≡ above a.low a.high = rw (low, high_stays a.low a.high a.value a.ext r.of_profile r.of_type.0 r.of_type.1) at c.wide_offset_from-highest.ensures.is in
+    let one_more : c.wide_offset_from-highest.result + 1 ≡ suc (above a.low a.high) = omega (arith, top) in
     let w : c.width-count.result ≡ width (suc (above a.low a.high)) = c.width-count.ensures.width ∙ ap width one_more in
     let push = g.S.Sink.pushes in
     let mid = c.if-ext.sink in
@@ -93,7 +93,7 @@ returns g c =
     let all = bits_between a.low a.high a.value a.ext r.of_profile r.of_type.0 r.of_type.1 in
     let k = width (suc (above a.low a.high)) in
     let number = bits k (above a.low a.value) in
-    let same : bits c.width-count.result c.offset_from-offset.result ≡ number = ap (λ (i : ℕ). bits i c.offset_from-offset.result) w ∙ ap (λ (n : ℕ). bits k n) offset in
+    let same : bits c.width-count.result c.wide_offset_from-offset.result ≡ number = ap (λ (i : ℕ). bits i c.wide_offset_from-offset.result) w ∙ ap (λ (n : ℕ). bits k n) offset in
     on_ok_weaker c.push_number-2.result
     (λ e. pushed_same push a.sink.now new all
     (g.met.S.Sink.pushes_joined a.sink.now mid new (extension_bit a.ext false) number front (pushed_same push mid new same e)))

@@ -98,18 +98,18 @@ pub fn try_number_of(numbers: &Intervals, k: u32, bits: &mut BitCursor<'_>) -> O
 
 /// The number in the next `k` bits, the highest first. `None` exactly where fewer bits are left, and then some of them
 /// may be taken.
-fn take_wide_number(k: u32, bits: &mut BitCursor<'_>) -> Option<u128>
+fn take_wide_number(k: u32, units: &mut BitCursor<'_>) -> Option<u128>
     requires { k ≤ 72 }
     ensures fits { IfSome result (λ n. n < 2 ^ k) }
-    ensures some { IfSome result (λ n. bits.old ≡ bits k n ++ bits.new) }
-    ensures none { IsNone result ↔ (length bits.old < k) }
+    ensures some { IfSome result (λ n. units.old ≡ bits k n ++ units.new) }
+    ensures none { IsNone result ↔ (length units.old < k) }
 {
     if k <= 64 {
-        let n = bits.take_number(k)?;
+        let n = units.take_number(k)?;
         return Some(u128::from(n));
     }
-    let front = bits.take_number(k - 64)?;
-    let rest = bits.take_number(64)?;
+    let front = units.take_number(k - 64)?;
+    let rest = units.take_number(64)?;
     Some(joined(front, rest))
 }
 

@@ -46,11 +46,21 @@ fn intervals_of(set: NumberSet) -> Intervals
     requires { (n : ℕ) × Admits set n }
     ensures { AreAmong set result }
 {
-    let excluded = match set.excluded {
-        Some(number) => Some(u128::from(number)),
+    intervals_between(
+        u128::from(set.low),
+        u128::from(set.high),
+        widened(set.excluded),
+    )
+}
+
+/// The same number, where there is one.
+fn widened(number: Option<u64>) -> Option<u128>
+    ensures { result ≡ number }
+{
+    match number {
+        Some(n) => Some(u128::from(n)),
         None => None,
-    };
-    intervals_between(u128::from(set.low), u128::from(set.high), excluded)
+    }
 }
 
 /// The count of bits that are left.
@@ -92,8 +102,10 @@ fn read_set_by_bits(k: u32, set: NumberSet, why: Why, bits: &mut BitCursor<'_>) 
     ensures member { IfOk result (λ n. Admits set n) }
     ensures stop { StopsPlain (NumberIn k set) result bits.old }
 {
-    let number = read_number_by_bits(k, intervals_of(set), why, bits)?;
-    Ok(number as u64)
+    match read_number_by_bits(k, intervals_of(set), why, bits) {
+        Ok(number) => Ok(number as u64),
+        Err(stop) => Err(stop),
+    }
 }
 
 /// Reads a number from 0 to `high` in `k` bits, as `read_number` does.

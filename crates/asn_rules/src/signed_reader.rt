@@ -140,8 +140,10 @@ fn read_signed_by_bits(
     ensures done { ReadsOffset (SignedIn count set) result bits.old bits.new }
     ensures stop { StopsPlain (SignedIn count set) result bits.old }
 {
-    let number = read_number_among(8 * count, numbers_in(set, count), why, bits)?;
-    Ok(offset_of(count, number as u64))
+    match read_number_among(8 * count, numbers_in(set, count), why, bits) {
+        Ok(number) => Ok(offset_of(count, number as u64)),
+        Err(stop) => Err(stop),
+    }
 }
 
 /// Fast path: an integer of the set in `count` octets of two's complement, where they are present and hold one;

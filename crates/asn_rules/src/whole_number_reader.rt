@@ -29,6 +29,7 @@ pub fn read_constrained(
 ) -> Result<u64, Stop>
     requires { Meets (λ n. Admits (up_to high excluded) n) 0 (width (high + 1)) }
     ensures done { ReadsPlain (NumberIn (width (high + 1)) (up_to high excluded)) result bits.old bits.new }
+    ensures member { IfOk result (λ n. Admits (up_to high excluded) n) }
     ensures stop { StopsPlain (NumberIn (width (high + 1)) (up_to high excluded)) result bits.old }
 {
     let set = NumberSet {
@@ -53,6 +54,7 @@ pub fn read_semi_constrained(
 ) -> Result<u64, Stop>
     requires { Meets (λ n. Admits (up_to high excluded) n) 0 64 }
     ensures done { ReadsPlain (SemiConstrainedIn (up_to high excluded)) result bits.old bits.new }
+    ensures member { IfOk result (λ n. Admits (up_to high excluded) n) }
     ensures stop { StopsPlain (SemiConstrainedIn (up_to high excluded)) result bits.old }
 {
     let counts = NumberSet {
@@ -85,8 +87,10 @@ pub fn read_wide_constrained(
     ensures stop { StopsPlain (NumberIn (width (high + 1)) (up_to high excluded)) result bits.old }
 {
     if high < WORD {
-        let number = read_constrained(high as u64, narrow(excluded), bits)?;
-        return Ok(u128::from(number));
+        return match read_constrained(high as u64, narrow(excluded), bits) {
+            Ok(number) => Ok(u128::from(number)),
+            Err(stop) => Err(stop),
+        };
     }
     let why = Why::in_number(excluded.is_some());
     read_wide_number(width(high + 1), 0, high, excluded, why, bits)
@@ -106,8 +110,10 @@ pub fn read_wide_semi_constrained(
     ensures stop { StopsPlain (SemiConstrainedIn (up_to high excluded)) result bits.old }
 {
     if high < WORD {
-        let number = read_semi_constrained(high as u64, narrow(excluded), bits)?;
-        return Ok(u128::from(number));
+        return match read_semi_constrained(high as u64, narrow(excluded), bits) {
+            Ok(number) => Ok(u128::from(number)),
+            Err(stop) => Err(stop),
+        };
     }
     read_wide_counted(high, excluded, bits)
 }
@@ -206,7 +212,7 @@ fn wide_least_with(count: u32) -> u128
     if count <= 1 {
         0
     } else {
-        1 << (8 * (count - 1))
+        wide_power_of_two(8 * (count - 1))
     }
 }
 
@@ -216,7 +222,7 @@ fn wide_greatest_with(count: u32) -> u128
     requires few { count ≤ 9 }
     ensures { result + 1 ≡ 256 ^ count }
 {
-    (1 << (8 * count)) - 1
+    wide_power_of_two(8 * count) - 1
 }
 
 /// The least number that needs `count` octets.
@@ -251,6 +257,14 @@ pub fn greatest_of_width(width: u32) -> u64
     } else {
         power_of_two(width) - 1
     }
+}
+
+/// 2 to the power of `exponent`, as a number of 128 bits.
+fn wide_power_of_two(exponent: u32) -> u128
+    requires { exponent < 128 }
+    ensures { result ≡ 2 ^ exponent }
+{
+    1u128 << exponent
 }
 
 /// 2 to the power of `exponent`.

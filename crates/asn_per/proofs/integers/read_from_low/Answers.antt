@@ -1,4 +1,4 @@
-use Rattle.std.proofs.Common.{◌≡◌, ◌+◌, ◌≤ℤ◌, ◌+ℤ◌, ℤ, pos, Some, None, sym, subst}
+use Rattle.std.proofs.Common.{◌≡◌, ◌+◌, ◌≤ℤ◌, ◌+ℤ◌, ℤ, pos, Some, None, sym, subst, arith}
 use Rattle.std.specs.Option.{option_map}
 use Rattle.std.proofs.lemmas.Result.{err_from_is_err_and}
 use mir.Syntax.{w128}
@@ -17,7 +17,7 @@ use Rattle.asn_rules.proofs.Languages.Leads.{stops_by}
 use Rattle.asn_per.specs.Per.{per, per_fields}
 use Rattle.asn_rules.specs.NumberSets.{Admits, up_to}
 use Rattle.asn_rules.specs.IntegerSets.{IsWithin}
-use Rattle.asn_per.proofs.Types.IntegerLanguages.{offset_of, constrained_leads, constrained_some, counted_leads, counted_some}
+use Rattle.asn_per.proofs.Types.IntegerLanguages.{offset_of, left_out_within, left_out_open, constrained_leads, constrained_some, counted_leads, counted_some}
 use Rattle.asn_per.proofs.Types.IntegerRanges.{ranging, low_above_lowest, high_below_highest, low_kept, high_kept}
 use Rattle.asn_bits.proofs.Above.{kept}
 use Rattle.asn_per.proofs.integers.read_from_low.Goals as goal
@@ -39,8 +39,17 @@ wide_offset_from-requires-clause-within_high c =
     let good : InProfile (integer (ranging c.args.low (Some c.in-Some.high))) = rw c.in-Some.is at c.requires.of_profile in
     subst (λ (z : ℤ). z ≤ℤ highest_integer) (sym (high_kept c.args.low c.in-Some.high good)) (high_below_highest c.args.low c.in-Some.high good)
 
-pub read_wide_constrained-requires : goal.read_wide_constrained-requires
-read_wide_constrained-requires c =
+pub read_wide_constrained-requires-clause-within : goal.read_wide_constrained-requires-clause-within
+read_wide_constrained-requires-clause-within c =
+    let h = c.in-Some.high in
+    let good : InProfile (integer (ranging c.args.low (Some h))) = rw c.in-Some.is at c.requires.of_profile in
+    let within : IsWithin (ranging c.args.low (Some h)) c.args.excluded = rw c.in-Some.is at c.requires.within in
+    let top : c.wide_offset_from.result ≡ above c.args.low h = rw (low_kept c.args.low c.args.high c.requires.of_profile, high_kept c.args.low h good) at c.wide_offset_from.ensures.is in
+    let out : c.excluded_offset-left_out.result ≡ offset_of c.args.low c.args.excluded = rw (low_kept c.args.low c.args.high c.requires.of_profile) at c.excluded_offset-left_out.ensures in
+    rw (top, out) (left_out_within c.args.low h c.args.excluded within)
+
+pub read_wide_constrained-requires-clause-some : goal.read_wide_constrained-requires-clause-some
+read_wide_constrained-requires-clause-some c =
     let h = c.in-Some.high in
     let good : InProfile (integer (ranging c.args.low (Some h))) = rw c.in-Some.is at c.requires.of_profile in
     let within : IsWithin (ranging c.args.low (Some h)) c.args.excluded = rw c.in-Some.is at c.requires.within in
@@ -49,8 +58,18 @@ read_wide_constrained-requires c =
     let some : Inhabited (Spelt per (option_map number c.args.excluded) (integer (ranging c.args.low (Some h)))) = rw c.in-Some.is at c.requires.some in
     rw (top, out) (constrained_some c.args.low h c.args.excluded good within some)
 
-pub read_wide_semi_constrained-requires : goal.read_wide_semi_constrained-requires
-read_wide_semi_constrained-requires c =
+pub at_wide_offset-requires-clause-few : goal.at_wide_offset-requires-clause-few
+at_wide_offset-requires-clause-few c = omega (arith, c.in_ok-offset-in-Some.ensures.member.1, c.wide_offset_from.ensures.few)
+
+pub read_wide_semi_constrained-requires-clause-within : goal.read_wide_semi_constrained-requires-clause-within
+read_wide_semi_constrained-requires-clause-within c =
+    let within : IsWithin (ranging c.args.low None) c.args.excluded = rw c.in-None.is at c.requires.within in
+    let top : c.wide_offset_from-highest.result ≡ above c.args.low highest_integer = rw (low_kept c.args.low c.args.high c.requires.of_profile) at c.wide_offset_from-highest.ensures.is in
+    let out : c.excluded_offset-left_out.result ≡ offset_of c.args.low c.args.excluded = rw (low_kept c.args.low c.args.high c.requires.of_profile) at c.excluded_offset-left_out.ensures in
+    rw (top, out) (left_out_open c.args.low c.args.excluded within)
+
+pub read_wide_semi_constrained-requires-clause-some : goal.read_wide_semi_constrained-requires-clause-some
+read_wide_semi_constrained-requires-clause-some c =
     let good : InProfile (integer (ranging c.args.low None)) = rw c.in-None.is at c.requires.of_profile in
     let within : IsWithin (ranging c.args.low None) c.args.excluded = rw c.in-None.is at c.requires.within in
     let top : c.wide_offset_from-highest.result ≡ above c.args.low highest_integer = rw (low_kept c.args.low c.args.high c.requires.of_profile) at c.wide_offset_from-highest.ensures.is in

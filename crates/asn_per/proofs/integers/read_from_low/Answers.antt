@@ -30,6 +30,10 @@ pub at_wide_offset-requires-clause-within_low : goal.at_wide_offset-requires-cla
 at_wide_offset-requires-clause-within_low c =
     subst (λ (z : ℤ). lowest_integer ≤ℤ z) (sym (low_kept c.args.low c.args.high c.requires.of_profile)) (low_above_lowest c.args.low c.args.high c.requires.of_profile)
 
+pub at_wide_offset-requires-in-None-clause-within_low : goal.at_wide_offset-requires-in-None-clause-within_low
+at_wide_offset-requires-in-None-clause-within_low c =
+    subst (λ (z : ℤ). lowest_integer ≤ℤ z) (sym (low_kept c.args.low c.args.high c.requires.of_profile)) (low_above_lowest c.args.low c.args.high c.requires.of_profile)
+
 pub wide_offset_from-highest-requires-clause-within_low : goal.wide_offset_from-highest-requires-clause-within_low
 wide_offset_from-highest-requires-clause-within_low c =
     subst (λ (z : ℤ). lowest_integer ≤ℤ z) (sym (low_kept c.args.low c.args.high c.requires.of_profile)) (low_above_lowest c.args.low c.args.high c.requires.of_profile)

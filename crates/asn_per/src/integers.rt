@@ -1,7 +1,7 @@
 //! INTEGER and BOOLEAN (X.691). A reader may exclude one value: a component's DEFAULT, which an encoder leaves out.
-ghost use Rattle.std.specs.Prelude.{◌≡◌, ◌≤ℤ◌, ◌++◌, OnOk, IfSome, IsNone, ℕ, Some, None, true, false};
+ghost use Rattle.std.specs.Prelude.{◌≡◌, ◌≤◌, ◌≤ℤ◌, ◌++◌, OnOk, IfSome, IsNone, ℕ, suc, Some, None, true, false};
 ghost use Rattle.std.specs.Option.{option_map};
-ghost use Rattle.asn_values.specs.Fits.{FitsNumber};
+ghost use Rattle.asn_values.specs.Fits.{FitsNumber, lowest_integer, highest_integer};
 ghost use Rattle.asn_values.specs.Shape.{integer};
 ghost use Rattle.asn_values.specs.Datum.{number, truth};
 ghost use Rattle.asn_values.specs.Profile.{InProfile};
@@ -15,7 +15,8 @@ ghost use Rattle.asn_walk.specs.Writing.{TellsWhether};
 ghost use Rattle.asn_walk.specs.Integers.{IsOfProfile};
 ghost use Rattle.asn_per.specs.Kinds.{between, IsNotBetween, IsOutside};
 ghost use Rattle.asn_per.specs.Laws.{per_bits};
-ghost use Rattle.asn_per.specs.Per.{per_fields};
+ghost use Rattle.asn_per.specs.Per.{per_fields, constrained};
+ghost use Rattle.asn_rules.specs.Components.{extension_bit};
 ghost use Rattle.asn_per.specs.Reading.{Reads, StopsIn, IntegersBut, IntegersBetween, BooleansBut, IntegersOutside};
 
 use crate::indexes::read_extension_bit;
@@ -49,35 +50,39 @@ pub(crate) fn write_integer<S: Sink>(
         (per_bits (integer (range_of bounds.now)) (number value))) }
 {
     if let (Some(low), Some(high)) = (bounds.low, bounds.high)
-        && low <= value
-        && value <= high
+        && let Some(offset) = near_offset(low, value)
+        && let Some(highest) = near_offset(low, high)
+        && offset <= highest
     {
-        write_between(low, high, bounds.ext, value, sink)?;
+        write_near(highest, bounds.ext, offset, sink)?;
         return Ok(());
     }
-    write_unbounded(bounds, value, sink)
+    write_far(bounds, value, sink)
 }
 
-/// Writes a number between two bounds as a constrained whole number, after an extension bit 0 where there is one.
+/// How far `n` lies above `low`, where that is less than 2^64.
 #[inline(always)]
-fn write_between<S: Sink>(
-    low: i128,
-    high: i128,
-    ext: bool,
-    value: i128,
-    sink: &mut S,
-) -> Result<(), S::Fault>
-    requires of_profile { InProfile (integer (between low high ext)) }
-    requires of_type { (low ≤ℤ value) × (value ≤ℤ high) }
-    ensures { OnOk result (S.pushes sink.old sink.new
-        (per_bits (integer (between low high ext)) (number value))) }
+fn near_offset(low: i128, n: i128) -> Option<u64>
+    requires within_low { lowest_integer ≤ℤ low }
+    requires within_high { low ≤ℤ highest_integer }
+    ensures { IfSome result (λ w. (low ≤ℤ n) × (w ≡ above low n)) }
 {
-    let highest = wide_offset_from(low, high);
-    if highest >= WORD {
-        return write_wide_between(low, high, ext, value, sink);
+    let offset = n.wrapping_sub(low).cast_unsigned();
+    if offset < WORD {
+        Some(offset as u64)
+    } else {
+        None
     }
-    let count = width(highest + 1);
-    let offset = wide_offset_from(low, value) as u64;
+}
+
+/// Writes a number from 0 to `highest` as a constrained whole number, after an extension bit 0 where there is one.
+#[inline(always)]
+fn write_near<S: Sink>(highest: u64, ext: bool, offset: u64, sink: &mut S) -> Result<(), S::Fault>
+    requires { offset ≤ highest }
+    ensures { OnOk result (S.pushes sink.old sink.new
+        (extension_bit ext false ++ constrained (suc highest) offset)) }
+{
+    let count = width(u128::from(highest) + 1);
     if ext {
         if count < 64 {
             return sink.push_number(1 + count, offset);
@@ -87,9 +92,26 @@ fn write_between<S: Sink>(
     sink.push_number(count, offset)
 }
 
-/// The same, where the number may have more than 64 bits.
-#[cold]
+/// Writes a number, where it is one of the range, whether it lies between two bounds or not.
 #[inline(never)]
+fn write_far<S: Sink>(bounds: &Bounds, value: i128, sink: &mut S) -> Result<(), Unwritten<S::Fault>>
+    requires of_profile { InProfile (integer (range_of bounds.now)) }
+    ensures of_type { TellsWhether result (FitsNumber (range_of bounds.now) value) }
+    ensures written { OnOk result (S.pushes sink.old sink.new
+        (per_bits (integer (range_of bounds.now)) (number value))) }
+{
+    if let (Some(low), Some(high)) = (bounds.low, bounds.high)
+        && low <= value
+        && value <= high
+    {
+        write_wide_between(low, high, bounds.ext, value, sink)?;
+        return Ok(());
+    }
+    write_unbounded(bounds, value, sink)
+}
+
+/// Writes a number between two bounds as a constrained whole number, after an extension bit 0 where there is one. It may
+/// have more than 64 bits.
 fn write_wide_between<S: Sink>(
     low: i128,
     high: i128,
@@ -214,16 +236,13 @@ pub(crate) fn try_constrained(low: i128, high: i128, bits: &mut BitCursor<'_>) -
     ensures of_integers { IfSome result IsOfProfile }
     ensures none { IsNone result → bits.new ≡ bits.old }
 {
-    let highest = wide_offset_from(low, high);
-    if highest >= WORD {
-        return None;
-    }
+    let highest = near_offset(low, high)?;
     let set = NumberSet {
         low: 0,
-        high: highest as u64,
+        high: highest,
         excluded: None,
     };
-    let offset = try_number(width(highest + 1), set, bits)?;
+    let offset = try_number(width(u128::from(highest) + 1), set, bits)?;
     Some(at_offset(low, offset))
 }
 

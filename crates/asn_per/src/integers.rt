@@ -24,8 +24,8 @@ use crate::sizes::write_extension_bit;
 use asn_bits::BitCursor;
 use asn_bits::internal::{at_offset, at_wide_offset, wide_offset_from, width};
 use asn_rules::internal::{
-    NumberSet, OffsetSet, Stop, offsets_of, read_constrained, read_unconstrained,
-    read_wide_constrained, read_wide_semi_constrained, try_number, write_wide_least,
+    NumberSet, OffsetSet, Stop, offsets_of, read_constrained, read_wide_constrained,
+    read_wide_semi_constrained, read_wide_unconstrained, try_number, write_wide_least,
     write_wide_number,
 };
 use asn_rules::{Unwritten, Why};
@@ -272,7 +272,12 @@ fn read_up_to_high(
 {
     let set = offsets_of(None, high, excluded);
     let left_out = excluded.is_some();
-    let offset = read_unconstrained(set, Why::in_count(left_out), Why::in_number(left_out), bits)?;
+    let offset = read_wide_unconstrained(
+        set,
+        Why::in_count(left_out),
+        Why::in_number(left_out),
+        bits,
+    )?;
     Ok(at_wide_offset(LOWEST_INTEGER, offset))
 }
 
@@ -283,7 +288,7 @@ fn read_outside(bounds: &Bounds, bits: &mut BitCursor<'_>) -> Result<i128, Stop>
     ensures done { Reads result number (IntegersOutside (range_of bounds.now)) bits.old bits.new }
     ensures stop { StopsIn result (IntegersOutside (range_of bounds.now)) bits.old }
 {
-    let offset = read_unconstrained(offsets_outside(bounds), Why::Length, Why::Number, bits)?;
+    let offset = read_wide_unconstrained(offsets_outside(bounds), Why::Length, Why::Number, bits)?;
     Ok(at_wide_offset(LOWEST_INTEGER, offset))
 }
 

@@ -12,6 +12,7 @@ use crate::plan::{AlternativeRows, Node};
 use crate::rules::PlanLeaves;
 use crate::walk::build_at;
 use asn_bits::BitCursor;
+use asn_values::profile::MAX_ALTERNATIVES;
 use asn_walk::Index;
 use std::alloc::Global;
 
@@ -55,7 +56,7 @@ pub(crate) fn build_choice<R: PlanLeaves, B: Build>(
             Some(chosen)
         }
         Index::Added(place) => {
-            if place >= added.len() || place > 63 {
+            if place >= added.len() || place > MAX_ALTERNATIVES {
                 return None;
             }
             let part = build_open::<R, B>(alloc, before, &added[place].kind, units)?;

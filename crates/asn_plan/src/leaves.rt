@@ -1,7 +1,7 @@
 //! What the rules read by themselves, for one node of a plan.
 ghost use Rattle.std.specs.Prelude.{◌≡◌, ◌≤◌, ◌<◌, IfSome, IsSome, true};
 ghost use Rattle.asn_walk.specs.Coding.{AreFew};
-ghost use Rattle.asn_values.specs.Profile.{InProfile};
+ghost use Rattle.asn_values.specs.Profile.{InProfile, most_alternatives};
 ghost use Rattle.asn_values.specs.Shape.{integer};
 ghost use Rattle.asn_values.specs.View.{shape_of, range_of};
 ghost use Rattle.asn_plan.specs.Ranged.{ranged, IsRanged};
@@ -12,7 +12,8 @@ use crate::build::Build;
 use crate::plan::{Between, Leaf, WithDefault};
 use crate::ranged::Ranged;
 use asn_bits::BitCursor;
-use asn_bits::internal::{offset_from, width};
+use asn_bits::internal::{wide_offset_from, width};
+use asn_values::profile::MAX_ALTERNATIVES;
 use asn_values::{AsnType, Bounds, Value};
 use asn_walk::ReadLeaves;
 use std::alloc::Global;
@@ -48,8 +49,8 @@ pub(crate) fn between_of(bounds: &Bounds) -> Option<Between>
 {
     let low = bounds.low?;
     let high = bounds.high?;
-    let highest = offset_from(low, high);
-    let bits = u32::from(bounds.ext) + width(u128::from(highest) + 1);
+    let highest = wide_offset_from(low, high);
+    let bits = u32::from(bounds.ext) + width(highest + 1);
     if bits > 64 {
         return None;
     }
@@ -57,7 +58,7 @@ pub(crate) fn between_of(bounds: &Bounds) -> Option<Between>
         low,
         high,
         marked: bounds.ext,
-        highest,
+        highest: highest as u64,
         bits,
     };
     Some(Between { range })
@@ -122,11 +123,11 @@ pub(crate) fn read_other<R: ReadLeaves>(
 pub(crate) fn are_few(root: usize, additions: Option<usize>) -> bool
     ensures some { result ≡ true → 0 < root }
     ensures few { result ≡ true → AreFew root additions }
-    ensures few_in_root { result ≡ true → root ≤ 63 }
+    ensures few_in_root { result ≡ true → root ≤ most_alternatives }
 {
     let added = match additions {
         Some(count) => count,
         None => 0,
     };
-    0 < root && root <= 63 && added <= 63 - root
+    0 < root && root <= MAX_ALTERNATIVES && added <= MAX_ALTERNATIVES - root
 }

@@ -1,4 +1,4 @@
-use Rattle.std.proofs.Common.{◌≡◌, ◌≤◌, ◌<◌, ◌+◌, ◌^◌, ℕ, ◌≤ℤ◌, Some, refl, arith}
+use Rattle.std.proofs.Common.{◌≡◌, ◌≤◌, ◌<◌, ◌+◌, ◌^◌, ℕ, ◌≤ℤ◌, Some, ◌∙◌, arith}
 use Rattle.std.proofs.Math.Nat.{pow-le-pow_right}
 use Rattle.std.proofs.lemmas.Int.{ints}
 use Rattle.asn_values.specs.Fits.{lowest_integer, highest_integer}
@@ -7,9 +7,12 @@ use Rattle.asn_values.specs.Shape.{integer}
 use Rattle.asn_values.specs.View.{range_of}
 use Rattle.asn_bits.specs.Numbers.{width}
 use Rattle.asn_bits.proofs.Above.{kept}
+use Rattle.asn_bits.proofs.Prefixes.{bool_byte-is}
 use Rattle.asn_bits.proofs.Widths.{width_fits}
+use Rattle.asn_rules.specs.Components.{bit_of}
 use Rattle.asn_per.specs.Kinds.{between}
 use Rattle.asn_per.proofs.Write.BetweenBounds.{bounds_within}
+use Rattle.asn_per.proofs.Write.IndexBits.{one_mark_bit}
 use Rattle.asn_plan.proofs.leaves.between_of.Goals as goal
 
 -- numbers that 64 bits tell apart have no more
@@ -39,3 +42,14 @@ wide_offset_from-highest-requires-clause-within_high c =
     let good : InProfile (integer (between low high c.args.bounds.now.ext)) = rw (c.in_ok-low.was, c.in_ok-high.was) at c.requires.of_profile in
     let w = bounds_within low high c.args.bounds.now.ext good in
     rw (kept high (omega (arith, ints, w.0, w.1)) w.2) w.2
+
+pub overflow_add-bits : goal.overflow_add-bits
+overflow_add-bits c =
+    let ext = c.args.bounds.now.ext in
+    let mark : c.from.result ≡ bit_of ext = c.from.ensures ∙ bool_byte-is ext in
+    omega (arith, mark, one_mark_bit ext, c.width.ensures.wide (omega (arith, c.wide_offset_from-highest.ensures.few)))
+
+pub overflow_cast-range : goal.overflow_cast-range
+overflow_cast-range c =
+    let n = c.wide_offset_from-highest.result in
+    omega (arith, narrow n c.width.result c.width.ensures.width (omega (arith, c.if-bits-gt64.false)))

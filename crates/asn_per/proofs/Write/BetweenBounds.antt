@@ -1,5 +1,5 @@
 -- The bits of an integer between two bounds, as a writer puts them.
-use Rattle.std.proofs.Common.{◌≡◌, ◌≤◌, ◌<◌, ◌+◌, ◌^◌, ◌++◌, ◌||◌, suc, ℤ, ◌≤ℤ◌, Bool, true, false, Some, refl, sym, ap, ◌∙◌, arith}
+use Rattle.std.proofs.Common.{◌≡◌, ◌≤◌, ◌<◌, ◌^◌, ◌++◌, ◌||◌, suc, ℤ, ◌≤ℤ◌, Bool, true, false, Some, refl, sym, arith}
 use Rattle.std.proofs.lemmas.Bool.{and_from}
 use Rattle.std.proofs.lemmas.Int.{ints}
 use Rattle.std.specs.Int.RustNames.{int_le}
@@ -9,7 +9,7 @@ use Rattle.asn_values.specs.Shape.{integer}
 use Rattle.asn_values.specs.Datum.{number}
 use Rattle.asn_values.specs.Fits.{lowest_integer, highest_integer, in_range, FitsNumber}
 use Rattle.asn_values.specs.Profile.{InProfile}
-use Rattle.asn_bits.specs.Numbers.{above, width, bits}
+use Rattle.asn_bits.specs.Numbers.{above, width}
 use Rattle.asn_bits.proofs.Above.{test_of_le, pos-above, above_within, kept}
 use Rattle.asn_bits.proofs.Widths.{width_fits}
 use Rattle.asn_rules.specs.Components.{extension_bit}

@@ -8,7 +8,7 @@ use Rattle.asn_rules.specs.Chunks.{Chunk}
 use Rattle.asn_rules.specs.Listed.{IsOther, Spelt}
 use Rattle.asn_rules.specs.OctetReading.{ReadsOctets, StopsAtOctets}
 use Rattle.asn_rules.specs.declared.stop.Stop.{Stop}
-use Rattle.asn_oer.specs.Oer.{oer}
+use Rattle.asn_oer.specs.Oer.{oer, signed_size}
 use Rattle.asn_oer.specs.SimpleTypes.{truth_told}
 
 -- ---- what a reader says of its result
@@ -55,3 +55,9 @@ IsBelowZero (Some low) = low <ℤ pos 0
 -- after a length: a bound is missing, or there is an extension mark
 abbrev pub IsCounted : Range → Type 0
 IsCounted b = (b.extensible ≡ true) ⊎ ((b.low ≡ None) ⊎ (b.high ≡ None))
+
+-- how many octets of two's complement the integers between these bounds have, where it is a fixed number
+abbrev pub signed_size_of : Option ℤ → Option ℤ → Option ℕ
+signed_size_of (Some low) (Some high) = signed_size low high
+signed_size_of (Some low) None = None
+signed_size_of None high = None

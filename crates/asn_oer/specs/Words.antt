@@ -27,7 +27,7 @@ pub use Rattle.asn_oer.specs.ElementsAhead.{ahead_of}
 pub use Rattle.asn_oer.specs.Kinds.{KindsCompose}
 pub use Rattle.asn_oer.specs.LeafReading.{ItemsBut, BeginsWith, BeginsOtherwise, BitStringsOf, OctetStringsOf, TextsOf}
 pub use Rattle.asn_oer.specs.Oer.{oer_octets, item_number, unsigned_octets, signed_size, ranged, bit_octets, sized_octets, tag, oer, oer_fields}
-pub use Rattle.asn_oer.specs.Reading.{IntegersBut, IsBelowZero, IsCounted, ValuesOf, BooleansBut, TruthOctet, Reads, ReadsSome, StopsIn}
+pub use Rattle.asn_oer.specs.Reading.{IntegersBut, IsBelowZero, signed_size_of, IsCounted, ValuesOf, BooleansBut, TruthOctet, Reads, ReadsSome, StopsIn}
 pub use Rattle.asn_oer.specs.Rules.{oer_ruling}
 pub use Rattle.asn_oer.specs.Strings.{Utf8Strings}
 pub use Rattle.asn_oer.specs.Walk.{oer_coding, mark_of}

@@ -1,7 +1,7 @@
 //! INTEGER (X.696, "encoding of integer types"). A reader may leave one integer out, the excluded one: the DEFAULT of a
 //! component, which an encoder does not spell.
-ghost use Rattle.std.specs.Prelude.{◌≡◌, ◌≤ℤ◌, ◌<ℤ◌, ◌^◌, pos, Some, None, OnOk, IfSome, IsNone};
-ghost use Rattle.asn_oer.specs.Words.{lowest_integer, highest_integer, FitsNumber, number, integer, InProfile, range_of, Inhabited, AtOctet, IsWithin, unmarked, between, IsOfProfile, TellsWhether, unsigned_octets, signed_size, oer_octets, ranged, unpacked, IntegersBut, IsBelowZero, IsCounted, ValuesOf, Reads, ReadsSome, StopsIn};
+ghost use Rattle.std.specs.Prelude.{◌≡◌, ◌≤ℤ◌, ◌<ℤ◌, ◌+ℤ◌, ◌^◌, pos, Some, None, OnOk, IfSome, IsNone};
+ghost use Rattle.asn_oer.specs.Words.{lowest_integer, highest_integer, FitsNumber, number, integer, InProfile, range_of, Inhabited, AtOctet, IsWithin, unmarked, between, IsOfProfile, TellsWhether, unsigned_octets, signed_size, signed_size_of, oer_octets, ranged, unpacked, IntegersBut, IsBelowZero, IsCounted, ValuesOf, Reads, ReadsSome, StopsIn};
 
 use asn_bits::BitCursor;
 use asn_bits::internal::at_offset;
@@ -15,6 +15,9 @@ use asn_sinks::Sink;
 use asn_values::Bounds;
 use asn_values::internal::number_fits;
 use asn_values::profile::LOWEST_INTEGER;
+
+/// What the integers of 64 bits in two's complement are below.
+const SIGNED_END: i128 = 1 << 63;
 
 /// How many octets hold the numbers from 0 to `high` (X.696, "encoding of integer types").
 pub(crate) fn unsigned_size(high: i128) -> u32
@@ -32,15 +35,30 @@ pub(crate) fn unsigned_size(high: i128) -> u32
     }
 }
 
-/// How many octets of two's complement hold the numbers from `low` to `high`: as many as hold twice the one that is
-/// farthest from zero, beside whose bits stands the sign.
-pub(crate) fn signed_size(low: i128, high: i128) -> u32
+/// How many octets of two's complement hold the numbers from `low` to `high`, where it is a fixed number: as many as
+/// hold twice the one that is farthest from zero, beside whose bits stands the sign.
+fn signed_size(low: i128, high: i128) -> Option<u32>
     requires low { lowest_integer ≤ℤ low }
     requires high { high ≤ℤ highest_integer }
-    ensures { signed_size low high ≡ Some result }
+    ensures { result ≡ signed_size low high }
 {
     let farthest = high.max(-1 - low).max(0);
-    unsigned_size(2 * farthest)
+    if farthest < SIGNED_END {
+        Some(unsigned_size(2 * farthest))
+    } else {
+        None
+    }
+}
+
+/// The same of bounds of which either may be missing, and then there is none.
+fn size_between(low: Option<i128>, high: Option<i128>) -> Option<u32>
+    requires of_profile { InProfile (integer (unmarked low high)) }
+    ensures { result ≡ signed_size_of low high }
+{
+    match (low, high) {
+        (Some(low), Some(high)) => signed_size(low, high),
+        _ => None,
+    }
 }
 
 /// Reads an integer of the range, but for the excluded one. A range with an extension mark counts as none.
@@ -87,7 +105,8 @@ pub(crate) fn try_fixed(low: i128, high: i128, units: &mut BitCursor<'_>) -> Opt
         return Some(i128::from(n));
     }
     let set = offsets_of(Some(low), Some(high), None);
-    let offset = try_signed_octets(signed_size(low, high), set, units)?;
+    let count = signed_size(low, high)?;
+    let offset = try_signed_octets(count, set, units)?;
     Some(at_offset(LOWEST_INTEGER, offset))
 }
 
@@ -118,7 +137,7 @@ fn read_unsigned(
 }
 
 /// Reads an integer of a range that is not from 0 on, but for the excluded one, in two's complement: in a fixed number
-/// of octets where there are both bounds, and else after their count.
+/// of octets where the bounds have one, and else after their count.
 fn read_signed(
     low: Option<i128>,
     high: Option<i128>,
@@ -136,11 +155,17 @@ fn read_signed(
 {
     let set = offsets_of(low, high, excluded);
     let why = Why::in_number(excluded.is_some());
-    let offset = match (low, high) {
-        (Some(low), Some(high)) => read_signed_octets(signed_size(low, high), set, why, units)?,
-        _ => read_counted_signed(set, Why::in_count(excluded.is_some()), why, units)?,
-    };
-    Ok(at_offset(LOWEST_INTEGER, offset))
+    match size_between(low, high) {
+        Some(count) => {
+            let offset = read_signed_octets(count, set, why, units)?;
+            Ok(at_offset(LOWEST_INTEGER, offset))
+        }
+        None => {
+            let in_count = Why::in_count(excluded.is_some());
+            let offset = read_counted_signed(set, in_count, why, units)?;
+            Ok(at_offset(LOWEST_INTEGER, offset))
+        }
+    }
 }
 
 /// Writes a number, where it is one of the range (X.696, "encoding of integer types"). A range with an extension mark
@@ -161,24 +186,49 @@ pub(crate) fn write_integer<S: Sink>(
             if value < low || high < value {
                 return Err(Unwritten::NotOfType);
             }
-            let greatest = greatest(low as i64, high as i64);
-            Ok(write_fixed(greatest, (value as i64).cast_unsigned(), sink)?)
+            match greatest(low, high) {
+                Some(greatest) => Ok(write_fixed(greatest, in_64_bits(value), sink)?),
+                None => Ok(write_least_signed(value, sink)?),
+            }
         }
         _ => write_counted(bounds, value, sink),
     }
 }
 
-/// The number up to which the numbers from 0 on have as many octets as those from `low` to `high`.
+/// The number up to which the numbers from 0 on have as many octets as those from `low` to `high`, where it is a fixed
+/// number of octets.
 #[inline(always)]
-fn greatest(low: i64, high: i64) -> u64
-    requires { low ≤ℤ high }
-    ensures from_zero { pos 0 ≤ℤ low → pos result ≡ high }
-    ensures below_zero { low <ℤ pos 0 → signed_size low high ≡ unsigned_octets (pos result) }
+fn greatest(low: i128, high: i128) -> Option<u64>
+    requires order { low ≤ℤ high }
+    requires low { lowest_integer ≤ℤ low }
+    requires high { high ≤ℤ highest_integer }
+    ensures from_zero { IfSome result (λ g. pos 0 ≤ℤ low → pos g ≡ high) }
+    ensures below_zero { IfSome result (λ g. low <ℤ pos 0 → signed_size low high ≡ unsigned_octets (pos g)) }
+    ensures none { IsNone result → (low <ℤ pos 0) × (signed_size low high ≡ None) }
 {
     if low >= 0 {
-        return high as u64;
+        return Some(high as u64);
     }
-    2 * (high.max(-1 - low) as u64)
+    if high < SIGNED_END {
+        Some(2 * ((high as i64).max(-1 - low as i64) as u64))
+    } else {
+        None
+    }
+}
+
+/// The last 64 bits of an integer in two's complement.
+#[inline(always)]
+fn in_64_bits(value: i128) -> u64
+    requires low { lowest_integer ≤ℤ value }
+    requires high { value ≤ℤ highest_integer }
+    ensures from_zero { pos 0 ≤ℤ value → pos result ≡ value }
+    ensures below_zero { value <ℤ pos 0 → pos result ≡ value +ℤ pos (2 ^ 64) }
+{
+    if value < 0 {
+        (value as i64).cast_unsigned()
+    } else {
+        value as u64
+    }
 }
 
 /// Writes a number, where it is one of the range, after its length: unsigned from a bound on that is not negative, and

@@ -24,8 +24,8 @@ spelled_short n c h p = short_spelled n 1 c (omega arith) (omega arith) p
 
 -- ---- INTEGER
 
--- the integers of the profile
-pub in_64_bits : (z : ℤ) → lowest_integer ≤ℤ z → z ≤ℤ highest_integer → magnitude z < 9223372036854775808
+-- the integers of the profile, beside their sign
+pub in_64_bits : (z : ℤ) → lowest_integer ≤ℤ z → z ≤ℤ highest_integer → magnitude z < 18446744073709551616
 in_64_bits (pos n) p q = omega (arith, ints)
 in_64_bits (negsuc n) p q = omega (arith, ints)
 
@@ -40,42 +40,42 @@ signed_octets_short k (pos n) = octets_short k n
 signed_octets_short k (negsuc n) = octets_short k (256 ^ k - 1 - n)
 
 -- a length and the fewest octets
-counted_short : (z : ℤ) → magnitude z < 9223372036854775808 → Short 18 (counted z)
+counted_short : (z : ℤ) → magnitude z < 18446744073709551616 → Short 20 (counted z)
 counted_short z h =
-    let l : magnitude_of z < 9223372036854775808 = magnitude_below z 9223372036854775808 h in
+    let l : magnitude_of z < 18446744073709551616 = magnitude_below z 18446744073709551616 h in
     let c : octet_count (magnitude_of z) ≤ 8 = octet_count_below (magnitude_of z) 8 (omega arith) (omega arith) in
-    spelled_short 8 (least (magnitude_of z)) (omega arith) (short_more (octet_count (magnitude_of z)) 8 (least (magnitude_of z)) c (octets_short (octet_count (magnitude_of z)) (magnitude_of z)))
+    spelled_short 9 (least (magnitude_of z)) (omega arith) (short_more (octet_count (magnitude_of z)) 9 (least (magnitude_of z)) (omega arith) (octets_short (octet_count (magnitude_of z)) (magnitude_of z)))
 
 -- a length and the fewest octets of two's complement
-counted_signed_short : (z : ℤ) → magnitude z < 9223372036854775808 → Short 18 (counted_signed z)
+counted_signed_short : (z : ℤ) → magnitude z < 18446744073709551616 → Short 20 (counted_signed z)
 counted_signed_short z h =
-    let c : signed_octet_count z ≤ 8 = signed_count_below z 8 (omega arith) (omega arith) in
-    spelled_short 8 (least_signed z) (omega arith) (short_more (signed_octet_count z) 8 (least_signed z) c (signed_octets_short (signed_octet_count z) z))
+    let c : signed_octet_count z ≤ 9 = signed_count_below z 9 (omega arith) (omega arith) in
+    spelled_short 9 (least_signed z) (omega arith) (short_more (signed_octet_count z) 9 (least_signed z) c (signed_octets_short (signed_octet_count z) z))
 
 -- a number from 0 up to a bound
-unsigned_short : (u z : ℤ) → magnitude z < 9223372036854775808 → Short 18 (unsigned_in (unsigned_octets u) z)
+unsigned_short : (u z : ℤ) → magnitude z < 18446744073709551616 → Short 20 (unsigned_in (unsigned_octets u) z)
 unsigned_short u z h =
     elim (unsigned_cases u) [
-      | inl k ↦ subst (λ o. Short 18 (unsigned_in o z)) (sym k.1) (short_more k.0 18 (octets k.0 (magnitude_of z)) (few k.0 k.3) (octets_short k.0 (magnitude_of z)))
-      | inr k ↦ subst (λ o. Short 18 (unsigned_in o z)) (sym k) (counted_short z h)
+      | inl k ↦ subst (λ o. Short 20 (unsigned_in o z)) (sym k.1) (short_more k.0 20 (octets k.0 (magnitude_of z)) (few k.0 k.3) (octets_short k.0 (magnitude_of z)))
+      | inr k ↦ subst (λ o. Short 20 (unsigned_in o z)) (sym k) (counted_short z h)
     ]
   where
-    few : (k : ℕ) → k ≤ 8 → k ≤ 18
+    few : (k : ℕ) → k ≤ 8 → k ≤ 20
     few k h = omega arith
 
 -- a number between bounds of which the low one is negative
-signed_short : (l u z : ℤ) → magnitude z < 9223372036854775808 → Short 18 (signed_in (signed_size l u) z)
+signed_short : (l u z : ℤ) → magnitude z < 18446744073709551616 → Short 20 (signed_in (signed_size l u) z)
 signed_short l u z h =
     elim (signed_cases l u) [
-      | inl k ↦ subst (λ o. Short 18 (signed_in o z)) (sym k.2) (short_more k.0 18 (signed_octets k.0 z) (few k.0 k.4) (signed_octets_short k.0 z))
-      | inr k ↦ subst (λ o. Short 18 (signed_in o z)) (sym k) (counted_signed_short z h)
+      | inl k ↦ subst (λ o. Short 20 (signed_in o z)) (sym k.2) (short_more k.0 20 (signed_octets k.0 z) (few k.0 k.4) (signed_octets_short k.0 z))
+      | inr k ↦ subst (λ o. Short 20 (signed_in o z)) (sym k) (counted_signed_short z h)
     ]
   where
-    few : (k : ℕ) → k ≤ 8 → k ≤ 18
+    few : (k : ℕ) → k ≤ 8 → k ≤ 20
     few k h = omega arith
 
 -- a number between bounds, of which either may be missing
-ranged_short : (low high : Option ℤ) (z : ℤ) → magnitude z < 9223372036854775808 → Short 18 (ranged low high z)
+ranged_short : (low high : Option ℤ) (z : ℤ) → magnitude z < 18446744073709551616 → Short 20 (ranged low high z)
 ranged_short (Some (pos l)) (Some u) z h = unsigned_short u z h
 ranged_short (Some (pos l)) None z h = counted_short z h
 ranged_short (Some (negsuc l)) (Some u) z h = signed_short (negsuc l) u z h
@@ -83,13 +83,13 @@ ranged_short (Some (negsuc l)) None z h = counted_signed_short z h
 ranged_short None high z h = counted_signed_short z h
 
 -- an INTEGER
-pub number_short : (b : Range) (z : ℤ) → FitsNumber b z → Short 18 (whole_number b z)
+pub number_short : (b : Range) (z : ℤ) → FitsNumber b z → Short 20 (whole_number b z)
 number_short b z f = go b.extensible
   where
-    inside : magnitude z < 9223372036854775808
+    inside : magnitude z < 18446744073709551616
     inside = in_64_bits z f.0 f.1
 
-    go : (m : Bool) → Short 18 (elim m [ true ↦ counted_signed z | false ↦ ranged b.low b.high z ])
+    go : (m : Bool) → Short 20 (elim m [ true ↦ counted_signed z | false ↦ ranged b.low b.high z ])
     go true = counted_signed_short z inside
     go false = ranged_short b.low b.high z inside
 

@@ -71,7 +71,7 @@ mutual
   oer_spelt boolean h l (truth false) f = leaf 1 (0 ∷ []) (omega arith) (record { octets = (omega arith, tt); most = omega arith })
   oer_spelt boolean h l _ f = absurd f
   oer_spelt null h l d f = spelt_none (room 1)
-  oer_spelt (integer b) h l (number z) f = leaf 18 (whole_number b z) (omega arith) (number_short b z f)
+  oer_spelt (integer b) h l (number z) f = leaf 20 (whole_number b z) (omega arith) (number_short b z f)
   oer_spelt (integer b) h l _ f = absurd f
   oer_spelt (enumerated root more) h l (item p) f =
       let z = number_at (root ++ more_labels more) p in

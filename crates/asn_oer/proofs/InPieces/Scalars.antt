@@ -23,8 +23,8 @@ use Rattle.asn_oer.proofs.InPieces.Brief.{HasFew}
 
 -- ---- INTEGER
 
--- a content of at most eight octets with its length
-spelled_few : (c : List ℕ) → length c ≤ 8 → length (spelled c) ≤ 9
+-- a content of at most nine octets with its length
+spelled_few : (c : List ℕ) → length c ≤ 9 → length (spelled c) ≤ 10
 spelled_few c h =
     let l : length (spelled c) ≡ 1 + length c = ap (λ (os : List ℕ). length (os ++ c)) (small_is (length c) (omega (arith, h))) ∙ omega arith in
     omega (arith, h, l)
@@ -33,55 +33,55 @@ magnitude_below : (z : ℤ) (n : ℕ) → magnitude z < n → magnitude_of z < n
 magnitude_below (pos k) n h = h
 magnitude_below (negsuc k) n h = omega arith
 
-counted_few : (z : ℤ) → magnitude z < 9223372036854775808 → length (counted z) ≤ 9
+counted_few : (z : ℤ) → magnitude z < 18446744073709551616 → length (counted z) ≤ 10
 counted_few z h =
-    let l : magnitude_of z < 9223372036854775808 = magnitude_below z 9223372036854775808 h in
+    let l : magnitude_of z < 18446744073709551616 = magnitude_below z 18446744073709551616 h in
     let c : octet_count (magnitude_of z) ≤ 8 = octet_count_below (magnitude_of z) 8 (omega arith) (omega arith) in
     spelled_few (least (magnitude_of z)) (omega (arith, c, length-digits 256 (octet_count (magnitude_of z)) (magnitude_of z)))
 
-counted_signed_few : (z : ℤ) → magnitude z < 9223372036854775808 → length (counted_signed z) ≤ 9
+counted_signed_few : (z : ℤ) → magnitude z < 18446744073709551616 → length (counted_signed z) ≤ 10
 counted_signed_few z h =
-    let c : signed_octet_count z ≤ 8 = signed_count_below z 8 (omega arith) (omega arith) in
+    let c : signed_octet_count z ≤ 9 = signed_count_below z 9 (omega arith) (omega arith) in
     spelled_few (least_signed z) (omega (arith, c, length-least_signed z))
 
 signed_length : (k : ℕ) (z : ℤ) → length (signed_octets k z) ≡ k
 signed_length k (pos n) = length-digits 256 k n
 signed_length k (negsuc n) = length-digits 256 k (256 ^ k - 1 - n)
 
-unsigned_few : (u z : ℤ) → magnitude z < 9223372036854775808 → length (unsigned_in (unsigned_octets u) z) ≤ 9
+unsigned_few : (u z : ℤ) → magnitude z < 18446744073709551616 → length (unsigned_in (unsigned_octets u) z) ≤ 10
 unsigned_few u z h =
     elim (unsigned_cases u) [
-      | inl k ↦ subst (λ (o : Option ℕ). length (unsigned_in o z) ≤ 9) (sym k.1) (few k.0 k.3 (length-digits 256 k.0 (magnitude_of z)))
-      | inr k ↦ subst (λ (o : Option ℕ). length (unsigned_in o z) ≤ 9) (sym k) (counted_few z h)
+      | inl k ↦ subst (λ (o : Option ℕ). length (unsigned_in o z) ≤ 10) (sym k.1) (few k.0 k.3 (length-digits 256 k.0 (magnitude_of z)))
+      | inr k ↦ subst (λ (o : Option ℕ). length (unsigned_in o z) ≤ 10) (sym k) (counted_few z h)
     ]
   where
-    few : (k : ℕ) → k ≤ 8 → length (octets k (magnitude_of z)) ≡ k → length (octets k (magnitude_of z)) ≤ 9
+    few : (k : ℕ) → k ≤ 8 → length (octets k (magnitude_of z)) ≡ k → length (octets k (magnitude_of z)) ≤ 10
     few k h e = omega (arith, h, e)
 
-signed_few : (l u z : ℤ) → magnitude z < 9223372036854775808 → length (signed_in (signed_size l u) z) ≤ 9
+signed_few : (l u z : ℤ) → magnitude z < 18446744073709551616 → length (signed_in (signed_size l u) z) ≤ 10
 signed_few l u z h =
     elim (signed_cases l u) [
-      | inl k ↦ subst (λ (o : Option ℕ). length (signed_in o z) ≤ 9) (sym k.2) (few k.0 k.4 (signed_length k.0 z))
-      | inr k ↦ subst (λ (o : Option ℕ). length (signed_in o z) ≤ 9) (sym k) (counted_signed_few z h)
+      | inl k ↦ subst (λ (o : Option ℕ). length (signed_in o z) ≤ 10) (sym k.2) (few k.0 k.4 (signed_length k.0 z))
+      | inr k ↦ subst (λ (o : Option ℕ). length (signed_in o z) ≤ 10) (sym k) (counted_signed_few z h)
     ]
   where
-    few : (k : ℕ) → k ≤ 8 → length (signed_octets k z) ≡ k → length (signed_octets k z) ≤ 9
+    few : (k : ℕ) → k ≤ 8 → length (signed_octets k z) ≡ k → length (signed_octets k z) ≤ 10
     few k h e = omega (arith, h, e)
 
-ranged_few : (low high : Option ℤ) (z : ℤ) → magnitude z < 9223372036854775808 → length (ranged low high z) ≤ 9
+ranged_few : (low high : Option ℤ) (z : ℤ) → magnitude z < 18446744073709551616 → length (ranged low high z) ≤ 10
 ranged_few (Some (pos l)) (Some u) z h = unsigned_few u z h
 ranged_few (Some (pos l)) None z h = counted_few z h
 ranged_few (Some (negsuc l)) (Some u) z h = signed_few (negsuc l) u z h
 ranged_few (Some (negsuc l)) None z h = counted_signed_few z h
 ranged_few None high z h = counted_signed_few z h
 
-number_few : (b : Range) (z : ℤ) → FitsNumber b z → length (whole_number b z) ≤ 9
+number_few : (b : Range) (z : ℤ) → FitsNumber b z → length (whole_number b z) ≤ 10
 number_few b z f = go b.extensible
   where
-    inside : magnitude z < 9223372036854775808
+    inside : magnitude z < 18446744073709551616
     inside = in_64_bits z f.0 f.1
 
-    go : (m : Bool) → length {A = ℕ} (elim m [ true ↦ counted_signed z | false ↦ ranged b.low b.high z ]) ≤ 9
+    go : (m : Bool) → length {A = ℕ} (elim m [ true ↦ counted_signed z | false ↦ ranged b.low b.high z ]) ≤ 10
     go true = counted_signed_few z inside
     go false = ranged_few b.low b.high z inside
 

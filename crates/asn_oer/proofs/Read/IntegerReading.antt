@@ -1,10 +1,11 @@
 -- INTEGER as its reader takes it: the numbers and offsets of the integers of a range, but for one that is left out, and
 -- what the readers of their octets say of the type.
-use Rattle.std.proofs.Common.{◌≡◌, ◌≤◌, ◌<◌, ◌<ℤ◌, ◌*◌, ◌^◌, ◌⊎◌, inl, inr, ⊎_elim, ℕ, ℤ, pos, negsuc, Bool, true, false, ◌||◌, List, ◌++◌, Option, Some, None, refl, sym, ap, ◌∙◌, subst, arith}
-use Rattle.std.proofs.lemmas.Bool.{true≢false, and_parts, le-leb}
+use Rattle.std.proofs.Common.{◌≡◌, ◌≤◌, ◌<◌, ◌≤ℤ◌, ◌<ℤ◌, ◌*◌, ◌^◌, ◌⊎◌, inl, inr, ⊎_elim, ℕ, ℤ, pos, negsuc, Bool, true, false, ◌||◌, List, ◌++◌, Option, Some, None, refl, sym, ap, ◌∙◌, subst, arith}
+use Rattle.std.proofs.lemmas.Bool.{true≢false, and_parts, and_from, le-leb}
 use Rattle.std.proofs.lemmas.Int.{ints}
-use Rattle.std.specs.Int.RustNames.{int_le}
+use Rattle.std.specs.Int.RustNames.{int_le, int_lt}
 use Rattle.std.specs.Option.{option_map}
+use Rattle.std.specs.Prelude.{IfSome}
 use mir.Syntax.{w128}
 use mir.Val.{to_z, of_z}
 use Rattle.asn_values.specs.Datum.{Datum, number}
@@ -14,7 +15,7 @@ use Rattle.asn_values.specs.Shape.{Range, integer}
 use Rattle.asn_bits.specs.Numbers.{above, digits, octets, octet_count, least, signed_octet_count, least_signed}
 use Rattle.asn_bits.specs.Lengths.{octet_length}
 use Rattle.asn_bits.specs.Sets.{Meets}
-use Rattle.asn_bits.proofs.Above.{kept}
+use Rattle.asn_bits.proofs.Above.{kept, test_of_le}
 use Rattle.asn_bits.proofs.Octets.{length-digits, octet_count_below, residue, residue_fits, signed_is, length-least_signed, signed_count_below}
 use Rattle.asn_bits.proofs.Splits.{two_pow_octets}
 use Rattle.asn_bits.proofs.Unions.{set_meets}
@@ -33,8 +34,9 @@ use Rattle.asn_rules.proofs.Languages.Leads.{Leads, leads_on, leads_map, leads_s
 use Rattle.asn_rules.proofs.Languages.Spellings.{same_after, same_map, same_spelled, digits_spelled, map_spelled, spelled_inhabited}
 use Rattle.asn_rules.specs.OctetReading.{OctetsIn, CountedIn, CountedSignedIn, SignedOctetsIn}
 use Rattle.asn_rules.specs.IntegerSets.{IsWithin, IsOneBut, unmarked, AreNumbersBut, AreOffsetsBut}
-use Rattle.asn_oer.specs.Oer.{counted_signed, unsigned_octets, signed_size, ranged, whole_number, oer, oer_fields}
-use Rattle.asn_oer.specs.Reading.{IntegersBut, IsBelowZero}
+use Rattle.asn_rules.proofs.Plain.IntegerSets.{low_inside}
+use Rattle.asn_oer.specs.Oer.{counted_signed, unsigned_octets, both_in, signed_size, signed_in, ranged, whole_number, oer, oer_fields}
+use Rattle.asn_oer.specs.Reading.{IntegersBut, IsBelowZero, signed_size_of}
 use Rattle.asn_oer.proofs.Law.Integers.{below_bound, unsigned_cases, signed_cases}
 use Rattle.asn_oer.proofs.Encodings.SpeltLeaves.{in_64_bits}
 use Rattle.asn_oer.proofs.Write.WrittenNumbers.{some_same, unsigned_form, signed_form, counted_form, counted_signed_form, SignedRoom, signed_room}
@@ -166,7 +168,7 @@ module _ (e : Option ℤ) (low high : ℤ) (k : ℕ) (s : OffsetSet) (below : in
 module _ (e : Option ℤ) (b : Range) (s : OffsetSet) (are : AreOffsetsBut e b s) where
   few_signed : (z : ℤ) → HasInteger s z → signed_octet_count z < 128
   few_signed z h =
-      let l : signed_octet_count z ≤ 8 = signed_count_below z 8 (omega arith) (omega (arith, in_64_bits z h.0 h.1)) in
+      let l : signed_octet_count z ≤ 9 = signed_count_below z 9 (omega arith) (omega (arith, in_64_bits z h.0 h.1)) in
       omega arith
 
   pub counted_signed_leads : ((z : ℤ) → whole_number b z ≡ counted_signed z) → (us : List ℕ) → Leads oer_fields (CountedSignedIn s) us number (IntegersBut e b) us
@@ -178,6 +180,23 @@ module _ (e : Option ℤ) (b : Range) (s : OffsetSet) (are : AreOffsetsBut e b s
   counted_signed_some h =
       let z = some_one e b h in
       (above lowest_integer z.0, (are.back z.0 z.1).2)
+
+-- ---- bounds without a size
+
+-- from the lowest integer on
+large : (l h : ℤ) → lowest_integer ≤ℤ l → signed_size l h ≡ None → pos 9223372036854775808 ≤ℤ h
+large l h low e = go (both_in 1 l h) (both_in 2 l h) (both_in 4 l h) (both_in 8 l h) refl refl refl refl
+  where
+    go : (a b c d : Bool) → both_in 1 l h ≡ a → both_in 2 l h ≡ b → both_in 4 l h ≡ c → both_in 8 l h ≡ d → pos 9223372036854775808 ≤ℤ h
+    go true b c d ea eb ec ed = absurd (let s : signed_size l h ≡ Some 1 = rw (ea, signed_size) refl in cc (s, e))
+    go false true c d ea eb ec ed = absurd (let s : signed_size l h ≡ Some 2 = rw (ea, eb, signed_size) refl in cc (s, e))
+    go false false true d ea eb ec ed = absurd (let s : signed_size l h ≡ Some 4 = rw (ea, eb, ec, signed_size) refl in cc (s, e))
+    go false false false true ea eb ec ed = absurd (let s : signed_size l h ≡ Some 8 = rw (ea, eb, ec, ed, signed_size) refl in cc (s, e))
+    go false false false false ea eb ec ed = below (int_lt h (pos 9223372036854775808)) refl ed
+
+    below : (t : Bool) → int_lt h (pos 9223372036854775808) ≡ t → both_in 8 l h ≡ false → pos 9223372036854775808 ≤ℤ h
+    below true e f = absurd (true≢false (sym (and_from (int_le (negsuc 9223372036854775807) l) (int_lt h (pos 9223372036854775808)) (test_of_le (negsuc 9223372036854775807) l low) e) ∙ f))
+    below false e f = grind (arith, ints)
 
 -- ---- for the exits of the readers
 
@@ -211,8 +230,28 @@ pub negative : (low : ℤ) → low <ℤ pos 0 → int_le (pos 0) low ≡ false
 negative (pos n) h = absurd (omega (arith, ints, h))
 negative (negsuc n) h = refl
 
--- in two's complement after their count, where a bound is missing
-pub counted_where : (low high : Option ℤ) → IsBelowZero low → (low ≡ None) ⊎ (high ≡ None) → (z : ℤ) → whole_number (unmarked low high) z ≡ counted_signed z
+-- in two's complement after their count, where the bounds have no size
+pub counted_where : (low high : Option ℤ) → IsBelowZero low → signed_size_of low high ≡ None → (z : ℤ) → whole_number (unmarked low high) z ≡ counted_signed z
 counted_where None high b o z = refl
 counted_where (Some low) None b o z = counted_signed_form low z (negative low b)
-counted_where (Some low) (Some high) b o z = absurd (⊎_elim (λ e. cc) (λ e. cc) o)
+counted_where (Some (pos low)) (Some high) b o z = absurd (omega (arith, ints, b))
+counted_where (Some (negsuc low)) (Some high) b o z = ap (λ k. signed_in k z) o
+
+-- bounds with a size are two
+pub record HaveSize (low high : Option ℤ) (k : ℕ) : Type 0 where
+  pub least : ℤ
+  pub most : ℤ
+  pub low_is : low ≡ Some least
+  pub high_is : high ≡ Some most
+  pub size : signed_size least most ≡ Some k
+
+pub have_size : (low high : Option ℤ) (k : ℕ) → signed_size_of low high ≡ Some k → HaveSize low high k
+have_size (Some l) (Some h) k e = record { least = l; most = h; low_is = refl; high_is = refl; size = e }
+have_size (Some l) None k e = absurd (cc e)
+have_size None high k e = absurd (cc e)
+
+-- without a size one is missing, or the high one is above those of 64 bits in two's complement
+pub no_size : (low high : Option ℤ) → InProfile (integer (unmarked low high)) → signed_size_of low high ≡ None → ((low ≡ None) ⊎ (high ≡ None)) ⊎ IfSome high (λ h. pos 9223372036854775808 ≤ℤ h)
+no_size None high good e = inl (inl refl)
+no_size (Some l) None good e = inl (inr refl)
+no_size (Some l) (Some h) good e = inr (large l h (low_inside (Some l) (Some h) good).0 e)

@@ -7,7 +7,7 @@ use Rattle.std.proofs.lemmas.Nat.{pow_pos}
 use Rattle.std.specs.Int.RustNames.{int_le, int_lt}
 use Rattle.asn_values.specs.Datum.{Datum, number}
 use Rattle.asn_values.specs.Shape.{Range, integer}
-use Rattle.asn_values.specs.Fits.{Fits, FitsNumber, lowest_integer, highest_integer}
+use Rattle.asn_values.specs.Fits.{Fits, FitsNumber, lowest_integer, highest_integer, highest_number}
 use Rattle.asn_values.specs.Profile.{InProfile, EmptyRange, is_outside, low_above_high}
 use Rattle.asn_values.proofs.Parts.{left_false, right_false}
 use Rattle.asn_bits.specs.Numbers.{digits, octets, octet_count, least, magnitude, signed_octet_count, signed_octets, least_signed}
@@ -38,7 +38,7 @@ fixed_unsigned : (b : Range) (k low high : ℕ) → AreNumbers b low high → hi
 fixed_unsigned b k low high h room code = same_after (same_map (digits_spelled 256 k (Between low high) (λ n s. omega (arith, s.1, room)))) (map_spelled (λ n s. (h.fit n s, ap ones (sym (code n)))) h.are)
 
 -- after their count
-counted_unsigned : (b : Range) (low high : ℕ) → AreNumbers b low high → high ≤ 9223372036854775807 → ((n : ℕ) → whole_number b (pos n) ≡ counted (pos n)) → Same (CountedUnsigned low high) (Spelling b)
+counted_unsigned : (b : Range) (low high : ℕ) → AreNumbers b low high → high < 18446744073709551616 → ((n : ℕ) → whole_number b (pos n) ≡ counted (pos n)) → Same (CountedUnsigned low high) (Spelling b)
 counted_unsigned b low high h room code = same_after (same_map (counted_octets (Between low high) few)) (map_spelled (λ n s. (h.fit n s, same n)) h.are)
   where
     few : (n : ℕ) → Between low high n → octet_count n < 128
@@ -57,7 +57,7 @@ counted_signed_language b code = same_after (counted_signed_octets (FitsNumber b
   where
     few : (z : ℤ) → FitsNumber b z → signed_octet_count z < 128
     few z h =
-        let l : signed_octet_count z ≤ 8 = signed_count_below z 8 (omega arith) (omega (arith, in_64_bits z h.0 h.1)) in
+        let l : signed_octet_count z ≤ 9 = signed_count_below z 9 (omega arith) (omega (arith, in_64_bits z h.0 h.1)) in
         omega arith
 
     same : (z : ℤ) → ones (octet_length (signed_octet_count z) ++ least_signed z) ≡ ones (whole_number b z)
@@ -225,7 +225,7 @@ signed_language low high good = go (signed_cases (negsuc low) high)
 bounded_language : (low high : Option ℤ) → InProfile (integer (plain low high)) → Same (BoundedIntegers (plain low high) low high) (Spelling (plain low high))
 bounded_language (Some (pos low)) (Some (pos high)) good = unsigned_language low high good
 bounded_language (Some (pos low)) (Some (negsuc high)) good = absurd (true≢false (sym (ordered (pos low) (negsuc high) good)))
-bounded_language (Some (pos low)) None good = counted_unsigned (plain (Some (pos low)) None) low 9223372036854775807 (numbers_from low) (omega arith) (λ n. refl)
+bounded_language (Some (pos low)) None good = counted_unsigned (plain (Some (pos low)) None) low highest_number (numbers_from low) (omega arith) (λ n. refl)
 bounded_language (Some (negsuc low)) (Some high) good = signed_language low high good
 bounded_language (Some (negsuc low)) None good = counted_signed_language (plain (Some (negsuc low)) None) (λ z. refl)
 bounded_language None high good = counted_signed_language (plain None high) (λ z. refl)

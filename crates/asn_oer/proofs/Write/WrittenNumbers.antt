@@ -1,16 +1,14 @@
 -- The octets that the writers of INTEGER and ENUMERATED write in OER.
-use Rattle.std.proofs.Common.{◌≡◌, ◌≤◌, ◌<◌, ◌+◌, ◌-◌, ◌*◌, ◌^◌, ℕ, suc, ℤ, pos, negsuc, ◌≤ℤ◌, ◌<ℤ◌, ◌⊎◌, Bool, true, false, nat_lt, ◌||◌, List, Option, Some, None, inl, inr, refl, sym, ◌∙◌, ap, subst, arith}
+use Rattle.std.proofs.Common.{◌≡◌, ◌≤◌, ◌<◌, ◌+◌, ◌-◌, ◌*◌, ◌^◌, ℕ, suc, ℤ, pos, negsuc, ◌≤ℤ◌, ◌<ℤ◌, ◌+ℤ◌, ◌⊎◌, Bool, true, false, nat_lt, ◌||◌, List, Option, Some, None, inl, inr, refl, sym, ◌∙◌, ap, subst, arith}
 use Rattle.std.proofs.lemmas.Bool.{true≢false, le-leb, lt-ltb, and_parts}
 use Rattle.std.proofs.lemmas.Nat.{pow_pos, pow-add}
-use Rattle.std.proofs.Math.Nat.{one-le-pow, add-mul}
-use Rattle.std.specs.Int.RustNames.{int_le, int_lt, FitsSigned}
+use Rattle.std.proofs.Math.Nat.{one-le-pow, add-mul, mul-le-mul_right}
+use Rattle.std.specs.Int.RustNames.{int_le, int_lt}
 use Rattle.std.proofs.lemmas.Int.{ints}
 use Rattle.asn_values.specs.Fits.{lowest_integer, highest_integer, FitsNumber, at_most}
 use Rattle.asn_values.specs.Profile.{InProfile}
 use Rattle.asn_values.specs.Shape.{Range, integer}
 use lib.IntN.{nat_abs}
-use mir.Syntax.{w64}
-use mir.Val.{of_z, to_z}
 use Rattle.asn_bits.specs.Lengths.{general_octets}
 use Rattle.asn_bits.specs.Numbers.{bits, octets, least, least_signed, signed_octets, magnitude, unpacked}
 use Rattle.asn_bits.proofs.Above.{test_of_le}
@@ -104,42 +102,43 @@ signed_room low high z k e a b =
 
 -- ---- of a number between bounds
 
--- which keeps its value in 64 bits
-pub narrow : (z : ℤ) → lowest_integer ≤ℤ z → z ≤ℤ highest_integer → to_z w64 (of_z w64 z) ≡ z
-narrow z a b = omega (arith, ints, a, b)
-
-pub fits_64 : (z : ℤ) → lowest_integer ≤ℤ z → z ≤ℤ highest_integer → FitsSigned w64 z
-fits_64 (pos n) a b = omega (arith, ints, b)
-fits_64 (negsuc n) a b = omega (arith, ints, a)
-
--- the octets of a number of 64 signed bits are the last ones of its bits
-residue_octets : (k : ℕ) (z : ℤ) → k ≤ 8 → magnitude z < 256 ^ k → magnitude z < 9223372036854775808 → signed_octets k z ≡ octets k (of_z w64 z)
-residue_octets k (pos n) few room h = refl
-residue_octets k (negsuc n) few room h =
+-- the octets of a number of 64 bits in two's complement are the last ones of these
+residue_octets : (k : ℕ) (z : ℤ) (r : ℕ) → k ≤ 8 → magnitude z < 256 ^ k → (pos 0 ≤ℤ z → pos r ≡ z) → (z <ℤ pos 0 → pos r ≡ (z +ℤ pos 18446744073709551616)) → signed_octets k z ≡ octets k r
+residue_octets k (pos n) r few room from below =
+    let same : n ≡ r = omega (arith, ints, from (omega (arith, ints))) in
+    ap (octets k) same
+residue_octets k (negsuc n) r few room from below =
     let p = 256 ^ k in
     let q = 256 ^ (8 - k) in
     let some : 1 ≤ q = one-le-pow (8 - k) 256 (omega arith) in
     let whole : 8 - k + k ≡ 8 = omega arith in
     let all : q * p ≡ 18446744073709551616 = sym (pow-add 256 (8 - k) k) ∙ ap (λ (i : ℕ). 256 ^ i) whole in
     let less : (q - 1) * p + 1 * p ≡ q * p = sym (add-mul (q - 1) 1 p) ∙ ap (λ (t : ℕ). t * p) (omega (arith, some)) in
-    let same : (q - 1) * p + (p - 1 - n) ≡ 18446744073709551616 - suc n = omega (arith, less, all, room) in
+    let high : 1 * p ≤ q * p = mul-le-mul_right p some in
+    let is : r ≡ 18446744073709551616 - suc n = omega (arith, ints, below (omega (arith, ints)), all, room, high) in
+    let same : (q - 1) * p + (p - 1 - n) ≡ r = omega (arith, less, all, room, is) in
     sym (digits_above 256 (omega arith) k (q - 1) (p - 1 - n)) ∙ ap (octets k) same
 
 -- a number between bounds, of which as many octets are written as the numbers up to g have
-pub fixed_bits : (low high z : ℤ) (g : ℕ) → low ≤ℤ z → z ≤ℤ high → lowest_integer ≤ℤ low → high ≤ℤ highest_integer → (pos 0 ≤ℤ low → pos g ≡ high)
-    → (low <ℤ pos 0 → signed_size low high ≡ unsigned_octets (pos g)) → g < 18446744073709551616
-    → bits (8 * fixed_octets g) (of_z w64 z) ≡ unpacked (ranged (Some low) (Some high) z)
-fixed_bits (pos l) high (negsuc z) g p q a b from below small = absurd (omega (arith, ints, p))
-fixed_bits (pos l) high (pos z) g p q a b from below small =
+pub fixed_bits : (low high z : ℤ) (g r : ℕ) → low ≤ℤ z → z ≤ℤ high → (pos 0 ≤ℤ low → pos g ≡ high)
+    → (low <ℤ pos 0 → signed_size low high ≡ unsigned_octets (pos g)) → g < 18446744073709551616 → (pos 0 ≤ℤ z → pos r ≡ z) → (z <ℤ pos 0 → pos r ≡ (z +ℤ pos 18446744073709551616))
+    → bits (8 * fixed_octets g) r ≡ unpacked (ranged (Some low) (Some high) z)
+fixed_bits (pos l) high (negsuc z) g r p q from below small up down = absurd (omega (arith, ints, p))
+fixed_bits (pos l) high (pos z) g r p q from below small up down =
     let size : unsigned_octets high ≡ Some (fixed_octets g) = ap unsigned_octets (sym (from (omega (arith, ints)))) ∙ fixed_is g small in
-    unsigned_bits (pos l) high (pos z) (fixed_octets g) (test_of_le (pos 0) (pos l) (omega (arith, ints))) size (test_of_le (pos l) (pos z) p)
-fixed_bits (negsuc l) high z g p q a b from below small =
+    let same : r ≡ z = omega (arith, ints, up (omega (arith, ints))) in
+    ap (bits (8 * fixed_octets g)) same ∙ unsigned_bits (pos l) high (pos z) (fixed_octets g) (test_of_le (pos 0) (pos l) (omega (arith, ints))) size (test_of_le (pos l) (pos z) p)
+fixed_bits (negsuc l) high z g r p q from below small up down =
     let k = fixed_octets g in
     let size : signed_size (negsuc l) high ≡ Some k = below (omega (arith, ints)) ∙ fixed_is g small in
     let room = signed_room (negsuc l) high z k size (test_of_le (negsuc l) z p) (test_of_le z high q) in
     let held : magnitude z < 256 ^ k = omega (arith, room.room, half k room.some) in
-    let narrow : magnitude z < 9223372036854775808 = in_64_bits z (omega (arith, ints, p, a)) (omega (arith, ints, q, b)) in
-    signed_bits (negsuc l) high z k (of_z w64 z) refl size (residue_octets k z room.few held narrow)
+    signed_bits (negsuc l) high z k r refl size (residue_octets k z r room.few held up down)
+
+-- a number between bounds without a size, which is written after its length
+pub wide_bits : (low high z : ℤ) → low <ℤ pos 0 → signed_size low high ≡ None → lowest_integer ≤ℤ z → z ≤ℤ highest_integer → general_octets (λ u. u) (least_signed z) ≡ unpacked (ranged (Some low) (Some high) z)
+wide_bits (pos l) high z n e a b = absurd (omega (arith, ints, n))
+wide_bits (negsuc l) high z n e a b = signed_counted z (in_64_bits z a b) ∙ ap unpacked (ap (λ o. signed_in o z) (sym e))
 
 -- a number of the range that is written after its length, from a bound on that is not negative
 pub counted_bits : (b : Range) (low z : ℤ) → IsCounted b → FitsNumber b z → b.low ≡ Some low → b.extensible ≡ false → int_le (pos 0) low ≡ true

@@ -27,8 +27,8 @@ few_counted os h = general_short os h ∙ sym (content os ∙ ap (λ (t : List �
 pub least_counted : (n : ℕ) → n < 18446744073709551616 → general_octets (λ u. u) (least n) ≡ unpacked (spelled (least n))
 least_counted n h = few_counted (least n) (omega (arith, length-digits 256 (octet_count n) n, octet_count_below n 8 (omega arith) (omega arith)))
 
-pub signed_counted : (z : ℤ) → magnitude z < 9223372036854775808 → general_octets (λ u. u) (least_signed z) ≡ unpacked (counted_signed z)
-signed_counted z h = few_counted (least_signed z) (omega (arith, length-least_signed z, signed_count_below z 8 (omega arith) (omega arith)))
+pub signed_counted : (z : ℤ) → magnitude z < 18446744073709551616 → general_octets (λ u. u) (least_signed z) ≡ unpacked (counted_signed z)
+signed_counted z h = few_counted (least_signed z) (omega (arith, length-least_signed z, signed_count_below z 9 (omega arith) (omega arith)))
 
 -- ---- bits that are filled up to octets
 

@@ -210,10 +210,20 @@ fn greatest(low: i128, high: i128) -> Option<u64>
         return Some(high as u64);
     }
     if high < SIGNED_END {
-        Some(2 * ((high as i64).max(-1 - low as i64) as u64))
+        Some(twice_farthest(low as i64, high as i64))
     } else {
         None
     }
+}
+
+/// Twice the number that is farthest from zero, of those from `low` to `high` and what is as far from -1 as these.
+#[inline(always)]
+fn twice_farthest(low: i64, high: i64) -> u64
+    requires order { low ≤ℤ high }
+    requires below_zero { low <ℤ pos 0 }
+    ensures { signed_size low high ≡ unsigned_octets (pos result) }
+{
+    2 * (high.max(-1 - low) as u64)
 }
 
 /// The last 64 bits of an integer in two's complement.

@@ -1,7 +1,7 @@
 -- The codes of INTEGER in OER.
 use Rattle.std.proofs.Common.{◌≡◌, ◌≤◌, ◌<◌, ◌-◌, ◌*◌, ◌^◌, ◌≤ℤ◌, ◌-ℤ◌, ◌*ℤ◌, ◌⊎◌, ◌∙◌, ℕ, ℤ, pos, negsuc, Bool, true, false, ◌&&◌, ◌||◌, List, ◌++◌, Option, Some, None, inl, inr, refl, sym, subst, arith}
 use Rattle.asn_values.specs.Shape.{Range}
-use Rattle.std.proofs.lemmas.Bool.{true≢false, ltb-true, leb-true, le-leb, le-ltb, and_parts, and_from, and_left, and_right, cases_cond}
+use Rattle.std.proofs.lemmas.Bool.{true≢false, ltb-true, leb-true, le-leb, and_parts, and_from, and_left, and_right, cases_cond}
 use Rattle.std.proofs.lemmas.Int.{ints}
 use Rattle.std.proofs.lemmas.Nat.{pow_pos}
 use Rattle.std.specs.Int.{int_max}
@@ -30,20 +30,6 @@ unsigned_cases u = go (int_lt u (pos (2 ^ 8))) (int_lt u (pos (2 ^ 16))) (int_lt
     go false false true d ea eb ec ed = inl (4, rw (ea, eb, ec, unsigned_octets) refl, ec, omega arith)
     go false false false true ea eb ec ed = inl (8, rw (ea, eb, ec, ed, unsigned_octets) refl, ed, omega arith)
     go false false false false ea eb ec ed = inr (rw (ea, eb, ec, ed, unsigned_octets) refl)
-
--- 2 ^ 64 and the numbers above it are below none of these
-above_all : (u : ℤ) (n : ℕ) → n ≤ 18446744073709551616 → pos 18446744073709551616 ≤ℤ u → int_lt u (pos n) ≡ false
-above_all (pos m) n l h = le-ltb m n (omega (arith, ints, l, h))
-above_all (negsuc m) n l h = absurd (omega (arith, ints, h))
-
--- so they have no fixed number of octets
-pub unsigned_none : (u : ℤ) → pos 18446744073709551616 ≤ℤ u → unsigned_octets u ≡ None
-unsigned_none u h =
-    let a : int_lt u (pos (2 ^ 8)) ≡ false = above_all u 256 (omega arith) h in
-    let b : int_lt u (pos (2 ^ 16)) ≡ false = above_all u 65536 (omega arith) h in
-    let c : int_lt u (pos (2 ^ 32)) ≡ false = above_all u 4294967296 (omega arith) h in
-    let d : int_lt u (pos (2 ^ 64)) ≡ false = above_all u 18446744073709551616 (omega arith) h in
-    rw (a, b, c, d, unsigned_octets) refl
 
 -- a number up to a bound that is below n is below n
 pub below_bound : (u y : ℤ) (n : ℕ) → int_le (pos 0) y ≡ true → int_le y u ≡ true → int_lt u (pos n) ≡ true → magnitude_of y < n

@@ -5,7 +5,7 @@ use Rattle.std.proofs.lemmas.Bool.{true≢false, and_parts, and_from, le-leb}
 use Rattle.std.proofs.lemmas.Int.{ints}
 use Rattle.std.specs.Int.RustNames.{int_le, int_lt}
 use Rattle.std.specs.Option.{option_map}
-use Rattle.std.specs.Prelude.{IfSome}
+use Rattle.std.specs.Prelude.{IsSomeAnd}
 use mir.Syntax.{w128}
 use mir.Val.{to_z, of_z}
 use Rattle.asn_values.specs.Datum.{Datum, number}
@@ -34,7 +34,7 @@ use Rattle.asn_rules.proofs.Languages.Leads.{Leads, leads_on, leads_map, leads_s
 use Rattle.asn_rules.proofs.Languages.Spellings.{same_after, same_map, same_spelled, digits_spelled, map_spelled, spelled_inhabited}
 use Rattle.asn_rules.specs.OctetReading.{OctetsIn, CountedIn, CountedSignedIn, SignedOctetsIn}
 use Rattle.asn_rules.specs.IntegerSets.{IsWithin, IsOneBut, unmarked, AreNumbersBut, AreOffsetsBut}
-use Rattle.asn_rules.proofs.Plain.IntegerSets.{low_inside}
+use Rattle.asn_rules.proofs.Plain.IntegerSets.{low_inside, high_inside}
 use Rattle.asn_oer.specs.Oer.{counted_signed, unsigned_octets, both_in, signed_size, signed_in, ranged, whole_number, oer, oer_fields}
 use Rattle.asn_oer.specs.Reading.{IntegersBut, IsBelowZero, signed_size_of}
 use Rattle.asn_oer.proofs.Law.Integers.{below_bound, unsigned_cases, signed_cases}
@@ -187,16 +187,16 @@ module _ (e : Option ℤ) (b : Range) (s : OffsetSet) (are : AreOffsetsBut e b s
 large : (l h : ℤ) → lowest_integer ≤ℤ l → signed_size l h ≡ None → pos 9223372036854775808 ≤ℤ h
 large l h low e = go (both_in 1 l h) (both_in 2 l h) (both_in 4 l h) (both_in 8 l h) refl refl refl refl
   where
+    below : (t : Bool) → int_lt h (pos 9223372036854775808) ≡ t → both_in 8 l h ≡ false → pos 9223372036854775808 ≤ℤ h
+    below true e f = absurd (true≢false (sym (and_from (int_le (negsuc 9223372036854775807) l) (int_lt h (pos 9223372036854775808)) (test_of_le (negsuc 9223372036854775807) l low) e) ∙ f))
+    below false e f = grind (arith, ints)
+
     go : (a b c d : Bool) → both_in 1 l h ≡ a → both_in 2 l h ≡ b → both_in 4 l h ≡ c → both_in 8 l h ≡ d → pos 9223372036854775808 ≤ℤ h
     go true b c d ea eb ec ed = absurd (let s : signed_size l h ≡ Some 1 = rw (ea, signed_size) refl in cc (s, e))
     go false true c d ea eb ec ed = absurd (let s : signed_size l h ≡ Some 2 = rw (ea, eb, signed_size) refl in cc (s, e))
     go false false true d ea eb ec ed = absurd (let s : signed_size l h ≡ Some 4 = rw (ea, eb, ec, signed_size) refl in cc (s, e))
     go false false false true ea eb ec ed = absurd (let s : signed_size l h ≡ Some 8 = rw (ea, eb, ec, ed, signed_size) refl in cc (s, e))
     go false false false false ea eb ec ed = below (int_lt h (pos 9223372036854775808)) refl ed
-
-    below : (t : Bool) → int_lt h (pos 9223372036854775808) ≡ t → both_in 8 l h ≡ false → pos 9223372036854775808 ≤ℤ h
-    below true e f = absurd (true≢false (sym (and_from (int_le (negsuc 9223372036854775807) l) (int_lt h (pos 9223372036854775808)) (test_of_le (negsuc 9223372036854775807) l low) e) ∙ f))
-    below false e f = grind (arith, ints)
 
 -- ---- for the exits of the readers
 
@@ -251,7 +251,12 @@ have_size (Some l) None k e = absurd (cc e)
 have_size None high k e = absurd (cc e)
 
 -- without a size one is missing, or the high one is above those of 64 bits in two's complement
-pub no_size : (low high : Option ℤ) → InProfile (integer (unmarked low high)) → signed_size_of low high ≡ None → ((low ≡ None) ⊎ (high ≡ None)) ⊎ IfSome high (λ h. pos 9223372036854775808 ≤ℤ h)
+pub no_size : (low high : Option ℤ) → InProfile (integer (unmarked low high)) → signed_size_of low high ≡ None → ((low ≡ None) ⊎ (high ≡ None)) ⊎ IsSomeAnd high (λ h. pos 9223372036854775808 ≤ℤ h)
 no_size None high good e = inl (inl refl)
 no_size (Some l) None good e = inl (inr refl)
 no_size (Some l) (Some h) good e = inr (large l h (low_inside (Some l) (Some h) good).0 e)
+
+-- no integer of the profile is
+pub none_far : (low high : Option ℤ) → InProfile (integer (unmarked low high)) → IsSomeAnd high (λ h. pos 9223372036854775808 ≤ℤ h) → ⊥
+none_far low None good far = absurd far
+none_far low (Some h) good far = (let w = high_inside low (Some h) good in omega (arith, ints, far, w.1))

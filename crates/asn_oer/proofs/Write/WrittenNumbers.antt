@@ -9,6 +9,8 @@ use Rattle.asn_values.specs.Fits.{lowest_integer, highest_integer, FitsNumber, a
 use Rattle.asn_values.specs.Profile.{InProfile}
 use Rattle.asn_values.specs.Shape.{Range, integer}
 use lib.IntN.{nat_abs}
+use mir.Syntax.{w64}
+use mir.Val.{of_z, to_z}
 use Rattle.asn_bits.specs.Lengths.{general_octets}
 use Rattle.asn_bits.specs.Numbers.{bits, octets, least, least_signed, signed_octets, magnitude, unpacked}
 use Rattle.asn_bits.proofs.Above.{test_of_le}
@@ -101,6 +103,10 @@ signed_room low high z k e a b =
     ]
 
 -- ---- of a number between bounds
+
+-- which keeps its value in 64 signed bits
+pub narrow : (z : ℤ) → lowest_integer ≤ℤ z → z <ℤ pos 9223372036854775808 → to_z w64 (of_z w64 z) ≡ z
+narrow z a b = omega (arith, ints, a, b)
 
 -- the octets of a number of 64 bits in two's complement are the last ones of these
 residue_octets : (k : ℕ) (z : ℤ) (r : ℕ) → k ≤ 8 → magnitude z < 256 ^ k → (pos 0 ≤ℤ z → pos r ≡ z) → (z <ℤ pos 0 → pos r ≡ (z +ℤ pos 18446744073709551616)) → signed_octets k z ≡ octets k r

@@ -67,6 +67,6 @@ returns-in_ok-offset-in_default-2-clause-some c =
     let vs = packed c.try_counted_signed.new.units in
     let all = unmarked None None in
     let z = lowest_integer +ℤ pos c.in_ok-offset-in_default-2.offset in
-    let counted = counted_signed_leads None all c.offsets_of.result c.offsets_of.ensures.same (counted_where None None tt (inl refl)) us in
+    let counted = counted_signed_leads None all c.offsets_of.result c.offsets_of.ensures.same (counted_where None None tt refl) us in
     let read : Spells oer_fields (IntegersBut None all) (number (to_z w128 (of_z w128 z))) us vs = given None all z us vs (counted.done z vs c.in_ok-offset-in_default-2.ensures.done) in
     rw (c.at_offset.ensures, c.in-Int.is, shape_of-Int, seen_number (to_z w128 (of_z w128 z))) ((marked_leads b us c.if-bounds.true).done (number (to_z w128 (of_z w128 z))) vs read)

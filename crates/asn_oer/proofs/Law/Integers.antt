@@ -1,5 +1,5 @@
 -- The codes of INTEGER in OER.
-use Rattle.std.proofs.Common.{◌≡◌, ◌≤◌, ◌<◌, ◌-◌, ◌*◌, ◌^◌, ◌≤ℤ◌, ◌-ℤ◌, ◌*ℤ◌, ◌⊎◌, ◌∙◌, ℕ, ℤ, pos, negsuc, Bool, true, false, ◌&&◌, ◌||◌, List, ◌++◌, Option, Some, None, inl, inr, refl, sym, subst, arith}
+use Rattle.std.proofs.Common.{◌≡◌, ◌≤◌, ◌<◌, ◌-◌, ◌*◌, ◌^◌, ◌≤ℤ◌, ◌<ℤ◌, ◌-ℤ◌, ◌*ℤ◌, ◌⊎◌, ◌∙◌, ℕ, ℤ, pos, negsuc, Bool, true, false, ◌&&◌, ◌||◌, List, ◌++◌, Option, Some, None, inl, inr, refl, sym, subst, arith}
 use Rattle.asn_values.specs.Shape.{Range}
 use Rattle.std.proofs.lemmas.Bool.{true≢false, ltb-true, leb-true, le-leb, and_parts, and_from, and_left, and_right, cases_cond}
 use Rattle.std.proofs.lemmas.Int.{ints}
@@ -73,6 +73,10 @@ farthest_is high below k m e f =
       ]
       | inr g ↦ inr (inr (f ∙ g))
     ]
+
+-- what the test of the order says
+pub lt_of_test : (a b : ℤ) → int_lt a b ≡ true → a <ℤ b
+lt_of_test a b e = grind (arith, ints)
 
 -- twice that number keeps its value in 128 bits
 pub twice_kept : (m : ℤ) → pos 0 ≤ℤ m → m ≤ℤ pos 9223372036854775807 → to_z w128 (of_z w128 (pos 2 *ℤ m)) ≡ (pos 2 *ℤ m)

@@ -1,6 +1,6 @@
 -- INTEGER as its reader takes it: the numbers and offsets of the integers of a range, but for one that is left out, and
 -- what the readers of their octets say of the type.
-use Rattle.std.proofs.Common.{◌≡◌, ◌≤◌, ◌<◌, ◌≤ℤ◌, ◌<ℤ◌, ◌*◌, ◌^◌, ◌⊎◌, inl, inr, ⊎_elim, ℕ, ℤ, pos, negsuc, Bool, true, false, ◌||◌, List, ◌++◌, Option, Some, None, refl, sym, ap, ◌∙◌, subst, arith}
+use Rattle.std.proofs.Common.{◌≡◌, ◌≤◌, ◌<◌, ◌≤ℤ◌, ◌<ℤ◌, ◌*◌, ◌^◌, ◌⊎◌, inl, inr, ℕ, ℤ, pos, negsuc, Bool, true, false, ◌||◌, List, ◌++◌, Option, Some, None, refl, sym, ap, ◌∙◌, subst, arith}
 use Rattle.std.proofs.lemmas.Bool.{true≢false, and_parts, and_from, le-leb}
 use Rattle.std.proofs.lemmas.Int.{ints}
 use Rattle.std.specs.Int.RustNames.{int_le, int_lt}
@@ -237,18 +237,16 @@ counted_where (Some low) None b o z = counted_signed_form low z (negative low b)
 counted_where (Some (pos low)) (Some high) b o z = absurd (omega (arith, ints, b))
 counted_where (Some (negsuc low)) (Some high) b o z = ap (λ k. signed_in k z) o
 
--- bounds with a size are two
-pub record HaveSize (low high : Option ℤ) (k : ℕ) : Type 0 where
-  pub least : ℤ
-  pub most : ℤ
-  pub low_is : low ≡ Some least
-  pub high_is : high ≡ Some most
-  pub size : signed_size least most ≡ Some k
+-- in k octets, where the bounds have that size
+pub sized_leads : (e : Option ℤ) (low high : Option ℤ) (k : ℕ) (s : OffsetSet) → IsBelowZero low → signed_size_of low high ≡ Some k → AreOffsetsBut e (unmarked low high) s → (us : List ℕ) → Leads oer_fields (SignedOctetsIn k s) us number (IntegersBut e (unmarked low high)) us
+sized_leads e (Some l) (Some h) k s below size are us = signed_leads e l h k s (negative l below) size are us
+sized_leads e (Some l) None k s below size are us = absurd (cc size)
+sized_leads e None high k s below size are us = absurd (cc size)
 
-pub have_size : (low high : Option ℤ) (k : ℕ) → signed_size_of low high ≡ Some k → HaveSize low high k
-have_size (Some l) (Some h) k e = record { least = l; most = h; low_is = refl; high_is = refl; size = e }
-have_size (Some l) None k e = absurd (cc e)
-have_size None high k e = absurd (cc e)
+pub sized_some : (e : Option ℤ) (low high : Option ℤ) (k : ℕ) (s : OffsetSet) → IsBelowZero low → signed_size_of low high ≡ Some k → AreOffsetsBut e (unmarked low high) s → Inhabited (IntegersBut e (unmarked low high)) → (n : ℕ) × StandsFor s k n
+sized_some e (Some l) (Some h) k s below size are some = signed_some e l h k s (negative l below) size are some
+sized_some e (Some l) None k s below size are some = absurd (cc size)
+sized_some e None high k s below size are some = absurd (cc size)
 
 -- without a size one is missing, or the high one is above those of 64 bits in two's complement
 pub no_size : (low high : Option ℤ) → InProfile (integer (unmarked low high)) → signed_size_of low high ≡ None → ((low ≡ None) ⊎ (high ≡ None)) ⊎ IsSomeAnd high (λ h. pos 9223372036854775808 ≤ℤ h)

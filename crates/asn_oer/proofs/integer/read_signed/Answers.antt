@@ -1,43 +1,29 @@
-use Rattle.std.proofs.Common.{◌≡◌, ◌≤ℤ◌, ◌+ℤ◌, ◌⊎◌, ⊎_elim, pos, Option, Some, None, sym, arith}
-use Rattle.std.proofs.lemmas.Int.{ints}
+use Rattle.std.proofs.Common.{◌+ℤ◌, ⊎_elim, pos, sym}
 use Rattle.std.proofs.lemmas.Result.{err_from_is_err_and}
-use Rattle.asn_values.specs.Datum.{number}
 use Rattle.asn_values.specs.Fits.{lowest_integer}
 use Rattle.asn_bits.specs.Numbers.{packed}
 use Rattle.asn_rules.proofs.Languages.Leads.{stops_by}
-use Rattle.asn_rules.specs.IntegerSets.{unmarked, AreOffsetsBut}
-use Rattle.asn_oer.proofs.Read.IntegerReading.{signed_leads, signed_some, counted_signed_leads, counted_where, have_size, negative, none_far, given, no_size}
+use Rattle.asn_rules.specs.IntegerSets.{unmarked}
+use Rattle.asn_oer.proofs.Read.IntegerReading.{counted_signed_leads, counted_where, given, no_size, none_far, sized_leads, sized_some}
 use Rattle.asn_oer.proofs.integer.read_signed.Goals as goal
 
 pub read_signed_octets-requires-clause-some : goal.read_signed_octets-requires-clause-some
 read_signed_octets-requires-clause-some c =
-    let w = have_size c.args.low c.args.high c.in-Some.count (sym c.in-Some.ensures) in
-    let s = c.offsets_of-set.result in
-    let are : AreOffsetsBut c.args.excluded (unmarked (Some w.least) (Some w.most)) s = rw (w.low_is, w.high_is) at c.offsets_of-set.ensures.same in
-    let below = negative w.least (rw w.low_is at c.requires.below_zero) in
-    signed_some c.args.excluded w.least w.most c.in-Some.count s below w.size are (rw (w.low_is, w.high_is) at c.requires.some)
+    sized_some c.args.excluded c.args.low c.args.high c.in-Some.count c.offsets_of-set.result c.requires.below_zero (sym c.in-Some.ensures) c.offsets_of-set.ensures.same c.requires.some
 
 pub returns-in_err-offset-in-Some-clause-stop : goal.returns-in_err-offset-in-Some-clause-stop
 returns-in_err-offset-in-Some-clause-stop c =
-    let w = have_size c.args.low c.args.high c.in-Some.count (sym c.in-Some.ensures) in
-    let s = c.offsets_of-set.result in
-    let are : AreOffsetsBut c.args.excluded (unmarked (Some w.least) (Some w.most)) s = rw (w.low_is, w.high_is) at c.offsets_of-set.ensures.same in
-    let below = negative w.least (rw w.low_is at c.requires.below_zero) in
     let p = err_from_is_err_and c.from_residual.result c.from_residual.ensures.1 in
-    let lead = signed_leads c.args.excluded w.least w.most c.in-Some.count s below w.size are (packed c.args.units.now) in
-    rw (p.1, p.2, w.low_is, w.high_is) (stops_by _ lead.stops c.in_err-offset-in-Some.ensures.stop)
+    let lead = sized_leads c.args.excluded c.args.low c.args.high c.in-Some.count c.offsets_of-set.result c.requires.below_zero (sym c.in-Some.ensures) c.offsets_of-set.ensures.same (packed c.args.units.now) in
+    rw (p.1, p.2) (stops_by _ lead.stops c.in_err-offset-in-Some.ensures.stop)
 
 pub returns-in_ok-offset-in-Some-clause-done : goal.returns-in_ok-offset-in-Some-clause-done
 returns-in_ok-offset-in-Some-clause-done c =
-    let w = have_size c.args.low c.args.high c.in-Some.count (sym c.in-Some.ensures) in
-    let s = c.offsets_of-set.result in
-    let are : AreOffsetsBut c.args.excluded (unmarked (Some w.least) (Some w.most)) s = rw (w.low_is, w.high_is) at c.offsets_of-set.ensures.same in
-    let below = negative w.least (rw w.low_is at c.requires.below_zero) in
     let us = packed c.args.units.now in
     let vs = packed c.read_signed_octets.new.units in
     let z = lowest_integer +ℤ pos c.in_ok-offset-in-Some.offset in
-    let lead = signed_leads c.args.excluded w.least w.most c.in-Some.count s below w.size are us in
-    rw (c.at_offset.ensures, w.low_is, w.high_is) (given c.args.excluded (unmarked (Some w.least) (Some w.most)) z us vs (lead.done z vs c.in_ok-offset-in-Some.ensures.done))
+    let lead = sized_leads c.args.excluded c.args.low c.args.high c.in-Some.count c.offsets_of-set.result c.requires.below_zero (sym c.in-Some.ensures) c.offsets_of-set.ensures.same us in
+    rw c.at_offset.ensures (given c.args.excluded (unmarked c.args.low c.args.high) z us vs (lead.done z vs c.in_ok-offset-in-Some.ensures.done))
 
 -- where the bounds have no size one is missing
 pub read_counted_signed-requires-clause-gap : goal.read_counted_signed-requires-clause-gap

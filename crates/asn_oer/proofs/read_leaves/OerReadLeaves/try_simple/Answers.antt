@@ -1,4 +1,4 @@
-use Rattle.std.proofs.Common.{rules, ◌≡◌, ◌<◌, ◌++◌, ◌+ℤ◌, ℕ, ℤ, Bool, None, pos, length, map, ap, ◌∙◌, inl, refl, to_z, of_z}
+use Rattle.std.proofs.Common.{rules, ◌≡◌, ◌<◌, ◌++◌, ◌+ℤ◌, ℕ, ℤ, Bool, None, pos, length, map, ap, ◌∙◌, refl, to_z, of_z}
 use mir.Syntax.{w128}
 use Rattle.asn_values.specs.declared.value.Value as values
 use Rattle.asn_values.specs.declared.value.Value.TheVariants as value

@@ -1,5 +1,5 @@
 -- The fewest bits and octets of a number, from the zeros before its first bit.
-use Rattle.std.proofs.Common.{◌≡◌, ◌≤◌, ◌<◌, ◌+◌, ◌-◌, ◌*◌, ◌/◌, ◌^◌, ℕ, ℤ, pos, negsuc, ◌≤ℤ◌, zero, suc, nat_le, inl, inr, ◌∙◌, ap, arith}
+use Rattle.std.proofs.Common.{◌≡◌, ◌≤◌, ◌<◌, ◌+◌, ◌-◌, ◌*◌, ◌/◌, ◌^◌, ℕ, ℤ, pos, negsuc, ◌≤ℤ◌, ◌<ℤ◌, zero, suc, nat_le, inl, inr, ◌∙◌, ap, arith}
 use Rattle.std.proofs.lemmas.Bool.{le-leb, cases_lt}
 use Rattle.std.proofs.lemmas.Nat.{leading_length}
 use Rattle.std.proofs.Math.Nat.{pow-zero, pow-le-pow_right, two-pow-succ}
@@ -52,18 +52,18 @@ octets_counted n m h l p =
     let most : m ≤ 8 * octet_count n = bits_needed m (8 * octet_count n) n l enough in
     omega arith
 
--- the bits of a number of 64, and the octets for them
-pub octet_count_leading : (n : ℕ) → n < 2 ^ 64 → 0 < 64 - count_leading_zeros 64 n → (64 - count_leading_zeros 64 n + 7) / 8 ≡ octet_count n
-octet_count_leading n h p =
-    let found = leading_length 64 n h in
+-- the bits of a number of w, and the octets for them
+pub octet_count_leading : (w n : ℕ) → n < 2 ^ w → 0 < w - count_leading_zeros w n → (w - count_leading_zeros w n + 7) / 8 ≡ octet_count n
+octet_count_leading w n h p =
+    let found = leading_length w n h in
     let m = found.0 in
-    let e : 64 - count_leading_zeros 64 n ≡ m = omega arith in
+    let e : w - count_leading_zeros w n ≡ m = omega arith in
     ap (λ t. (t + 7) / 8) e ∙ octets_counted n m found.2 found.3 (omega arith)
 
 -- no bits are the number 0, in one octet
-pub octet_count_none : (n : ℕ) → n < 2 ^ 64 → 64 - count_leading_zeros 64 n ≡ 0 → octet_count n ≡ 1
-octet_count_none n h e =
-    let found = leading_length 64 n h in
+pub octet_count_none : (w n : ℕ) → n < 2 ^ w → w - count_leading_zeros w n ≡ 0 → octet_count n ≡ 1
+octet_count_none w n h e =
+    let found = leading_length w n h in
     let m : found.0 ≡ 0 = omega arith in
     let z : 2 ^ found.0 ≡ 1 = ap (λ i. 2 ^ i) m ∙ pow-zero 2 in
     let n_zero : n ≡ 0 = omega arith in
@@ -82,7 +82,12 @@ signed_count_leading z h =
     let same : k ≡ signed_octet_count z = omega (arith, least, most, signed_count_some z) in
     ap (λ t. t / 8) e ∙ same
 
--- an integer of 64 signed bits
-pub magnitude_below : (z : ℤ) → lowest_integer ≤ℤ z → z ≤ℤ highest_integer → magnitude z < 2 ^ 63
+-- an integer of the profile
+pub magnitude_below : (z : ℤ) → lowest_integer ≤ℤ z → z ≤ℤ highest_integer → magnitude z < 2 ^ 64
 magnitude_below (pos n) p q = omega (arith, ints)
 magnitude_below (negsuc n) p q = omega (arith, ints)
+
+-- one of 64 signed bits
+pub magnitude_short : (z : ℤ) → lowest_integer ≤ℤ z → z <ℤ pos (2 ^ 63) → magnitude z < 2 ^ 63
+magnitude_short (pos n) p q = omega (arith, ints)
+magnitude_short (negsuc n) p q = omega (arith, ints)

@@ -1,12 +1,12 @@
 -- The fewest octets of a number, under their general length, are one number in bits.
-use Rattle.std.proofs.Common.{◌≡◌, ◌<◌, ◌*◌, ◌/◌, ◌%◌, ◌^◌, ℕ, ℤ, List, [], ◌∷◌, ◌++◌, length, map, take, inl, inr, refl, sym, ◌∙◌, ap, arith}
+use Rattle.std.proofs.Common.{◌≡◌, ◌<◌, ◌+◌, ◌*◌, ◌/◌, ◌%◌, ◌^◌, ℕ, ℤ, pos, ◌≤ℤ◌, List, [], ◌∷◌, ◌++◌, length, map, take, inl, inr, refl, sym, ◌∙◌, ap, append_assoc, arith}
 use Rattle.std.proofs.lemmas.List.{append-nil, length-map}
 use Rattle.std.proofs.Math.Seq.{take-length}
 use Rattle.asn_bits.specs.Numbers.{bits, octets, octet_count, least, unpacked, signed_octets, signed_octet_count, least_signed}
 use Rattle.asn_bits.specs.Lengths.{last_length, lengths_within, lengths, joined, with_lengths, general_octets}
 use Rattle.asn_bits.proofs.GeneralLengths.{last_cases, map_same}
 use Rattle.asn_bits.proofs.Octets.{length-digits}
-use Rattle.asn_bits.proofs.Splits.{unpacked-octets}
+use Rattle.asn_bits.proofs.Splits.{unpacked-octets, digits-add, digits-mod, digits-join}
 
 -- a length below 128 is the length in eight bits
 short_length : (n : ℕ) → n < 128 → (last_length n).bits ≡ bits 8 n
@@ -50,3 +50,15 @@ general_least n k few e = general_counted (least n) n k (ap (λ t. octets t n) (
 -- an integer in two's complement
 pub general_signed : (z : ℤ) (n k : ℕ) → signed_octets k z ≡ octets k n → k < 128 → k ≡ signed_octet_count z → general_octets (λ u. u) (least_signed z) ≡ bits 8 k ++ bits (8 * k) n
 general_signed z n k o few e = general_counted (least_signed z) n k (ap (λ t. signed_octets t z) (sym e) ∙ o) few
+
+-- ---- nine octets
+
+-- after their count they are a number in 16 bits and one in 64
+pub nine_octets : (n : ℕ) → n < 2 ^ 72 → bits 8 9 ++ bits 72 n ≡ bits 16 (2304 + n / 2 ^ 64) ++ bits 64 (n % 2 ^ 64)
+nine_octets n h =
+    let high : n / 2 ^ 64 < 2 ^ 8 = omega (arith, h) in
+    let split : bits 72 n ≡ bits 8 (n / 2 ^ 64) ++ bits 64 n = digits-add 2 8 64 n in
+    let front : bits 8 9 ++ bits 8 (n / 2 ^ 64) ≡ bits 16 (2304 + n / 2 ^ 64) = digits-join 2 (omega arith) 8 8 9 (n / 2 ^ 64) high in
+    let back : bits 64 (n % 2 ^ 64) ≡ bits 64 n = digits-mod 2 (omega arith) 64 n in
+    ap (λ t. bits 8 9 ++ t) split ∙ sym (append_assoc (bits 8 9) (bits 8 (n / 2 ^ 64)) (bits 64 n))
+    ∙ ap (λ t. t ++ bits 64 n) front ∙ ap (λ t. bits 16 (2304 + n / 2 ^ 64) ++ t) (sym back)

@@ -85,3 +85,7 @@ first_number {us = us} {rest} k n m more s h e =
 pub first_bits : {S : ℕ → Type 0} {us : List ℕ} (k : ℕ) → Meets S 0 k → ((n : ℕ) (rest : List ℕ) → StandsFirst k S n us rest → ⊥) → 1 ≤ k
 first_bits {us = us} zero m none = absurd (none 0 us (record { number = []; spelt = record { digits = record { digits = tt; count = refl; sum = refl }; member = meets_member m }; split = refl }))
 first_bits (suc k) m none = omega arith
+
+-- a number in k bits has no more
+pub in_bits : {S : ℕ → Type 0} (k n : ℕ) (ds : List ℕ) → InSet k S n ds → n < 2 ^ k
+in_bits k n ds i = omega (arith, weighted_bound 2 ds i.digits.digits, i.digits.sum, ap (λ (j : ℕ). 2 ^ j) i.digits.count)

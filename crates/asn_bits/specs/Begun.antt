@@ -1,5 +1,5 @@
 -- Numbers of a set of which some bits are given, and numbers in front of others.
-use Rattle.std.specs.Prelude.{◌≡◌, ◌<◌, ℕ, List, ◌++◌, length}
+use Rattle.std.specs.Prelude.{◌≡◌, ◌<◌, ◌^◌, ℕ, List, ◌++◌, length, ⊤}
 use Rattle.asn_bits.specs.Sets.{InSet, Among}
 use Rattle.asn_bits.specs.declared.number_field.FieldState.{FieldState}
 use Rattle.asn_bits.specs.declared.number_field.FieldState.TheVariants as state
@@ -15,6 +15,12 @@ pub record BegunField : Type 0 where
   pub numbers : List (ℕ × ℕ)
   pub width : ℕ
   pub given : List ℕ
+
+-- a number that is told has 64 bits at most
+abbrev pub IsWord : FieldState → Type 0
+IsWord state.Alive = ⊤
+IsWord (state.Number n) = n < 2 ^ 64
+IsWord state.Dead = ⊤
 
 -- what is to be said of the number
 abbrev pub Tells : BegunField → FieldState → Type 0

@@ -1,5 +1,6 @@
 //! General lengths bit by bit or in one step, fragment by fragment (X.691, "general length determinant").
 ghost use Rattle.std.specs.Prelude.{◌≡◌, ◌≢◌, ◌↔◌, ◌≤◌, ◌<◌, ◌+◌, ◌*◌, ◌^◌, ℕ, Some, true, [], ◌∷◌, ◌++◌, IsTrue, IfSome, IsSome, IsNone, ⊤};
+ghost use Rattle.asn_bits.specs.Begun.{IsWord};
 ghost use Rattle.asn_bits.specs.Lengths.{blocks};
 ghost use Rattle.asn_bits.specs.Sink.{bit_of};
 ghost use Rattle.asn_bits.specs.Ranges.{Spanned, AtMost, Reaches, Meet};
@@ -83,6 +84,7 @@ impl Lengths {
         ensures first { TellsFirst (CountsLeft self.old.counts self.old.blocks)
             (self.old.bits ++ bit_of bit ∷ []) result }
         ensures goes { Goes self.old (bit_of bit ∷ []) result self.new }
+        ensures narrow { IsWord result }
     {
         let Some(state) = after_bit(self.state, bit) else {
             return FieldState::Dead;
@@ -94,7 +96,7 @@ impl Lengths {
             let (items, blocks_read, next) = after_length(self.blocks_read, form, number);
             self.blocks_read = blocks_read;
             self.state = next;
-            return FieldState::Number(items);
+            return FieldState::Number(u128::from(items));
         }
         self.state = state;
         FieldState::Alive

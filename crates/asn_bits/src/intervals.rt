@@ -11,7 +11,7 @@ const MAX_INTERVALS: usize = 4;
 /// their ends, the low end of an interval before its high one.
 #[derive(Drop)]
 pub struct Intervals {
-    ends: [(u64, u64); MAX_INTERVALS],
+    ends: [(u128, u128); MAX_INTERVALS],
     // how many of them are the set's; the others are garbage
     count: usize,
 }
@@ -36,7 +36,7 @@ impl Intervals {
     }
 
     /// The numbers from `low` to `high`.
-    pub fn one(low: u64, high: u64) -> Intervals
+    pub fn one(low: u128, high: u128) -> Intervals
         requires { low ≤ high }
         ensures { result ≡ (low, high) ∷ [] }
     {
@@ -47,7 +47,7 @@ impl Intervals {
     }
 
     /// These numbers, and those from `low` to `high`.
-    pub fn and(mut self, low: u64, high: u64) -> Intervals
+    pub fn and(mut self, low: u128, high: u128) -> Intervals
         requires ordered { low ≤ high }
         requires room { length self < 4 }
         ensures { result ≡ self ++ (low, high) ∷ [] }
@@ -68,15 +68,15 @@ impl Intervals {
     }
 
     /// Whether `n` is one of the numbers.
-    pub fn has(&self, n: u64) -> bool
+    pub fn has(&self, n: u128) -> bool
         ensures { IsTrue result ↔ Among self.now n }
     {
         self.meets(n, 0)
     }
 
     /// Whether one of the numbers begins with the bits of `prefix`, `left` bits before its end.
-    pub fn meets(&self, prefix: u64, left: u32) -> bool
-        requires { left < 64 }
+    pub fn meets(&self, prefix: u128, left: u32) -> bool
+        requires { left < 128 }
         ensures { IsTrue result ↔ Meets (λ n. Among self.now n) prefix left }
     {
         for (low, high) in &self.ends[..self.count] {

@@ -6,7 +6,7 @@ ghost use Rattle.asn_bits.specs.Lengths.{general_octets};
 ghost use Rattle.asn_bits.specs.Numbers.{bits, least, least_signed};
 ghost use Rattle.asn_bits.specs.Sink.{IsPut};
 
-use crate::numbers::{octet_count, signed_octet_count, signed_residue};
+use crate::numbers::{least_signed_parts, octet_count};
 use crate::sink::{BitSink, put, put_octets};
 use asn_values::profile::{BLOCK, MAX_BLOCKS};
 use std::alloc::AllocError;
@@ -35,7 +35,7 @@ impl BitSink {
         self.append_both(8, count as u64, 8 * count, n)
     }
 
-    /// Adds the fewest octets of two's complement of `z`, an integer of 64 signed bits, under their
+    /// Adds the fewest octets of two's complement of `z`, an integer of the profile, under their
     /// general length, as X.691 encodes an unconstrained whole number. An `Err` is out of memory, and
     /// then nothing has changed.
     pub fn push_least_signed_octets(&mut self, z: i128) -> Result<(), AllocError>
@@ -44,9 +44,8 @@ impl BitSink {
         ensures ok { OnOk result (self.new ≡ self.old ++ general_octets (λ u. u) (least_signed z)) }
         ensures err { OnErr result (self.new ≡ self.old) }
     {
-        let count = signed_octet_count(z);
-        let residue = signed_residue(z, count);
-        self.append_both(8, count as u64, 8 * count, residue)
+        let (front_bits, front, rest_bits, rest) = least_signed_parts(z);
+        self.append_both(front_bits, front, rest_bits, rest)
     }
 }
 

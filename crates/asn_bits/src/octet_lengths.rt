@@ -1,5 +1,6 @@
 //! Lengths of OER octet by octet (X.696, "length determinant").
 ghost use Rattle.std.specs.Prelude.{◌≡◌, ◌↔◌, ◌+◌, ◌*◌, ◌^◌, ◌<◌, ◌≤◌, ℕ, [], ◌∷◌, ◌++◌, IfSome, IsNone, IsTrue};
+ghost use Rattle.asn_bits.specs.Begun.{IsWord};
 ghost use Rattle.asn_bits.specs.Ranges.{Spanned};
 ghost use Rattle.asn_bits.specs.LengthStates.{spans};
 ghost use Rattle.asn_bits.specs.OctetLengths.{BegunOctets, TellsOctets, TakesOctet, StartsOctets, IsOctetState, IsWholeLength, state_octets, least_long};
@@ -53,6 +54,7 @@ impl OctetLengths {
     pub fn octet(&mut self, octet: u8) -> FieldState
         ensures state { TellsOctets (Spanned self.old.counts) (self.old.given ++ octet ∷ []) result }
         ensures goes { TakesOctet self.old octet result self.new }
+        ensures narrow { IsWord result }
     {
         are_narrow(self.first, self.second);
         let Some(state) = after_octet(self.state, octet) else {
@@ -64,7 +66,7 @@ impl OctetLengths {
         }
         self.state = state;
         if is_whole(state) {
-            return FieldState::Number(high);
+            return FieldState::Number(u128::from(high));
         }
         FieldState::Alive
     }

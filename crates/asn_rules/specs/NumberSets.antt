@@ -22,9 +22,13 @@ pub record AreAmong (s : NumberSet) (is : List (ℕ × ℕ)) : Type 0 where
   pub there : (n : ℕ) → Admits s n → Among is n
   pub back : (n : ℕ) → Among is n → Admits s n
 
+-- the numbers from the one to the other, but for the one that is excluded; they may have any count of bits
+abbrev pub between_but : ℕ → ℕ → Option ℕ → NumberSet
+between_but low high excluded = record { low = low; high = high; excluded = excluded }
+
 -- the numbers from 0 to the high one, but for the one that is excluded
 abbrev pub up_to : ℕ → Option ℕ → NumberSet
-up_to high excluded = record { low = 0; high = high; excluded = excluded }
+up_to high excluded = between_but 0 high excluded
 
 -- ---- in a fixed count of bits
 

@@ -19,7 +19,7 @@ pub use crate::octet_reader::{
 pub use crate::octet_strings::{read_characters, read_packed, read_variable};
 pub use crate::octet_writer::{
     unused_bits, write_content, write_filling, write_fixed, write_flags, write_least,
-    write_least_signed, write_length,
+    write_least_signed, write_length, write_wide_least, write_wide_number,
 };
 pub use crate::readings::{one_reading, readings_answer};
 pub use crate::short_octets::try_short_octets;
@@ -27,4 +27,5 @@ pub use crate::signed_reader::{OffsetSet, read_signed, read_unconstrained};
 pub use crate::stop::Stop;
 pub use crate::whole_number_reader::{
     greatest_of_width, power_of_two, read_constrained, read_semi_constrained,
+    read_wide_constrained, read_wide_semi_constrained,
 };

@@ -39,7 +39,7 @@ fn read_length_by_bits(lengths: &mut Lengths, bits: &mut BitCursor<'_>) -> Resul
     while let Some(bit) = bits.next() {
         match lengths.bit(bit == 1) {
             FieldState::Alive => {}
-            FieldState::Number(items) => return Ok(items),
+            FieldState::Number(items) => return Ok(items as u64),
             FieldState::Dead => {
                 return Err(Stop::Refused {
                     left: bits_left(bits),

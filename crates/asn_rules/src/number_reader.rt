@@ -4,7 +4,7 @@ ghost use Rattle.std.specs.Prelude.{◌≡◌, ◌≤◌, ◌<◌, ◌*◌, ◌^
 ghost use Rattle.asn_bits.specs.Begun.{StandsFirst};
 ghost use Rattle.asn_bits.specs.Numbers.{bits};
 ghost use Rattle.asn_bits.specs.Sets.{AreBits, Meets, Among};
-ghost use Rattle.asn_rules.specs.NumberSets.{Admits, AreAmong, NoneStandsFirst, NumberIn, NumberAmong, up_to};
+ghost use Rattle.asn_rules.specs.NumberSets.{Admits, AreAmong, NoneStandsFirst, NumberIn, NumberAmong, up_to, between_but};
 ghost use Rattle.asn_rules.specs.Padding.{Fixed};
 ghost use Rattle.asn_rules.specs.PlainReading.{ReadsPlain, StopsPlain};
 
@@ -28,18 +28,38 @@ pub fn admits(set: NumberSet, n: u64) -> bool
     set.low <= n && n <= set.high && set.excluded.is_none_or(|excluded| n != excluded)
 }
 
+/// The numbers from `low` to `high`, but for `excluded`, as a union of intervals.
+pub(crate) fn intervals_between(low: u128, high: u128, excluded: Option<u128>) -> Intervals
+    requires { (n : ℕ) × Admits (between_but low high excluded) n }
+    ensures { AreAmong (between_but low high excluded) result }
+{
+    match excluded {
+        Some(out) if out == low => Intervals::one(out + 1, high),
+        Some(out) if out == high => Intervals::one(low, out - 1),
+        Some(out) if low < out && out < high => Intervals::one(low, out - 1).and(out + 1, high),
+        _ => Intervals::one(low, high),
+    }
+}
+
 /// The set as a union of intervals.
 fn intervals_of(set: NumberSet) -> Intervals
     requires { (n : ℕ) × Admits set n }
     ensures { AreAmong set result }
 {
-    match set.excluded {
-        Some(out) if out == set.low => Intervals::one(out + 1, set.high),
-        Some(out) if out == set.high => Intervals::one(set.low, out - 1),
-        Some(out) if set.low < out && out < set.high => {
-            Intervals::one(set.low, out - 1).and(out + 1, set.high)
-        }
-        _ => Intervals::one(set.low, set.high),
+    intervals_between(
+        u128::from(set.low),
+        u128::from(set.high),
+        widened(set.excluded),
+    )
+}
+
+/// The same number, where there is one.
+fn widened(number: Option<u64>) -> Option<u128>
+    ensures { result ≡ number }
+{
+    match number {
+        Some(n) => Some(u128::from(n)),
+        None => None,
     }
 }
 
@@ -82,7 +102,10 @@ fn read_set_by_bits(k: u32, set: NumberSet, why: Why, bits: &mut BitCursor<'_>) 
     ensures member { IfOk result (λ n. Admits set n) }
     ensures stop { StopsPlain (NumberIn k set) result bits.old }
 {
-    read_number_by_bits(k, intervals_of(set), why, bits)
+    match read_number_by_bits(k, intervals_of(set), why, bits) {
+        Ok(number) => Ok(number as u64),
+        Err(stop) => Err(stop),
+    }
 }
 
 /// Reads a number from 0 to `high` in `k` bits, as `read_number` does.
@@ -105,7 +128,7 @@ pub fn read_up_to(k: u32, high: u64, why: Why, bits: &mut BitCursor<'_>) -> Resu
     read_number(k, set, why, bits)
 }
 
-/// Reads a number of the intervals in `k` bits: in one step if they are present and hold one.
+/// Reads a number of the intervals in `k` bits, 72 at most: in one step if they are present and hold one.
 ///
 /// # Errors
 /// As `read_number`.
@@ -114,11 +137,12 @@ pub fn read_number_among(
     numbers: Intervals,
     why: Why,
     bits: &mut BitCursor<'_>,
-) -> Result<u64, Stop>
-    requires few { k ≤ 64 }
+) -> Result<u128, Stop>
+    requires few { k ≤ 72 }
     requires some { Meets (λ n. Among numbers n) 0 k }
     ensures done { ReadsPlain (NumberAmong k numbers) result bits.old bits.new }
     ensures member { IfOk result (λ n. Among numbers n) }
+    ensures fits { IfOk result (λ n. n < 2 ^ k) }
     ensures stop { StopsPlain (NumberAmong k numbers) result bits.old }
 {
     match try_number_of(&numbers, k, bits) {
@@ -196,12 +220,13 @@ fn read_number_by_bits(
     numbers: Intervals,
     why: Why,
     bits: &mut BitCursor<'_>,
-) -> Result<u64, Stop>
+) -> Result<u128, Stop>
     requires many { 1 ≤ k }
-    requires few { k ≤ 64 }
+    requires few { k ≤ 72 }
     requires some { Meets (λ n. Among numbers n) 0 k }
     ensures done { ReadsPlain (NumberAmong k numbers) result bits.old bits.new }
     ensures member { IfOk result (λ n. Among numbers n) }
+    ensures fits { IfOk result (λ n. n < 2 ^ k) }
     ensures stop { StopsPlain (NumberAmong k numbers) result bits.old }
 {
     let mut field = NumberField::new(k, numbers);

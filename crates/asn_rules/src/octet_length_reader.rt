@@ -112,7 +112,7 @@ fn read_length_by_octets(low: u64, high: u64, units: &mut BitCursor<'_>) -> Resu
     while let Some(octet) = units.take_number(8) {
         match lengths.octet(octet as u8) {
             FieldState::Alive => {}
-            FieldState::Number(n) => return Ok(n),
+            FieldState::Number(n) => return Ok(n as u64),
             FieldState::Dead => {
                 return Err(Stop::Refused {
                     left: octets_left(units) as u128,

@@ -100,7 +100,7 @@ pub fn read_octets_among(
 {
     octets_left(units);
     match read_number_among(8 * k, numbers, why, units) {
-        Ok(n) => Ok(n),
+        Ok(n) => Ok(n as u64),
         Err(stop) => Err(in_octets(stop)),
     }
 }
@@ -177,11 +177,12 @@ pub fn read_counted_signed(
     in_count: Why,
     in_number: Why,
     units: &mut BitCursor<'_>,
-) -> Result<u64, Stop>
+) -> Result<u128, Stop>
     requires at_octet { AtOctet units.old }
     requires gap { IsOpen set }
     requires some { (w : ℕ) × HasOffset set w }
     ensures at_octet { OnOk result (AtOctet units.new) }
+    ensures fits { IfOk result (λ w. w < 2 ^ 72) }
     ensures done { IfOk result (λ w. ReadsOctets (CountedSignedIn set) (lowest_integer +ℤ pos w) units.old units.new) }
     ensures stop { IfErr result (λ why. StopsAtOctets (CountedSignedIn set) units.old why) }
 {

@@ -7,8 +7,13 @@ ghost use Rattle.asn_rules.specs.Fields.{spelled};
 ghost use Rattle.asn_rules.specs.Filled.{unused_bits};
 ghost use Rattle.asn_rules.specs.OctetsWritten.{fixed_octets, filled, flagged};
 
-use asn_bits::internal::{octet_count, signed_octet_count, signed_residue};
+use asn_bits::internal::{
+    least_parts, octet_count, signed_octet_count, signed_residue,
+};
 use asn_sinks::Sink;
+
+/// One more than the highest number of 64 bits.
+const WORD: u128 = 1 << 64;
 
 /// The first length that one octet does not tell.
 const LONG: u64 = 128;
@@ -85,7 +90,39 @@ pub fn write_least<S: Sink>(n: u64, sink: &mut S) -> Result<(), S::Fault>
     sink.push_low_octets(count, n)
 }
 
-/// Writes the fewest octets of two's complement of an integer of 64 signed bits after their count.
+/// Writes the fewest octets of a number of up to 72 bits after their count.
+///
+/// # Errors
+/// That of the sink.
+pub fn write_wide_least<S: Sink>(n: u128, sink: &mut S) -> Result<(), S::Fault>
+    requires { n < 2 ^ 72 }
+    ensures { OnOk result (S.pushes sink.old sink.new (general_octets (λ u. u) (least n))) }
+{
+    if n < WORD {
+        return sink.push_least_octets(n as u64);
+    }
+    let (front_bits, front, rest_bits, rest) = least_parts(n);
+    sink.push_number(front_bits, front)?;
+    sink.push_number(rest_bits, rest)
+}
+
+/// Writes `n` in `k` bits, 72 at most, the highest first.
+///
+/// # Errors
+/// That of the sink.
+pub fn write_wide_number<S: Sink>(k: u32, n: u128, sink: &mut S) -> Result<(), S::Fault>
+    requires few { k ≤ 72 }
+    requires fits { n < 2 ^ k }
+    ensures { OnOk result (S.pushes sink.old sink.new (bits k n)) }
+{
+    if k <= 64 {
+        return sink.push_number(k, n as u64);
+    }
+    sink.push_number(k - 64, (n / WORD) as u64)?;
+    sink.push_number(64, (n % WORD) as u64)
+}
+
+/// Writes the fewest octets of two's complement of an integer of the profile after their count.
 ///
 /// # Errors
 /// That of the sink.
@@ -95,6 +132,10 @@ pub fn write_least_signed<S: Sink>(z: i128, sink: &mut S) -> Result<(), S::Fault
     ensures { OnOk result (S.pushes sink.old sink.new (general_octets (λ u. u) (least_signed z))) }
 {
     let count = signed_octet_count(z);
+    if count > 8 {
+        sink.push_low_octets(2, 9 << 8)?;
+        return sink.push_low_octets(8, z as u64);
+    }
     let residue = signed_residue(z, count);
     match count {
         1 => sink.push_low_octets(2, (1 << 8) + residue),

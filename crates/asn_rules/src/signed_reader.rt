@@ -1,6 +1,6 @@
 //! The reader of integers in the fewest octets of two's complement (X.691, "unconstrained whole number").
 
-ghost use Rattle.std.specs.Prelude.{◌≡◌, ◌≤◌, ◌<◌, ◌+◌, ◌-◌, ◌*◌, ◌^◌, ◌⊎◌, ℕ, pos, ◌+ℤ◌, length, IsTrue, IsNone, IfSome};
+ghost use Rattle.std.specs.Prelude.{◌≡◌, ◌≤◌, ◌<◌, ◌+◌, ◌-◌, ◌*◌, ◌^◌, ◌⊎◌, ℕ, pos, ◌+ℤ◌, ◌≤ℤ◌, length, IsTrue, IsNone, IfSome, IfOk};
 ghost use Rattle.asn_values.specs.Fits.{lowest_integer, offset_of_zero, integer_count};
 ghost use Rattle.asn_bits.specs.Sets.{Among};
 ghost use Rattle.asn_rules.specs.Counted.{signed_number};
@@ -39,14 +39,15 @@ pub fn read_unconstrained(
     in_count: Why,
     in_number: Why,
     bits: &mut BitCursor<'_>,
-) -> Result<u64, Stop>
+) -> Result<u128, Stop>
     requires gap { IsOpen set }
     requires some { (w : ℕ) × HasOffset set w }
     ensures done { ReadsOffset (UnconstrainedIn set) result bits.old bits.new }
+    ensures fits { IfOk result (λ w. w < 2 ^ 72) }
     ensures stop { StopsPlain (UnconstrainedIn set) result bits.old }
 {
     match try_unconstrained(set, bits) {
-        Some(offset) => Ok(offset),
+        Some(offset) => Ok(u128::from(offset)),
         None => read_unconstrained_by_parts(set, in_count, in_number, bits),
     }
 }
@@ -83,20 +84,21 @@ fn read_unconstrained_by_parts(
     in_count: Why,
     in_number: Why,
     bits: &mut BitCursor<'_>,
-) -> Result<u64, Stop>
+) -> Result<u128, Stop>
     requires gap { IsOpen set }
     requires some { (w : ℕ) × HasOffset set w }
     ensures done { ReadsOffset (UnconstrainedIn set) result bits.old bits.new }
+    ensures fits { IfOk result (λ w. w < 2 ^ 72) }
     ensures stop { StopsPlain (UnconstrainedIn set) result bits.old }
 {
     let counts = NumberSet {
         low: u64::from(lowest_count(set)),
-        high: 8,
+        high: u64::from(highest_count(set)),
         excluded: None,
     };
     let count = read_number(8, counts, in_count, bits)? as u32;
     let number = read_number_among(8 * count, numbers_of_count(set, count), in_number, bits)?;
-    Ok(offset_of(count, number))
+    Ok(wide_offset_of(count, number))
 }
 
 /// Reads an integer of the set in `count` octets of two's complement: in one step if they are present and hold one.
@@ -138,8 +140,10 @@ fn read_signed_by_bits(
     ensures done { ReadsOffset (SignedIn count set) result bits.old bits.new }
     ensures stop { StopsPlain (SignedIn count set) result bits.old }
 {
-    let number = read_number_among(8 * count, numbers_in(set, count), why, bits)?;
-    Ok(offset_of(count, number))
+    match read_number_among(8 * count, numbers_in(set, count), why, bits) {
+        Ok(number) => Ok(offset_of(count, number as u64)),
+        Err(stop) => Err(stop),
+    }
 }
 
 /// Fast path: an integer of the set in `count` octets of two's complement, where they are present and hold one;
@@ -171,31 +175,43 @@ fn has_offset(set: OffsetSet, w: u128) -> bool
 /// The least count of octets that an integer of the set needs.
 fn lowest_count(set: OffsetSet) -> u32
     requires gap { IsOpen set }
-    requires some { (w : ℕ) × HasOffset set w }
     ensures some { 1 ≤ result }
-    ensures few { result ≤ 8 }
+    ensures few { result ≤ 9 }
     ensures there { (count : ℕ) → result ≤ count → count ≤ 8 → NeedsCount set count }
-    ensures back { (count : ℕ) → NeedsCount set count → (result ≤ count) × (count ≤ 8) }
+    ensures back { (count : ℕ) → NeedsCount set count → result ≤ count }
 {
-    for count in 1..8 {
+    for count in 1..9 {
         if has_count(set, count) {
             return count;
         }
     }
-    8
+    9
+}
+
+/// The highest count of octets that an integer of the set needs, where one needs eight or fewer.
+fn highest_count(set: OffsetSet) -> u32
+    requires gap { IsOpen set }
+    ensures some { 8 ≤ result }
+    ensures few { result ≤ 9 }
+    ensures there { result ≡ 9 → NeedsCount set 9 }
+    ensures back { (count : ℕ) → NeedsCount set count → count ≤ result }
+{
+    if has_count(set, 9) { 9 } else { 8 }
 }
 
 /// Whether an integer of the set needs `count` octets.
 fn has_count(set: OffsetSet, count: u32) -> bool
     requires some { 1 ≤ count }
-    requires few { count ≤ 8 }
+    requires few { count ≤ 9 }
+    requires within { set.end ≤ integer_count }
     ensures there { IsTrue result → NeedsCount set count }
     ensures back { NeedsCount set count → IsTrue result }
 {
     let least = least_magnitude(count);
     let weight = sign_weight(count);
+    let lowest = OFFSET_OF_ZERO.saturating_sub(weight);
     has_between(set, OFFSET_OF_ZERO + least, OFFSET_OF_ZERO + weight)
-        || has_between(set, OFFSET_OF_ZERO - weight, OFFSET_OF_ZERO - least)
+        || has_between(set, lowest, OFFSET_OF_ZERO - least)
 }
 
 /// Whether an offset of the set lies in `first..end`.
@@ -233,11 +249,13 @@ fn numbers_in(set: OffsetSet, count: u32) -> Intervals
 /// The integers of the set that need `count` octets, as the unsigned numbers that these octets hold.
 fn numbers_of_count(set: OffsetSet, count: u32) -> Intervals
     requires some { 1 ≤ count }
-    requires few { count ≤ 8 }
+    requires few { count ≤ 9 }
+    requires within { set.end ≤ integer_count }
     ensures { AreSigned set count result }
 {
     let least = least_magnitude(count);
     let weight = sign_weight(count);
+    let lowest = OFFSET_OF_ZERO.saturating_sub(weight);
     let numbers = add_shifted(
         Intervals::none(),
         set,
@@ -248,7 +266,7 @@ fn numbers_of_count(set: OffsetSet, count: u32) -> Intervals
     add_shifted(
         numbers,
         set,
-        OFFSET_OF_ZERO - weight,
+        lowest,
         OFFSET_OF_ZERO - least,
         2 * weight,
     )
@@ -258,7 +276,7 @@ fn numbers_of_count(set: OffsetSet, count: u32) -> Intervals
 fn add_shifted(numbers: Intervals, set: OffsetSet, first: u128, end: u128, up: u128) -> Intervals
     requires room { length numbers ≤ 2 }
     requires low { offset_of_zero ≤ first + up }
-    requires high { end + up ≤ offset_of_zero + integer_count }
+    requires high { end + up < 2 ^ 80 }
     ensures numbers { AreShifted numbers result set first end up }
     ensures room { length result ≤ length numbers + 2 }
 {
@@ -271,7 +289,7 @@ fn add_shifted(numbers: Intervals, set: OffsetSet, first: u128, end: u128, up: u
 fn add_interval(numbers: Intervals, first: u128, end: u128, up: u128) -> Intervals
     requires room { length numbers < 4 }
     requires low { offset_of_zero ≤ first + up }
-    requires high { end + up ≤ offset_of_zero + integer_count }
+    requires high { end + up < 2 ^ 80 }
     ensures there { (n : ℕ) → Among result n → Among numbers n ⊎ IsRaised first end up n }
     ensures kept { (n : ℕ) → Among numbers n → Among result n }
     ensures added { (n : ℕ) → first + up ≤ n + offset_of_zero → n + offset_of_zero < end + up
@@ -279,10 +297,7 @@ fn add_interval(numbers: Intervals, first: u128, end: u128, up: u128) -> Interva
     ensures room { length result ≤ length numbers + 1 }
 {
     if first < end {
-        numbers.and(
-            (first + up - OFFSET_OF_ZERO) as u64,
-            (end - 1 + up - OFFSET_OF_ZERO) as u64,
-        )
+        numbers.and(first + up - OFFSET_OF_ZERO, end - 1 + up - OFFSET_OF_ZERO)
     } else {
         numbers
     }
@@ -291,9 +306,10 @@ fn add_interval(numbers: Intervals, first: u128, end: u128, up: u128) -> Interva
 /// The weight of the sign bit in `count` octets.
 fn sign_weight(count: u32) -> u128
     requires some { 1 ≤ count }
-    requires few { count ≤ 8 }
+    requires few { count ≤ 9 }
     ensures is { result ≡ 2 ^ (8 * count - 1) }
-    ensures within { result ≤ 2 ^ 63 }
+    ensures few { result ≤ 2 ^ 71 }
+    ensures within { count ≤ 8 → result ≤ 2 ^ 63 }
 {
     1u128 << (8 * count - 1)
 }
@@ -301,8 +317,9 @@ fn sign_weight(count: u32) -> u128
 /// The least magnitude that `count - 1` octets cannot hold beside the sign.
 fn least_magnitude(count: u32) -> u128
     requires some { 1 ≤ count }
-    requires few { count ≤ 8 }
+    requires few { count ≤ 9 }
     ensures is { result ≡ least_magnitude_of count }
+    ensures few { result ≤ 2 ^ 63 }
     ensures within { result < 2 ^ (8 * count - 1) }
 {
     if count <= 1 {
@@ -324,5 +341,22 @@ fn offset_of(count: u32, number: u64) -> u64
         (OFFSET_OF_ZERO + u128::from(number)) as u64
     } else {
         number - weight + (power_of_two(63) - weight)
+    }
+}
+
+/// The same of a number of up to nine octets, where the integer is no lower than those of the profile.
+fn wide_offset_of(count: u32, number: u128) -> u128
+    requires some { 1 ≤ count }
+    requires few { count ≤ 9 }
+    requires fits { number < 256 ^ count }
+    requires within { lowest_integer ≤ℤ signed_number (count, number) }
+    ensures same { lowest_integer +ℤ pos result ≡ signed_number (count, number) }
+    ensures few { result < 2 ^ 72 }
+{
+    let weight = sign_weight(count);
+    if number < weight {
+        OFFSET_OF_ZERO + number
+    } else {
+        OFFSET_OF_ZERO + number - 2 * weight
     }
 }

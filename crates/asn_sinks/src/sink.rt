@@ -7,7 +7,7 @@ ghost use Rattle.asn_bits.specs.Numbers.{bits, least, least_signed, unpacked};
 ghost use Rattle.asn_bits.specs.Sink.{bit_of};
 
 use asn_bits::internal::{
-    last_octets, next_length, octet_count, signed_octet_count, signed_residue, word_of_bits,
+    last_octets, least_signed_parts, next_length, octet_count, word_of_bits,
 };
 use asn_values::profile::BLOCK;
 
@@ -159,17 +159,16 @@ pub trait Sink {
         self.push_number(8 * count, n)
     }
 
-    /// Adds the fewest octets of two's complement of `z`, an integer of 64 signed bits, under their general length, as
+    /// Adds the fewest octets of two's complement of `z`, an integer of the profile, under their general length, as
     /// X.691 encodes an unconstrained whole number.
     fn push_least_signed_octets(&mut self, z: i128) -> Result<(), Self::Fault>
         requires low { lowest_integer ≤ℤ z }
         requires high { z ≤ℤ highest_integer }
         ensures { OnOk result (pushes self.old self.new (general_octets (λ u. u) (least_signed z))) }
     {
-        let count = signed_octet_count(z);
-        let residue = signed_residue(z, count);
-        self.push_number(8, count as u64)?;
-        self.push_number(8 * count, residue)
+        let (front_bits, front, rest_bits, rest) = least_signed_parts(z);
+        self.push_number(front_bits, front)?;
+        self.push_number(rest_bits, rest)
     }
 
     /// No bits are taken where the sink stays as it is.

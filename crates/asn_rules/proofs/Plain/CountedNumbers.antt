@@ -91,7 +91,7 @@ least_below c h = go (cases_lt 1 c)
     go (inr k) = omega (arith, least_one c k, next, one-le-pow (c - 1) 256 (omega arith))
 
 -- a count below that of the highest number
-pub lower_count : (top : ℕ) (e : Option ℕ) (c : ℕ) → 1 ≤ c → c < octet_count top → octet_count top ≤ 8 → SomeOf (Least (λ m. Admits (up_to top e) m)) c
+pub lower_count : (top : ℕ) (e : Option ℕ) (c : ℕ) → 1 ≤ c → c < octet_count top → octet_count top ≤ 9 → SomeOf (Least (λ m. Admits (up_to top e) m)) c
 lower_count top e c some h few =
     let up : 256 ^ c ≤ 256 ^ (octet_count top - 1) = power_up c (octet_count top - 1) (omega arith) in
     let more : least_of (octet_count top) ≡ 256 ^ (octet_count top - 1) = least_more (octet_count top) (omega arith) in
@@ -99,7 +99,7 @@ lower_count top e c some h few =
     two_have top e c (least_of c) (least_of c + 1) some (omega arith) (omega arith) (omega arith) (least_below c some) (omega (arith, least_below c some))
 
 -- the count of the highest number, where that is not left out, or is not the least with its count
-pub highest_count : (top : ℕ) (e : Option ℕ) → octet_count top ≤ 8 → IsNot e top ⊎ (top ≢ least_of (octet_count top)) → SomeOf (Least (λ m. Admits (up_to top e) m)) (octet_count top)
+pub highest_count : (top : ℕ) (e : Option ℕ) → octet_count top ≤ 9 → IsNot e top ⊎ (top ≢ least_of (octet_count top)) → SomeOf (Least (λ m. Admits (up_to top e) m)) (octet_count top)
 highest_count top e few (inl n) =
     record { few = omega arith; number = top; member = record { member = (omega arith, omega arith, n); count = refl }; fits = octet_count_fits top }
 highest_count top e few (inr n) =

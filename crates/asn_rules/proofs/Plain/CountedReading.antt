@@ -47,7 +47,7 @@ both x top low h = go (eqb x top) (eqb top low) refl refl h
     go true false p q r = absurd (cc)
     go false b p q r = absurd (cc)
 
-up_to_count : (top : ℕ) (e : Option ℕ) (c : ℕ) → octet_count top ≤ 8 → 1 ≤ c → c ≤ octet_count top → (c ≡ octet_count top → IsNot e top ⊎ (top ≢ least_of (octet_count top))) → SomeOf (Least (Those top e)) c
+up_to_count : (top : ℕ) (e : Option ℕ) (c : ℕ) → octet_count top ≤ 9 → 1 ≤ c → c ≤ octet_count top → (c ≡ octet_count top → IsNot e top ⊎ (top ≢ least_of (octet_count top))) → SomeOf (Least (Those top e)) c
 up_to_count top e c few some h last = go (cases_lt c (octet_count top))
   where
     go : (c < octet_count top) ⊎ (octet_count top ≤ c) → SomeOf (Least (Those top e)) c
@@ -56,7 +56,7 @@ up_to_count top e c few some h last = go (cases_lt c (octet_count top))
         let same : c ≡ octet_count top = omega arith in
         subst (SomeOf (Least (Those top e))) (sym same) (highest_count top e few (last same))
 
-pub count_there : (top : ℕ) (e : Option ℕ) → octet_count top ≤ 8 → (c : ℕ) → Admits (counts_of top e) c → SomeOf (Least (Those top e)) c
+pub count_there : (top : ℕ) (e : Option ℕ) → octet_count top ≤ 9 → (c : ℕ) → Admits (counts_of top e) c → SomeOf (Least (Those top e)) c
 count_there top None few c h = up_to_count top None c few h.0 h.1 (λ e. inl tt)
 count_there top (Some x) few c h = go (eqb x top && eqb top (least_of (octet_count top))) refl
   where
@@ -83,11 +83,11 @@ count_back top (Some x) c s = go (eqb x top && eqb top (least_of (octet_count to
         (within.0, subst (λ (b : Bool). c ≤ elim b [ true ↦ octet_count top - 1 | false ↦ octet_count top ]) (sym t) (omega (arith, less)), tt)
 
 -- the counts that some number has are those that the reader admits
-pub same_counts : (top : ℕ) (e : Option ℕ) → octet_count top ≤ 8 → Same (Plain (InDigits 2 8 (λ n. Admits (counts_of top e) n))) (Plain (InDigits 2 8 (SomeOf (Least (λ m. Admits (up_to top e) m)))))
+pub same_counts : (top : ℕ) (e : Option ℕ) → octet_count top ≤ 9 → Same (Plain (InDigits 2 8 (λ n. Admits (counts_of top e) n))) (Plain (InDigits 2 8 (SomeOf (Least (λ m. Admits (up_to top e) m)))))
 same_counts top e few = same_set 2 8 (count_there top e few) (count_back top e)
 
 -- and one is there
-pub some_count : (top : ℕ) (e : Option ℕ) → octet_count top ≤ 8 → Meets (λ n. Admits (up_to top e) n) 0 64 → Meets (λ n. Admits (counts_of top e) n) 0 8
+pub some_count : {k : ℕ} (top : ℕ) (e : Option ℕ) → octet_count top ≤ 9 → Meets (λ n. Admits (up_to top e) n) 0 k → Meets (λ n. Admits (counts_of top e) n) 0 8
 some_count top e few m =
     let c = octet_count m.number in
     let within = count_up m.number top m.member.1 in
@@ -110,18 +110,18 @@ some_number top e c last some power s = record {
 
 -- ---- the answers of their readers
 
--- a number of 64 bits has at most 8 octets
-pub at_most_eight : (top : ℕ) → top < 2 ^ 64 → octet_count top ≤ 8
-at_most_eight top h = octet_count_below top 8 (omega arith) (omega arith)
+-- a number of 72 bits has at most 9 octets
+pub at_most_nine : (top : ℕ) → top < 2 ^ 72 → octet_count top ≤ 9
+at_most_nine top h = octet_count_below top 9 (omega arith) (omega (arith, h))
 
 -- the reader of the count stops
-pub stops_at_count : (R : Fielding) (top : ℕ) (e : Option ℕ) (us : List ℕ) → octet_count top ≤ 8
+pub stops_at_count : (R : Fielding) (top : ℕ) (e : Option ℕ) (us : List ℕ) → octet_count top ≤ 9
     → LeadsStops R (Plain (InDigits 2 8 (λ n. Admits (counts_of top e) n))) us (SemiConstrainedIn (up_to top e)) us
 stops_at_count R top e us few =
     stops_on (leads_same R us (same_counts top e few)).stops (stops_on (stops_count R us eight_bits) (leads_map R number_of (Counted 2 8 (Least (Those top e))) us).stops)
 
 -- the reader of the number answers for the whole
-pub leads_to_number : (R : Fielding) (top : ℕ) (e : Option ℕ) (c last : ℕ) (us r : List ℕ) → octet_count top ≤ 8 → 1 ≤ c → last + 1 ≡ 256 ^ c
+pub leads_to_number : (R : Fielding) (top : ℕ) (e : Option ℕ) (c last : ℕ) (us r : List ℕ) → octet_count top ≤ 9 → 1 ≤ c → last + 1 ≡ 256 ^ c
     → Spells R (Plain (InDigits 2 8 (λ n. Admits (counts_of top e) n))) c us r
     → Leads R (Plain (InDigits 2 (8 * c) (λ n. Admits (numbers_of top e c last) n))) r (λ n. n) (SemiConstrainedIn (up_to top e)) us
 leads_to_number R top e c last us r few some power s =

@@ -2,7 +2,7 @@
 use Rattle.std.proofs.Common.{◌≡◌, ◌<◌, ◌≤◌, ◌+◌, ◌*◌, ◌/◌, ◌%◌, ◌^◌, ◌++◌, append_assoc, ◌+ℤ◌, ℕ, ℤ, pos, ◌≤ℤ◌, List, None, refl, sym, ap, ◌∙◌, subst, arith}
 use Rattle.std.proofs.lemmas.Int.{ints}
 use Rattle.std.proofs.Math.Nat.{mod-lt, one-le-pow}
-use Rattle.asn_values.specs.Fits.{lowest_integer, highest_integer}
+use Rattle.asn_values.specs.Fits.{lowest_integer, highest_integer, integer_count}
 use Rattle.asn_bits.specs.Numbers.{bits, signed_octet_count}
 use Rattle.asn_bits.specs.Sets.{InDigits, Among, Meets}
 use Rattle.asn_bits.proofs.Above.{above-add}
@@ -24,29 +24,37 @@ use Rattle.asn_rules.proofs.Languages.Exits.{stops_count}
 use Rattle.asn_rules.proofs.Languages.Forks.{same_spells}
 use Rattle.asn_rules.proofs.Languages.Leads.{LeadsStops, Leads, stops_on, leads_on, leads_map, leads_same}
 use Rattle.asn_rules.proofs.Plain.NumberSets.{same_set, counted_leads}
+use Rattle.asn_rules.proofs.Plain.SignedNumbers.{count_of_offset}
 use Rattle.asn_rules.proofs.Numbers.Sets.{set_spells}
 
 -- the counts that a reader admits
-abbrev pub signed_counts : ℕ → NumberSet
-signed_counts low = record { low = low; high = 8; excluded = None }
+abbrev pub signed_counts : ℕ → ℕ → NumberSet
+signed_counts low high = record { low = low; high = high; excluded = None }
 
-module _ (s : OffsetSet) (low : ℕ)
-    (there : (c : ℕ) → low ≤ c → c ≤ 8 → SomeOf (LeastSigned (λ z. HasInteger s z)) c)
-    (back : (c : ℕ) → SomeOf (LeastSigned (λ z. HasInteger s z)) c → (low ≤ c) × (c ≤ 8)) where
-  same_counts : Same (Plain (InDigits 2 8 (λ n. Admits (signed_counts low) n))) (Plain (InDigits 2 8 (SomeOf (LeastSigned (λ z. HasInteger s z)))))
+module _ (s : OffsetSet) (low high : ℕ)
+    (there : (c : ℕ) → low ≤ c → c ≤ high → SomeOf (LeastSigned (λ z. HasInteger s z)) c)
+    (back : (c : ℕ) → SomeOf (LeastSigned (λ z. HasInteger s z)) c → (low ≤ c) × (c ≤ high)) where
+  same_counts : Same (Plain (InDigits 2 8 (λ n. Admits (signed_counts low high) n))) (Plain (InDigits 2 8 (SomeOf (LeastSigned (λ z. HasInteger s z)))))
   same_counts = same_set 2 8 (λ c a. there c a.0 a.1) (λ c o. (let w = back c o in (w.0, w.1, tt)))
 
   -- the reader of the count stops
-  pub stops_at_count : (R : Fielding) (us : List ℕ) → LeadsStops R (Plain (InDigits 2 8 (λ n. Admits (signed_counts low) n))) us (UnconstrainedIn s) us
+  pub stops_at_count : (R : Fielding) (us : List ℕ) → LeadsStops R (Plain (InDigits 2 8 (λ n. Admits (signed_counts low high) n))) us (UnconstrainedIn s) us
   stops_at_count R us =
       stops_on (leads_same R us same_counts).stops (stops_on (stops_count R us eight_bits) (leads_map R signed_number (Counted 2 8 (LeastSigned (λ z. HasInteger s z))) us).stops)
 
   -- the reader of the number answers for the whole
-  pub leads_to_number : (R : Fielding) (c : ℕ) (is : List (ℕ × ℕ)) (us r : List ℕ) → AreSigned s c is → Spells R (Plain (InDigits 2 8 (λ n. Admits (signed_counts low) n))) c us r
+  pub leads_to_number : (R : Fielding) (c : ℕ) (is : List (ℕ × ℕ)) (us r : List ℕ) → AreSigned s c is → Spells R (Plain (InDigits 2 8 (λ n. Admits (signed_counts low high) n))) c us r
       → Leads R (Plain (InDigits 2 (8 * c) (λ n. Among is n))) r (λ n. signed_number (c, n)) (UnconstrainedIn s) us
   leads_to_number R c is us r are h =
       leads_on (leads_same R r (same_set 2 (8 * c) are.back are.there))
       (leads_on (counted_leads R (same_spells same_counts h)) (leads_map R signed_number (Counted 2 8 (LeastSigned (λ z. HasInteger s z))) us))
+
+-- a count is there
+pub some_count : (s : OffsetSet) (low high : ℕ) → s.end ≤ integer_count → ((w : ℕ) × HasOffset s w) → high ≤ 9 → ((c : ℕ) → SomeOf (LeastSigned (λ z. HasInteger s z)) c → (low ≤ c) × (c ≤ high)) → Meets (λ n. Admits (signed_counts low high) n) 0 8
+some_count s low high most o few back =
+    let k = count_of_offset s o.0 most o.1 in
+    let w = back k.0 k.1 in
+    record { number = k.0; member = (w.0, w.1, tt); least = omega arith; below = omega (arith, w.1, few) }
 
 -- a number is there after a count
 pub some_number : (s : OffsetSet) (c : ℕ) (is : List (ℕ × ℕ)) → AreSigned s c is → SomeOf (LeastSigned (λ z. HasInteger s z)) c → Meets (λ n. Among is n) 0 (8 * c)

@@ -9,3 +9,7 @@ returns-clause-width c = width_counted c.args.values c.saturating_sub.result (om
 pub returns-clause-few : goal.returns-clause-few
 returns-clause-few c h =
     omega (arith, width_counted c.args.values c.saturating_sub.result (omega arith) (omega arith), width_below c.args.values 64 h)
+
+pub returns-clause-wide : goal.returns-clause-wide
+returns-clause-wide c h =
+    omega (arith, width_counted c.args.values c.saturating_sub.result (omega arith) (omega arith), width_below c.args.values 72 h)

@@ -12,19 +12,19 @@ use Rattle.asn_bits.proofs.GivenLengths.{dead_bit, live_bit, whole_dead, whole_s
 use Rattle.asn_bits.proofs.general_length.Lengths.bit.Goals as goal
 
 -- the state in which the length is whole
-abbrev here : (c : goal.After-next-1) → LengthState
+abbrev here : (c : goal.After-from) → LengthState
 here c = Number c.in-Some-completed.form c.in-Some-completed.number 0
 
-fits : (c : goal.After-next-1) → IsLengthState (here c)
+fits : (c : goal.After-from) → IsLengthState (here c)
 fits c = subst (λ (p : LengthState). IsLengthState p) c.in-Some-completed.ensures.some c.in-Some.ensures.state
 
-starts : (c : goal.After-next-1) → StartsSome (CountsLeft (spans c.self.inside.first c.self.inside.second) c.self.inside.blocks_read) (state_bits (here c))
+starts : (c : goal.After-from) → StartsSome (CountsLeft (spans c.self.inside.first c.self.inside.second) c.self.inside.blocks_read) (state_bits (here c))
 starts c = subst (λ (p : LengthState). StartsSome (CountsLeft (spans c.self.inside.first c.self.inside.second) c.self.inside.blocks_read) (state_bits p)) c.in-Some-completed.ensures.some (c.is_viable.ensures.exact.0 c.if-not-is_viable.false)
 
-more : (c : goal.After-next-1) → state_bits (here c) ≡ state_bits c.self.inside.state ++ bit_of c.args.bit ∷ []
+more : (c : goal.After-from) → state_bits (here c) ≡ state_bits c.self.inside.state ++ bit_of c.args.bit ∷ []
 more c = ap state_bits (sym c.in-Some-completed.ensures.some) ∙ c.in-Some.ensures.bits
 
-here_whole : (c : goal.After-next-1) → WholeLength (CountsLeft (spans c.self.inside.first c.self.inside.second) c.self.inside.blocks_read) (state_bits c.self.inside.state ++ bit_of c.args.bit ∷ []) c.after_length-items.result.0
+here_whole : (c : goal.After-from) → WholeLength (CountsLeft (spans c.self.inside.first c.self.inside.second) c.self.inside.blocks_read) (state_bits c.self.inside.state ++ bit_of c.args.bit ∷ []) c.after_length-items.result.0
 here_whole c =
     let s = c.self.inside in
     whole_more (CountsLeft (spans s.first s.second) s.blocks_read) s.blocks_read c.in-Some-completed.form c.in-Some-completed.number (c.after_length-items.result.0, c.after_length-items.result.1, c.after_length-items.result.2) (state_bits s.state) (bit_of c.args.bit ∷ []) (fits c) (starts c) c.after_length-items.ensures (more c)
@@ -72,20 +72,24 @@ pub returns-in-Some-completed-clause-state : goal.returns-in-Some-completed-clau
 returns-in-Some-completed-clause-state c =
     let s = c.self.inside in
     let b = bit_of c.args.bit in
-    subst (λ (v : BegunLengths). EndsLength (Spanned v.counts) (given v ++ b ∷ []) c.after_length-items.result.0) c.self.view_is
-    (whole_ends (spans s.first s.second) s.blocks_read (state_bits s.state) (b ∷ []) c.after_length-items.result.0 (here_whole c))
+    subst (λ (n : ℕ). EndsLength (Spanned c.args.self.now.counts) (given c.args.self.now ++ b ∷ []) n) (sym c.from.ensures)
+    (subst (λ (v : BegunLengths). EndsLength (Spanned v.counts) (given v ++ b ∷ []) c.after_length-items.result.0) c.self.view_is
+    (whole_ends (spans s.first s.second) s.blocks_read (state_bits s.state) (b ∷ []) c.after_length-items.result.0 (here_whole c)))
 
 pub returns-in-Some-completed-clause-first : goal.returns-in-Some-completed-clause-first
 returns-in-Some-completed-clause-first c =
-    subst (λ (v : BegunLengths). WholeLength (CountsLeft v.counts v.blocks) (v.bits ++ bit_of c.args.bit ∷ []) c.after_length-items.result.0) c.self.view_is (here_whole c)
+    let v = c.args.self.now in
+    subst (λ (n : ℕ). WholeLength (CountsLeft v.counts v.blocks) (v.bits ++ bit_of c.args.bit ∷ []) n) (sym c.from.ensures)
+    (subst (λ (v : BegunLengths). WholeLength (CountsLeft v.counts v.blocks) (v.bits ++ bit_of c.args.bit ∷ []) c.after_length-items.result.0) c.self.view_is (here_whole c))
 
 pub returns-in-Some-completed-clause-goes : goal.returns-in-Some-completed-clause-goes
 returns-in-Some-completed-clause-goes c =
     let s = c.self.inside in
     let b = bit_of c.args.bit in
     let new : BegunLengths = record { counts = spans s.first s.second; blocks = c.after_length-items.result.1; bits = state_bits c.after_length-items.result.2 } in
-    subst (λ (v : BegunLengths). Goes v (b ∷ []) (state.Number c.after_length-items.result.0) new) c.self.view_is
-    (after_goes (spans s.first s.second) s.blocks_read c.in-Some-completed.form c.in-Some-completed.number (c.after_length-items.result.0, c.after_length-items.result.1, c.after_length-items.result.2) (state_bits s.state) (b ∷ []) (fits c) (starts c) c.after_length-items.ensures (more c))
+    subst (λ (n : ℕ). Goes c.args.self.now (b ∷ []) (state.Number n) new) (sym c.from.ensures)
+    (subst (λ (v : BegunLengths). Goes v (b ∷ []) (state.Number c.after_length-items.result.0) new) c.self.view_is
+    (after_goes (spans s.first s.second) s.blocks_read c.in-Some-completed.form c.in-Some-completed.number (c.after_length-items.result.0, c.after_length-items.result.1, c.after_length-items.result.2) (state_bits s.state) (b ∷ []) (fits c) (starts c) c.after_length-items.ensures (more c)))
 
 pub returns-clause-state : goal.returns-clause-state
 returns-clause-state c =

@@ -1,11 +1,25 @@
 -- The bits given stand for the prefix, and one of the set's numbers begins with them where it meets the set.
 use Rattle.std.proofs.Common.{◌≡◌, ◌+◌, ◌-◌, ◌*◌, ◌^◌, ◌<◌, ◌≤◌, ◌++◌, ◌∷◌, [], length, ℕ, List, true, ap, ◌∙◌, arith}
+use Rattle.std.proofs.Math.Nat.{pow-le-pow_right}
 use Rattle.asn_bits.specs.Numbers.{bits}
 use Rattle.asn_bits.specs.Sink.{bit_of}
 use Rattle.asn_bits.specs.Begun.{BegunField}
 use Rattle.asn_bits.proofs.Prefixes.{given_length, prefix_room, bits_further, bool_byte-is, bit_below, begins_meets, meets_begins, meets_whole}
 use Rattle.asn_bits.proofs.number_field.NumberField.bit.Goals as goal
 use Rattle.asn_bits.proofs.number_field.NumberField.bit.Goals.{then-not-meets, else-not-meets+then-self-eq0, else-not-meets+else-self-eq0}
+
+pub overflow_mul-self : goal.overflow_mul-self
+overflow_mul-self c =
+    let s = c.self.inside in
+    let up : 2 ^ (s.width - s.left) ≤ 2 ^ 72 = pow-le-pow_right {n = 2} (omega arith) {i = s.width - s.left} {j = 72} (omega (arith, c.self.invariant.1)) in
+    omega (arith, c.self.invariant.2, up)
+
+pub overflow_add-self : goal.overflow_add-self
+overflow_add-self c =
+    let s = c.self.inside in
+    let up : 2 ^ (s.width - s.left) ≤ 2 ^ 72 = pow-le-pow_right {n = 2} (omega arith) {i = s.width - s.left} {j = 72} (omega (arith, c.self.invariant.1)) in
+    let few : c.from.result < 2 = rw (c.from.ensures, bool_byte-is) (bit_below c.args.bit) in
+    omega (arith, c.self.invariant.2, up, few)
 
 pub overflow_sub-self : goal.overflow_sub-self
 overflow_sub-self c =

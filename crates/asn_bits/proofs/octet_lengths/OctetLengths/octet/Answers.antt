@@ -1,4 +1,4 @@
-use Rattle.std.proofs.Common.{◌≡◌, ◌++◌, ◌∷◌, [], ℕ, subst}
+use Rattle.std.proofs.Common.{◌≡◌, ◌++◌, ◌∷◌, [], ℕ, sym, subst}
 use Rattle.asn_bits.specs.Lengths.{octet_length}
 use Rattle.asn_bits.specs.Ranges.{Spanned}
 use Rattle.asn_bits.specs.LengthStates.{spans}
@@ -17,7 +17,9 @@ returns-then-is_whole-clause-state c =
     let s = c.self.inside in
     let n = c.lengths_after-low.result.1 in
     let told = tells_number (spans s.first s.second) c.in-Some.state (state_octets s.state ++ c.args.octet ∷ []) c.lengths_after-low.result.0 n c.in-Some.ensures.octets c.lengths_after-low.ensures.exact c.in-Some.ensures.state (c.is_whole.ensures.there c.if-is_whole.true) (c.reaches.ensures.exact.0 c.if-not-reaches.false) in
-    subst (λ (v : BegunOctets). Spanned v.counts n × (octet_length n ≡ v.given ++ c.args.octet ∷ [])) c.self.view_is told
+    let v = c.args.self.now in
+    subst (λ (m : ℕ). Spanned v.counts m × (octet_length m ≡ v.given ++ c.args.octet ∷ [])) (sym c.from.ensures)
+    (subst (λ (v : BegunOctets). Spanned v.counts n × (octet_length n ≡ v.given ++ c.args.octet ∷ [])) c.self.view_is told)
 
 pub returns-clause-state : goal.returns-clause-state
 returns-clause-state c =

@@ -87,9 +87,9 @@ fn first_octets(count: usize) -> Intervals
     ensures back { (b : ℕ) → LongTagOctet count b → Among result b }
     ensures some { Meets (λ b. Among result b) 0 8 }
 {
-    let to_127 = Intervals::one(63, count.min(128) as u64 - 1);
+    let to_127 = Intervals::one(63, count.min(128) as u128 - 1);
     if count <= 128 {
         return to_127;
     }
-    to_127.and(129, 128 + (count as u64 - 1) / 128)
+    to_127.and(129, 128 + (count as u128 - 1) / 128)
 }

@@ -6,7 +6,7 @@ use Rattle.std.proofs.Math.Nat.{pow-zero, pow-le-pow_right, two-pow-succ}
 use Rattle.std.proofs.lemmas.Int.{ints}
 use Rattle.asn_values.specs.Fits.{lowest_integer, highest_integer}
 use lib.Count.{count_leading_zeros}
-use Rattle.asn_bits.specs.Numbers.{width, octet_count, magnitude, signed_octet_count}
+use Rattle.asn_bits.specs.Numbers.{width, octet_count, magnitude, signed_octet_count, most_signed_octets}
 use Rattle.asn_bits.proofs.Octets.{octet_count_below, octet_count_fits, least_from_below, signed_count_below, signed_count_some, signed_fits}
 use Rattle.asn_bits.proofs.Splits.{two_pow_octets}
 use Rattle.asn_bits.proofs.Widths.{width_holds}
@@ -69,6 +69,17 @@ octet_count_none w n h e =
     let n_zero : n ≡ 0 = omega arith in
     ap octet_count n_zero
 
+-- of more than 64 bits, and up to 72
+pub octet_count_nine : (n : ℕ) → 2 ^ 64 ≤ n → n < 2 ^ 72 → octet_count n ≡ 9
+octet_count_nine n l h =
+    let most : octet_count n ≤ 9 = octet_count_below n 9 (omega arith) (omega (arith, h)) in
+    elim (cases_lt (octet_count n) 9) [
+      | inl b ↦
+          (let up : 256 ^ octet_count n ≤ 256 ^ 8 = pow-le-pow_right {n = 256} (omega arith) {i = octet_count n} {j = 8} (omega (arith, b)) in
+          absurd (omega (arith, octet_count_fits n, up, l)))
+      | inr b ↦ omega (arith, b, most)
+    ]
+
 -- a sign bit more
 pub signed_count_leading : (z : ℤ) → magnitude z < 2 ^ 64 → (72 - count_leading_zeros 64 (magnitude z)) / 8 ≡ signed_octet_count z
 signed_count_leading z h =
@@ -83,7 +94,12 @@ signed_count_leading z h =
     ap (λ t. t / 8) e ∙ same
 
 -- an integer of the profile
-pub magnitude_below : (z : ℤ) → lowest_integer ≤ℤ z → z ≤ℤ highest_integer → magnitude z < 2 ^ 64
+pub magnitude_word : (z : ℤ) → lowest_integer ≤ℤ z → z ≤ℤ highest_integer → magnitude z < 2 ^ 64
+magnitude_word (pos n) p q = omega (arith, ints)
+magnitude_word (negsuc n) p q = omega (arith, ints)
+
+-- it fits the most octets
+pub magnitude_below : (z : ℤ) → lowest_integer ≤ℤ z → z ≤ℤ highest_integer → magnitude z < 2 ^ (8 * most_signed_octets - 1)
 magnitude_below (pos n) p q = omega (arith, ints)
 magnitude_below (negsuc n) p q = omega (arith, ints)
 

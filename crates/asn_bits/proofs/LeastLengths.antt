@@ -1,11 +1,14 @@
 -- The fewest octets of a number, under their general length, are one number in bits.
-use Rattle.std.proofs.Common.{◌≡◌, ◌<◌, ◌+◌, ◌*◌, ◌/◌, ◌%◌, ◌^◌, ℕ, ℤ, pos, ◌≤ℤ◌, List, [], ◌∷◌, ◌++◌, length, map, take, inl, inr, refl, sym, ◌∙◌, ap, append_assoc, arith}
+use Rattle.std.proofs.Common.{◌≡◌, ◌<◌, ◌+◌, ◌*◌, ◌/◌, ◌%◌, ◌^◌, ℕ, ℤ, pos, negsuc, ◌≤ℤ◌, List, [], ◌∷◌, ◌++◌, length, map, take, inl, inr, refl, sym, ◌∙◌, ap, append_assoc, arith}
 use Rattle.std.proofs.lemmas.List.{append-nil, length-map}
 use Rattle.std.proofs.Math.Seq.{take-length}
 use Rattle.asn_bits.specs.Numbers.{bits, octets, octet_count, least, unpacked, signed_octets, signed_octet_count, least_signed}
 use Rattle.asn_bits.specs.Lengths.{last_length, lengths_within, lengths, joined, with_lengths, general_octets}
 use Rattle.asn_bits.proofs.GeneralLengths.{last_cases, map_same}
-use Rattle.asn_bits.proofs.Octets.{length-digits}
+use lib.IntN.{nat_abs}
+use Rattle.std.proofs.lemmas.Int.{ints}
+use Rattle.asn_values.specs.Fits.{lowest_integer, highest_integer}
+use Rattle.asn_bits.proofs.Octets.{length-digits, signed_count_below}
 use Rattle.asn_bits.proofs.Splits.{unpacked-octets, digits-add, digits-mod, digits-join}
 
 -- a length below 128 is the length in eight bits
@@ -62,3 +65,20 @@ nine_octets n h =
     let back : bits 64 (n % 2 ^ 64) ≡ bits 64 n = digits-mod 2 (omega arith) 64 n in
     ap (λ t. bits 8 9 ++ t) split ∙ sym (append_assoc (bits 8 9) (bits 8 (n / 2 ^ 64)) (bits 64 n))
     ∙ ap (λ t. t ++ bits 64 n) front ∙ ap (λ t. bits 16 (2304 + n / 2 ^ 64) ++ t) (sym back)
+
+-- an integer that needs nine is not negative
+pub nine_from : (z : ℤ) → 8 < signed_octet_count z → lowest_integer ≤ℤ z → pos 0 ≤ℤ z
+nine_from (pos n) h p = omega (arith, ints)
+nine_from (negsuc n) h p =
+    let few : n < 2 ^ 63 = omega (arith, ints, p) in
+    absurd (omega (arith, h, signed_count_below (negsuc n) 8 (omega arith) few))
+
+-- and they are an octet of 0 and a number in 64 bits
+pub nine_signed : (z : ℤ) → 9 ≡ signed_octet_count z → lowest_integer ≤ℤ z → z ≤ℤ highest_integer → general_octets (λ u. u) (least_signed z) ≡ bits 16 2304 ++ bits 64 (nat_abs z)
+nine_signed (pos n) e p q =
+    let few : n < 2 ^ 64 = omega (arith, ints, q) in
+    let high : 2304 + n / 2 ^ 64 ≡ 2304 = omega (arith, few) in
+    let low : n % 2 ^ 64 ≡ n = omega (arith, few) in
+    general_signed (pos n) n 9 refl (omega arith) e ∙ nine_octets n (omega (arith, few))
+    ∙ ap (λ t. bits 16 t ++ bits 64 (n % 2 ^ 64)) high ∙ ap (λ t. bits 16 2304 ++ bits 64 t) low
+nine_signed (negsuc n) e p q = absurd (let l = nine_from (negsuc n) (omega (arith, e)) p in omega (arith, ints, l))

@@ -92,6 +92,14 @@ least_signed_of_minus_128 = refl
 least_signed_of_minus_129 : least_signed (negsuc 128) ≡ 255 ∷ 127 ∷ []
 least_signed_of_minus_129 = refl
 
+-- 2 ^ 64 - 1, and the sign in an octet before it
+least_signed_of_64_ones : least_signed (pos 18446744073709551615) ≡ 0 ∷ replicate 8 255
+least_signed_of_64_ones = refl
+
+-- -(2 ^ 63)
+least_signed_of_the_lowest : least_signed (negsuc 9223372036854775807) ≡ 128 ∷ replicate 7 0
+least_signed_of_the_lowest = refl
+
 -- ---- how far a number lies above a bound
 
 above_zero : above (pos 3) (pos 10) ≡ 7

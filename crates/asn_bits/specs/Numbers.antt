@@ -1,5 +1,6 @@
 -- Numbers as bits and as octets.
 use Rattle.std.specs.Prelude.{◌+◌, ◌-◌, ◌*◌, ◌/◌, ◌%◌, ◌^◌, ◌==◌, ℕ, zero, suc, ℤ, pos, negsuc, Bool, true, false, List, [], ◌∷◌, ◌++◌, replicate, nat_le, nat_lt}
+use Rattle.asn_values.specs.Fits.{highest_integer}
 
 -- ---- a given number of digits
 
@@ -50,6 +51,10 @@ signed_octets k (negsuc n) = octets k (256 ^ k - 1 - n)
 -- how many octets z needs, at least one
 abbrev pub signed_octet_count : ℤ → ℕ
 signed_octet_count z = least_from (λ k. nat_lt (magnitude z) (2 ^ (8 * k - 1))) (magnitude z) 1
+
+-- the most octets that an integer of the profile needs
+abbrev pub most_signed_octets : ℕ
+most_signed_octets = signed_octet_count highest_integer
 
 -- z in the fewest octets of two's complement, at least one
 abbrev pub least_signed : ℤ → List ℕ

@@ -2,7 +2,7 @@
 ghost use Rattle.std.specs.Prelude.{◌≡◌, ℕ, pos, ◌-◌, ◌*◌, ◌^◌, ◌<◌, ◌≤◌, ◌≤ℤ◌, ◌<ℤ◌, ◌++◌};
 ghost use Rattle.asn_values.specs.Fits.{lowest_integer, highest_integer};
 ghost use Rattle.asn_bits.specs.Lengths.{general_octets};
-ghost use Rattle.asn_bits.specs.Numbers.{bits, least, least_signed, octet_count, width, octets, signed_octets, signed_octet_count, magnitude};
+ghost use Rattle.asn_bits.specs.Numbers.{bits, least, least_signed, octet_count, width, octets, signed_octets, signed_octet_count, most_signed_octets, magnitude};
 
 /// One more than the highest number of 64 bits.
 const WORD: u128 = 1 << 64;
@@ -37,11 +37,10 @@ pub fn wide_octet_count(n: u128) -> u32
     ensures few { result ≤ 9 }
     ensures fits { n < 2 ^ (8 * result) }
 {
-    let bits = 128 - n.leading_zeros();
-    if bits == 0 {
-        return 1;
+    if n < WORD {
+        return octet_count(n as u64);
     }
-    (bits + 7) / 8
+    9
 }
 
 /// How many octets of two's complement `z` needs, at least one; `z` is an integer of the profile (X.691, "unconstrained
@@ -51,7 +50,7 @@ pub fn signed_octet_count(z: i128) -> u32
     requires high { z ≤ℤ highest_integer }
     ensures count { result ≡ signed_octet_count z }
     ensures some { 1 ≤ result }
-    ensures few { result ≤ 9 }
+    ensures few { result ≤ most_signed_octets }
     ensures short { z <ℤ pos (2 ^ 63) → result ≤ 8 }
 {
     (72 - magnitude(z).leading_zeros()) / 8

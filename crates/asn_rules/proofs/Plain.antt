@@ -9,3 +9,4 @@ pub mod LengthReading
 pub mod FilledReading
 pub mod Zeros
 pub mod BitVectors
+pub mod WideNumbers

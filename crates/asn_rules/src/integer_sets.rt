@@ -9,7 +9,7 @@ ghost use Rattle.asn_rules.specs.OffsetSets.{IsOpen};
 
 use crate::number_reader::NumberSet;
 use crate::signed_reader::OffsetSet;
-use asn_bits::internal::offset_from;
+use asn_bits::internal::wide_offset_from;
 use asn_values::profile::{HIGHEST_INTEGER, LOWEST_INTEGER};
 
 /// The integers of the range without `excluded`, where the low bound is not negative.
@@ -62,5 +62,5 @@ fn offset_of(number: i128) -> u128
     requires high { number ≤ℤ highest_integer }
     ensures { result ≡ above lowest_integer number }
 {
-    u128::from(offset_from(LOWEST_INTEGER, number))
+    wide_offset_from(LOWEST_INTEGER, number)
 }

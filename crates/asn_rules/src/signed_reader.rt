@@ -12,7 +12,7 @@ ghost use Rattle.asn_rules.specs.PlainReading.{StopsPlain};
 use crate::fault::Why;
 use crate::number_reader::{NumberSet, peek_in_octets, read_number, read_number_among};
 use crate::stop::Stop;
-use crate::whole_number_reader::{greatest_of_width, power_of_two};
+use crate::whole_number_reader::{greatest_of_width, power_of_two, wide_power_of_two};
 use asn_bits::internal::{at_offset, signed_octet_count};
 use asn_bits::{BitCursor, Intervals};
 use asn_values::profile::{LOWEST_INTEGER, OFFSET_OF_ZERO};
@@ -34,7 +34,7 @@ pub struct OffsetSet {
 /// `Short` if the bits end before the integer does. `Refused` at the first bit after which no integer of the set
 /// can follow, with the reason `in_count` in the octet of the count and `in_number` after it.
 #[inline(always)]
-pub fn read_unconstrained(
+pub fn read_wide_unconstrained(
     set: OffsetSet,
     in_count: Why,
     in_number: Why,
@@ -49,6 +49,25 @@ pub fn read_unconstrained(
     match try_unconstrained(set, bits) {
         Some(offset) => Ok(u128::from(offset)),
         None => read_unconstrained_by_parts(set, in_count, in_number, bits),
+    }
+}
+
+/// As `read_wide_unconstrained`, where offsets have 64 bits.
+#[inline(always)]
+pub fn read_unconstrained(
+    set: OffsetSet,
+    in_count: Why,
+    in_number: Why,
+    bits: &mut BitCursor<'_>,
+) -> Result<u64, Stop>
+    requires gap { IsOpen set }
+    requires some { (w : ℕ) × HasOffset set w }
+    ensures done { ReadsOffset (UnconstrainedIn set) result bits.old bits.new }
+    ensures stop { StopsPlain (UnconstrainedIn set) result bits.old }
+{
+    match read_wide_unconstrained(set, in_count, in_number, bits) {
+        Ok(offset) => Ok(offset as u64),
+        Err(stop) => Err(stop),
     }
 }
 
@@ -311,7 +330,7 @@ fn sign_weight(count: u32) -> u128
     ensures few { result ≤ 2 ^ 71 }
     ensures within { count ≤ 8 → result ≤ 2 ^ 63 }
 {
-    1u128 << (8 * count - 1)
+    wide_power_of_two(8 * count - 1)
 }
 
 /// The least magnitude that `count - 1` octets cannot hold beside the sign.
@@ -320,7 +339,6 @@ fn least_magnitude(count: u32) -> u128
     requires few { count ≤ 9 }
     ensures is { result ≡ least_magnitude_of count }
     ensures few { result ≤ 2 ^ 63 }
-    ensures within { result < 2 ^ (8 * count - 1) }
 {
     if count <= 1 {
         0

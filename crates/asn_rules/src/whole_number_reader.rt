@@ -260,7 +260,7 @@ pub fn greatest_of_width(width: u32) -> u64
 }
 
 /// 2 to the power of `exponent`, as a number of 128 bits.
-fn wide_power_of_two(exponent: u32) -> u128
+pub(crate) fn wide_power_of_two(exponent: u32) -> u128
     requires { exponent < 128 }
     ensures { result ≡ 2 ^ exponent }
 {

@@ -9,7 +9,7 @@ use lib.IntN.{nat_abs}
 use mir.Syntax.{w128}
 use mir.Val.{to_z, of_z}
 use Rattle.asn_values.specs.Datum.{number}
-use Rattle.asn_values.specs.Fits.{FitsNumber, lowest_integer, highest_integer, at_least, at_most}
+use Rattle.asn_values.specs.Fits.{FitsNumber, lowest_integer, highest_integer, highest_number, at_least, at_most}
 use Rattle.asn_values.specs.Profile.{InProfile, EmptyRange, is_outside, low_above_high, lowest_of, highest_of}
 use Rattle.asn_values.specs.Shape.{Range, integer}
 use Rattle.asn_values.proofs.Parts.{left_false, right_false}
@@ -89,15 +89,15 @@ numbers_between low high good = record { fit = fit; are = are }
     are (negsuc n) f = absurd (true≢false (sym f.2))
 
 -- the integers from a number on
-pub numbers_from : (low : ℕ) → AreNumbers (unmarked (Some (pos low)) None) low 9223372036854775807
+pub numbers_from : (low : ℕ) → AreNumbers (unmarked (Some (pos low)) None) low highest_number
 numbers_from low = record { fit = fit; are = are }
   where
-    fit : (n : ℕ) → Between low 9223372036854775807 n → FitsNumber (unmarked (Some (pos low)) None) (pos n)
+    fit : (n : ℕ) → Between low highest_number n → FitsNumber (unmarked (Some (pos low)) None) (pos n)
     fit n s =
         let a = le-leb low n s.0 in
         (omega (arith, ints), omega (arith, ints, s.1), rw a refl)
 
-    are : (z : ℤ) → FitsNumber (unmarked (Some (pos low)) None) z → (n : ℕ) × Between low 9223372036854775807 n × (z ≡ pos n)
+    are : (z : ℤ) → FitsNumber (unmarked (Some (pos low)) None) z → (n : ℕ) × Between low highest_number n × (z ≡ pos n)
     are (pos n) f =
         let w = and_parts _ _ f.2 in
         (n, (leb-true low n w.0, omega (arith, ints, f.1)), refl)
@@ -149,7 +149,7 @@ pub numbers_are : (e : Option ℤ) (low : ℤ) (high : Option ℤ) → InProfile
     → AreNumbersBut e (unmarked (Some low) high) (record { low = magnitude_of low; high = magnitude_of (highest_of high); excluded = magnitudes e })
 numbers_are e (pos low) (Some (pos high)) good from w = numbers_but e (unmarked (Some (pos low)) (Some (pos high))) low high (numbers_between low high good) w
 numbers_are e (pos low) (Some (negsuc high)) good from w = absurd (true≢false (sym (ordered (pos low) (negsuc high) good)))
-numbers_are e (pos low) None good from w = numbers_but e (unmarked (Some (pos low)) None) low 9223372036854775807 (numbers_from low) w
+numbers_are e (pos low) None good from w = numbers_but e (unmarked (Some (pos low)) None) low highest_number (numbers_from low) w
 numbers_are e (negsuc low) high good from w = absurd (omega (arith, ints, from))
 
 pub high_from_zero : (low : ℤ) (high : Option ℤ) → InProfile (integer (unmarked (Some low) high)) → pos 0 ≤ℤ low → pos 0 ≤ℤ highest_of high

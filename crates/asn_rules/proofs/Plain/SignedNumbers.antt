@@ -6,7 +6,7 @@ use Rattle.std.proofs.Math.Nat.{pow-le-pow_right}
 use Rattle.asn_values.specs.Fits.{lowest_integer, highest_integer, integer_count}
 use Rattle.asn_bits.specs.Numbers.{magnitude, signed_octet_count}
 use Rattle.asn_bits.proofs.Octets.{residue, residue_fits, half, signed_fits, signed_count_below, signed_count_some}
-use Rattle.asn_bits.proofs.Fewest.{magnitude_below}
+use Rattle.asn_bits.proofs.Fewest.{magnitude_word}
 use Rattle.asn_bits.proofs.Above.{above-add}
 use Rattle.asn_rules.specs.Counted.{SomeOf, LeastSigned, signed_number}
 use Rattle.asn_rules.proofs.Numbers.CountedCodes.{number_again}
@@ -38,15 +38,6 @@ least_next c h =
 
 pub weight_within : (c : ℕ) → 1 ≤ c → c ≤ 8 → 2 ^ (8 * c - 1) ≤ 2 ^ 63
 weight_within c some few = power_up (8 * c - 1) 63 (omega arith)
-
-pub least_within : (c : ℕ) → 1 ≤ c → least_magnitude_of c < 2 ^ (8 * c - 1)
-least_within c some = ⊎_elim more (λ h. omega (arith, least_one c h, power_up 0 (8 * c - 1) (omega arith))) (cases_lt 1 c)
-  where
-    more : 1 < c → least_magnitude_of c < 2 ^ (8 * c - 1)
-    more h =
-        let e : c - 1 + 1 ≡ c = omega arith in
-        let up : 2 ^ (8 * c - 1) ≡ 256 * 2 ^ (8 * (c - 1) - 1) = subst (λ (i : ℕ). 2 ^ (8 * i - 1) ≡ 256 * 2 ^ (8 * (c - 1) - 1)) e (octet_more (c - 1) (omega arith)) in
-        omega (arith, least_more c h, up, power_up 0 (8 * (c - 1) - 1) (omega arith))
 
 -- ---- which integers need a count of octets
 
@@ -256,7 +247,7 @@ count_of_offset s w most held =
     let low : lowest_integer ≤ℤ z = omega (arith, ints) in
     let high : z ≤ℤ highest_integer = omega (arith, ints, below) in
     let some = signed_count_some z in
-    let few : c ≤ 9 = signed_count_below z 9 (omega arith) (omega (arith, magnitude_below z low high)) in
+    let few : c ≤ 9 = signed_count_below z 9 (omega arith) (omega (arith, magnitude_word z low high)) in
     let again : signed_number (c, residue c z) ≡ z = number_again c z some (signed_fits z) in
     let fit = residue_fits c z some (signed_fits z) in
     let member : HasInteger s z = (low, high, subst (HasOffset s) (sym (above-add lowest_integer w)) held) in
@@ -268,7 +259,7 @@ pub count_within : (s : OffsetSet) (c : ℕ) → SomeOf (LeastSigned (λ z. HasI
 count_within s c o =
     let z = signed_number (c, o.number) in
     let h : HasInteger s z = o.member.member in
-    (omega (arith, signed_count_some z, o.member.count), omega (arith, signed_count_below z 9 (omega arith) (omega (arith, magnitude_below z h.0 h.1)), o.member.count))
+    (omega (arith, signed_count_some z, o.member.count), omega (arith, signed_count_below z 9 (omega arith) (omega (arith, magnitude_word z h.0 h.1)), o.member.count))
 
 -- an integer below 0 that the profile has, at its offset
 pub offset_low : (c n : ℕ) → 1 ≤ c → 2 ^ (8 * c - 1) ≤ n → n < 256 ^ c → lowest_integer ≤ℤ signed_number (c, n)
@@ -332,7 +323,7 @@ counts_between s low high there nine most c l h = ⊎_elim
 -- the numbers of both signs, of a magnitude from i on
 module _ (s : OffsetSet) (c : ℕ) (some : 1 ≤ c) (few : c ≤ 9)
     (inside : (n : ℕ) → n < 2 ^ (8 * c - 1) → HasOffset s (n + 2 ^ 63) → pos n ≤ℤ highest_integer)
-    (mid new : List (ℕ × ℕ)) (i h : ℕ) (less : i < 2 ^ (8 * c - 1)) (small : i ≤ 2 ^ 63) (eh : h ≡ 2 ^ (8 * c - 1))
+    (mid new : List (ℕ × ℕ)) (i h : ℕ) (small : i ≤ 2 ^ 63) (eh : h ≡ 2 ^ (8 * c - 1))
     (p : AreShifted [] mid s (2 ^ 63 + i) (2 ^ 63 + h) 0) (q : AreShifted mid new s (2 ^ 63 - h) (2 ^ 63 - i) (2 * h)) where
   same : (n : ℕ) → n + 2 ^ 63 - 0 ≡ n + 2 ^ 63
   same n = omega arith

@@ -1,5 +1,5 @@
 use Rattle.std.proofs.Common.{refl}
-use Rattle.asn_bits.proofs.Prefixes.{bit_again}
+use Rattle.asn_bits.proofs.Prefixes.{bit_again, in_bits}
 use Rattle.asn_rules.proofs.Plain.NumberSets.{number_waits, number_stops}
 use Rattle.asn_rules.proofs.Numbers.Sets.{giving_starts, giving_done}
 use Rattle.asn_rules.proofs.number_reader.read_number_by_bits.Goals as goal
@@ -29,3 +29,9 @@ returns-in-Dead-clause-stop c R =
     let bit = bit_again c.in-Some.bit c.in-Some.ensures.bit in
     let dead = rw (now, same, c.loop-bit.invariant.1, bit) at c.in-Dead.ensures.state in
     record { told = rw c.bits_left.ensures.count (number_stops R (rw same at c.loop-bit.invariant.0) c.in-Some.ensures.some dead) }
+
+pub returns-in-Number-clause-fits : goal.returns-in-Number-clause-fits
+returns-in-Number-clause-fits c =
+    let now = c.in-Number.ensures.given in
+    let whole = rw (now, c.loop-bit.invariant.1) at c.in-Number.ensures.state in
+    in_bits c.args.k c.in-Number.n _ whole

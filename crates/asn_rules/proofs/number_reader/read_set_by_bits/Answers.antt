@@ -1,16 +1,21 @@
 -- The numbers of the set are those of its intervals.
-use Rattle.std.proofs.lemmas.Result.{IfOk-weaker, IfErr-weaker}
+use Rattle.std.proofs.Common.{arith}
+use Rattle.asn_bits.proofs.Wide.{narrow}
 use Rattle.asn_rules.proofs.Languages.Forks.{same_spells}
 use Rattle.asn_rules.proofs.Languages.Leads.{leads_same, stops_by}
 use Rattle.asn_rules.proofs.Plain.NumberSets.{same_set}
 use Rattle.asn_rules.proofs.number_reader.read_set_by_bits.Goals as goal
 
-pub returns-clause-stop : goal.returns-clause-stop
-returns-clause-stop c R =
-    let same = same_set 2 c.args.k c.intervals_of.ensures.back c.intervals_of.ensures.there in
-    IfErr-weaker c.read_number_by_bits.result _ _ (λ why s. stops_by why (leads_same R c.args.bits.now same).stops s) (c.read_number_by_bits.ensures.stop R)
+pub overflow_cast-result : goal.overflow_cast-result
+overflow_cast-result c = omega (arith, narrow c.args.k c.in-Ok.number c.requires.few c.in-Ok.ensures.fits)
 
-pub returns-clause-done : goal.returns-clause-done
-returns-clause-done c R =
+pub returns-in-Ok-clause-done : goal.returns-in-Ok-clause-done
+returns-in-Ok-clause-done c R = same_spells (same_set 2 c.args.k c.intervals_of.ensures.back c.intervals_of.ensures.there) (c.in-Ok.ensures.done R)
+
+pub returns-in-Ok-clause-member : goal.returns-in-Ok-clause-member
+returns-in-Ok-clause-member c = c.intervals_of.ensures.back c.in-Ok.number c.in-Ok.ensures.member
+
+pub returns-in-Err-clause-stop : goal.returns-in-Err-clause-stop
+returns-in-Err-clause-stop c R =
     let same = same_set 2 c.args.k c.intervals_of.ensures.back c.intervals_of.ensures.there in
-    IfOk-weaker c.read_number_by_bits.result _ _ (λ n s. same_spells same s) (c.read_number_by_bits.ensures.done R)
+    stops_by c.in-Err.stop (leads_same R c.args.bits.now same).stops (c.in-Err.ensures.stop R)

@@ -25,12 +25,12 @@ returns-in-1 g c =
     let h = c.signed_residue-residue.ensures in
     let e = c.signed_octet_count-count.ensures in
     let z = kept c.args.z c.requires.low c.requires.high in
-    let all = all_octets c.args.z k n (rw z at h.octets) e.few (rw z at e.count) in
+    let all = all_octets c.args.z k n (rw z at h.octets) (omega (arith, c.if-count-gt8.false)) (rw z at e.count) in
     let fits : n < 2 ^ (8 * 1) = rw c.in-1.is at h.fits in
     let joined : bits (8 * 2) (256 + n) ≡ bits 8 1 ++ bits (8 * 1) n = after_octet 1 1 n (256 + n) fits (omega arith) in
-    on_ok_weaker c.push_low_octets.result
-    (pushed_same g.S.Sink.pushes c.args.sink.now c.push_low_octets.new.self (joined ∙ sym (rw c.in-1.is at all)))
-    c.push_low_octets.ensures
+    on_ok_weaker c.push_low_octets-in-1.result
+    (pushed_same g.S.Sink.pushes c.args.sink.now c.push_low_octets-in-1.new.self (joined ∙ sym (rw c.in-1.is at all)))
+    c.push_low_octets-in-1.ensures
 
 pub returns-in-2 : goal.returns-in-2
 returns-in-2 g c =
@@ -39,7 +39,7 @@ returns-in-2 g c =
     let h = c.signed_residue-residue.ensures in
     let e = c.signed_octet_count-count.ensures in
     let z = kept c.args.z c.requires.low c.requires.high in
-    let all = all_octets c.args.z k n (rw z at h.octets) e.few (rw z at e.count) in
+    let all = all_octets c.args.z k n (rw z at h.octets) (omega (arith, c.if-count-gt8.false)) (rw z at e.count) in
     let fits : n < 2 ^ (8 * 2) = rw c.in-2.is at h.fits in
     let joined : bits (8 * 3) (131072 + n) ≡ bits 8 2 ++ bits (8 * 2) n = after_octet 2 2 n (131072 + n) fits (omega arith) in
     on_ok_weaker c.push_low_octets-in-2.result
@@ -54,7 +54,7 @@ returns-in_ok-push_low_octets-in_default g c =
     let e = c.signed_octet_count-count.ensures in
     let z = kept c.args.z c.requires.low c.requires.high in
     let old = c.args.sink.now in
-    let all = all_octets c.args.z k n (rw z at h.octets) e.few (rw z at e.count) in
+    let all = all_octets c.args.z k n (rw z at h.octets) (omega (arith, c.if-count-gt8.false)) (rw z at e.count) in
     let mid = c.push_low_octets-in_default.new.self in
     let new = c.push_low_octets-in_default-2.new.self in
     let first : g.S.Sink.pushes old mid (bits 8 k) = rw (← c.from.ensures) c.in_ok-push_low_octets-in_default.ensures in

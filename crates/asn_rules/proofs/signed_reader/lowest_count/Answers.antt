@@ -1,8 +1,8 @@
-use Rattle.std.proofs.Common.{◌≡◌, ◌<◌, ℕ, true, ⊎_elim, subst, arith}
+use Rattle.std.proofs.Common.{◌≡◌, true, ⊎_elim, subst, arith}
 use Rattle.std.proofs.lemmas.Bool.{cases_lt}
 use Rattle.asn_rules.specs.Counted.{SomeOf, LeastSigned}
 use Rattle.asn_rules.specs.OffsetSets.{HasInteger}
-use Rattle.asn_rules.proofs.Plain.SignedNumbers.{counts_there, counts_back, count_eight}
+use Rattle.asn_rules.proofs.Plain.SignedNumbers.{counts_there, counts_back}
 use Rattle.asn_rules.proofs.signed_reader.lowest_count.Goals as goal
 
 pub returns-then-has_count-clause-there : goal.returns-then-has_count-clause-there
@@ -20,11 +20,6 @@ loop-count-preserved c k l o =
     cc))
     (cases_lt k c.loop-count.count)
 
-pub returns-clause-there : goal.returns-clause-there
-returns-clause-there c =
-    let none : (k : ℕ) → k < 8 → SomeOf (LeastSigned (λ z. HasInteger c.args.set z)) k → ⊥ = λ k l. c.loop-count.invariant k (omega (arith, l, c.loop-count-test.false)) in
-    counts_there c.args.set 8 c.requires.gap (omega arith) (count_eight c.args.set c.requires.some.0 c.requires.gap.0 c.requires.some.1 none)
-
 pub returns-clause-back : goal.returns-clause-back
 returns-clause-back c =
-    counts_back c.args.set 8 (λ k l. c.loop-count.invariant k (omega (arith, l, c.loop-count-test.false)))
+    counts_back c.args.set 9 (λ k l. c.loop-count.invariant k (omega (arith, l, c.loop-count-test.false)))

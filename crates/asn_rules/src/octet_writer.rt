@@ -7,9 +7,7 @@ ghost use Rattle.asn_rules.specs.Fields.{spelled};
 ghost use Rattle.asn_rules.specs.Filled.{unused_bits};
 ghost use Rattle.asn_rules.specs.OctetsWritten.{fixed_octets, filled, flagged};
 
-use asn_bits::internal::{
-    least_parts, octet_count, signed_octet_count, signed_residue,
-};
+use asn_bits::internal::{least_parts, octet_count, signed_octet_count, signed_residue};
 use asn_sinks::Sink;
 
 /// One more than the highest number of 64 bits.

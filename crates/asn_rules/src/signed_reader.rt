@@ -282,13 +282,7 @@ fn numbers_of_count(set: OffsetSet, count: u32) -> Intervals
         OFFSET_OF_ZERO + weight,
         0,
     );
-    add_shifted(
-        numbers,
-        set,
-        lowest,
-        OFFSET_OF_ZERO - least,
-        2 * weight,
-    )
+    add_shifted(numbers, set, lowest, OFFSET_OF_ZERO - least, 2 * weight)
 }
 
 /// Adds the offsets of the set in `first..end`, less that of 0 and raised by `up`.

@@ -6,9 +6,7 @@ ghost use Rattle.asn_bits.specs.Lengths.{general_octets};
 ghost use Rattle.asn_bits.specs.Numbers.{bits, least, least_signed, unpacked};
 ghost use Rattle.asn_bits.specs.Sink.{bit_of};
 
-use asn_bits::internal::{
-    last_octets, least_signed_parts, next_length, octet_count, word_of_bits,
-};
+use asn_bits::internal::{last_octets, least_signed_parts, next_length, octet_count, word_of_bits};
 use asn_values::profile::BLOCK;
 
 /// How the length of an open type field is told.

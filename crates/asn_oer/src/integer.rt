@@ -6,8 +6,8 @@ ghost use Rattle.asn_oer.specs.Words.{lowest_integer, highest_integer, FitsNumbe
 use asn_bits::BitCursor;
 use asn_bits::internal::{at_offset, at_wide_offset};
 use asn_rules::internal::{
-    Stop, numbers_of, offsets_of, read_counted, read_counted_signed, read_octets,
-    read_signed_octets, try_octets, try_signed_octets, write_fixed, write_least,
+    Stop, numbers_of, offsets_of, read_counted, read_octets, read_signed_octets,
+    read_wide_counted_signed, try_octets, try_signed_octets, write_fixed, write_least,
     write_least_signed,
 };
 use asn_rules::{Unwritten, Why};
@@ -162,7 +162,7 @@ fn read_signed(
         }
         None => {
             let in_count = Why::in_count(excluded.is_some());
-            let offset = read_counted_signed(set, in_count, why, units)?;
+            let offset = read_wide_counted_signed(set, in_count, why, units)?;
             Ok(at_wide_offset(LOWEST_INTEGER, offset))
         }
     }

@@ -25,8 +25,8 @@ returns-in_ok-offset-in-Some-clause-done c =
     let lead = sized_leads c.args.excluded c.args.low c.args.high c.in-Some.count c.offsets_of-set.result c.requires.below_zero (sym c.in-Some.ensures) c.offsets_of-set.ensures.same us in
     rw c.at_offset.ensures (given c.args.excluded (unmarked c.args.low c.args.high) z us vs (lead.done z vs c.in_ok-offset-in-Some.ensures.done))
 
-pub read_counted_signed-requires-clause-gap : goal.read_counted_signed-requires-clause-gap
-read_counted_signed-requires-clause-gap c =
+pub read_wide_counted_signed-requires-clause-gap : goal.read_wide_counted_signed-requires-clause-gap
+read_wide_counted_signed-requires-clause-gap c =
     ⊎_elim (λ missing. c.offsets_of-set.ensures.gap missing) (λ far. c.offsets_of-set.ensures.far far) (no_size c.args.low c.args.high c.requires.of_profile (sym c.in-None.ensures))
 
 pub returns-in_err-offset-in-None-clause-stop : goal.returns-in_err-offset-in-None-clause-stop
@@ -39,7 +39,7 @@ returns-in_err-offset-in-None-clause-stop c =
 pub returns-in_ok-offset-in-None-clause-done : goal.returns-in_ok-offset-in-None-clause-done
 returns-in_ok-offset-in-None-clause-done c =
     let us = packed c.args.units.now in
-    let vs = packed c.read_counted_signed.new.units in
+    let vs = packed c.read_wide_counted_signed.new.units in
     let z = lowest_integer +ℤ pos c.in_ok-offset-in-None.offset in
     let form = counted_where c.args.low c.args.high c.requires.below_zero (sym c.in-None.ensures) in
     let lead = counted_signed_leads c.args.excluded (unmarked c.args.low c.args.high) c.offsets_of-set.result c.offsets_of-set.ensures.same form us in

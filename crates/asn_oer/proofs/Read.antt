@@ -6,5 +6,6 @@ pub mod BitReading
 pub mod SizeCounts
 pub mod TextReading
 pub mod Utf8Reading
+pub mod TagReading
 pub mod IndexReading
 pub mod PreambleReading

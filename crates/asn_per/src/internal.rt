@@ -1,2 +1,3 @@
-//! What readers of messages of other versions of a type need beside the parts.
+//! What the crates of this repository need of this one, and its users do not: a reader for messages of other versions of
+//! a type.
 pub use crate::indexes::{SHORT_NUMBERS, read_small_number};

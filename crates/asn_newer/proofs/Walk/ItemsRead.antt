@@ -37,7 +37,7 @@ pub unknown_read : (l : LooseCoding) (root additions : List Label) (z : ℤ) (us
 unknown_read l root additions z us r k = record { chunks = k.chunks; spelt = inr (record { source = z; spelt = k.spelt; seen = refl }); contents = k.contents; split = k.split }
 
 -- where the reader of those that it has stops at the same units
-pub none_of_short : (c : Coding) (L : Datum → List Chunk → Type 0) (us vs : List ℕ) (why : Stop) → Stops c.ruling.fielding L vs why → why ≡ stop.Short → vs ≡ us → NoSpelling c.ruling.fielding L us
+pub none_of_short : {V : Type 0} (c : Coding) (L : V → List Chunk → Type 0) (us vs : List ℕ) (why : Stop) → Stops c.ruling.fielding L vs why → why ≡ stop.Short → vs ≡ us → NoSpelling c.ruling.fielding L us
 none_of_short c L us vs why s e f =
     let h : Stops c.ruling.fielding L us stop.Short = subst (λ (l : List ℕ). Stops c.ruling.fielding L l stop.Short) f (subst (λ (w : Stop). Stops c.ruling.fielding L vs w) e s) in
     h.told.none

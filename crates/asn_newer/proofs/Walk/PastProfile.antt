@@ -1,6 +1,6 @@
 -- Counts and indexes past the profile, as their readers find them.
 use Rattle.std.proofs.Common.{◌≡◌, ◌≢◌, ◌<◌, ◌≤◌, ◌+◌, ◌-◌, ◌*◌, ◌%◌, ◌^◌, inl, inr, ℕ, zero, suc, Bool, true, false, IsTrue, not, nat_eq, nat_le, nat_lt, List, [], ◌∷◌, ◌++◌, length, length-append, refl, sym, ap, subst, ◌∙◌, arith}
-use Rattle.std.proofs.lemmas.Bool.{true≢false, leb-true, le-leb, ltb-true, eqb-true, eqb-false, eq-eqb}
+use Rattle.std.proofs.lemmas.Bool.{true≢false, leb-true, le-leb, ltb-true, eqb-true, eqb-false}
 use Rattle.asn_bits.specs.Numbers.{bits, packed}
 use Rattle.asn_bits.proofs.Digits.{digits_code}
 use Rattle.asn_bits.proofs.Octets.{length-digits}
@@ -59,8 +59,8 @@ module _ (most : ℕ) (us vs : List ℕ) where
       short_told n ws f fits = (
         (λ t. inl (record { number = n; rest = ws; fits = omega (arith, fits); past = leb-true most n t; split = e ∙ ap (λ (b : ℕ). b ∷ vs) zero_bit ∙ ap (λ (l : List ℕ). 0 ∷ l) f })),
         (λ h. (let s = of_short h in
-        let d = digits_code 2 (omega arith) 6 n s.number ws s.rest fits (omega (arith, s.fits)) (sym f ∙ tails (sym e ∙ s.split)) in
-        le-leb most n (omega (arith, d.0, s.past)))),
+            let d = digits_code 2 (omega arith) 6 n s.number ws s.rest fits (omega (arith, s.fits)) (sym f ∙ tails (sym e ∙ s.split)) in
+            le-leb most n (omega (arith, d.0, s.past)))),
       )
 
     module _ (one : bit ≡ 1) where
@@ -82,8 +82,8 @@ module _ (most : ℕ) (us vs : List ℕ) where
         long_told n ws f fits = (
           (λ t. inr (inr (record { number = n; rest = ws; fits = fits; some = many; past = leb-true (256 + most) n t; split = e ∙ ap (λ (b : ℕ). b ∷ vs) one ∙ ap (λ (l : List ℕ). 1 ∷ l) f }))),
           (λ h. (let s = of_long h in
-          let d = digits_code 2 (omega arith) 16 n s.number ws s.rest fits s.fits (sym f ∙ tails (sym e ∙ s.split)) in
-          le-leb (256 + most) n (omega (arith, d.0, s.past)))),
+              let d = digits_code 2 (omega arith) 16 n s.number ws s.rest fits s.fits (sym f ∙ tails (sym e ∙ s.split)) in
+              le-leb (256 + most) n (omega (arith, d.0, s.past)))),
         )
 
 -- an alternative past the profile

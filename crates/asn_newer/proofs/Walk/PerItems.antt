@@ -14,6 +14,8 @@ use Rattle.asn_rules.proofs.Languages.Forks.{same_flip, same_spells}
 use Rattle.asn_rules.proofs.Languages.Parts.{contents-ones}
 use Rattle.asn_per.specs.Kinds.{SmallBelow}
 use Rattle.asn_per.specs.Per.{small, per_fields}
+use Rattle.asn_per.specs.Rules.{per_ruling}
+use Rattle.asn_per.specs.Walk.{per_coding}
 use Rattle.asn_per.proofs.Law.Numbers.{small_code}
 use Rattle.asn_per.proofs.Types.SmallNumbers.{small_spelled}
 use Rattle.asn_newer.specs.Rules.{per_loose, IsIndexToCome}
@@ -95,7 +97,7 @@ module _ (root additions : List Label) where
 
     -- none is where no normally small number is
     pub none_on : (most : ℕ) → most ≤ most_item_additions → ((n : ℕ) → IsIndexToCome root additions n → n < most) → NoneOn per_loose.coding.ruling.fielding (SmallBelow most) mid (UnknownItem per_loose root additions) us
-    unfolding per_loose
+    unfolding per_loose per_coding per_ruling
     none_on most few below after n z r k =
         let h = index_at z (us ++ after) r k in
         n h.index h.rest (small_read most few h.index (mid ++ after) h.rest (below h.index h.to_come) (tails (sym (split_on after) ∙ h.split)))
@@ -112,8 +114,5 @@ pub few_labels : (is : List Item) → length (labels_seen is) ≡ length is
 few_labels is = simp length-map
 
 -- the index as the program counts
-pub index_told : (z : ℤ) (n : ℕ) → z ≡ pos n → n < most_item_additions → pos n ≡ to_z w128 (of_z w128 z)
-index_told z n e h = sym (ap (λ (y : ℤ). to_z w128 (of_z w128 y)) e ∙ near n h)
-  where
-    near : (n : ℕ) → n < most_item_additions → to_z w128 (of_z w128 (pos n)) ≡ pos n
-    near n h = omega (arith, ints)
+pub index_told : (n : ℕ) → n < most_item_additions → pos n ≡ to_z w128 (of_z w128 (pos n))
+index_told n h = omega (arith, ints)

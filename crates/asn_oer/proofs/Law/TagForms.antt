@@ -1,5 +1,5 @@
 -- The octets of tags in OER: which they are, and that they are a code.
-use Rattle.std.proofs.Common.{◌≡◌, ◌≢◌, ◌≤◌, ◌<◌, ◌+◌, ◌-◌, ◌*◌, ◌/◌, ◌%◌, ◌⊎◌, inl, inr, ⊎_elim, ℕ, zero, suc, Bool, true, false, List, [], ◌∷◌, ◌++◌, length, refl, sym, ◌∙◌, ap, subst, arith, nat_lt, append-nil}
+use Rattle.std.proofs.Common.{◌≡◌, ◌≢◌, ◌≤◌, ◌<◌, ◌+◌, ◌-◌, ◌*◌, ◌/◌, ◌%◌, ◌⊎◌, inl, inr, ⊎_elim, ◌==◌, ne_eqb, ℕ, zero, suc, Bool, true, false, List, [], ◌∷◌, ◌++◌, length, refl, sym, ◌∙◌, ap, subst, arith, nat_lt, append-nil}
 use Rattle.std.proofs.lemmas.Bool.{cases_eq, ltb-true, ltb-false, lt-ltb, le-ltb}
 use Rattle.asn_bits.specs.Numbers.{base_128, base_128_before}
 use Rattle.asn_rules.specs.Chunks.{ones}
@@ -16,8 +16,7 @@ none_before (suc turns) n last e = subst (λ (m : ℕ). base_128_before (suc tur
 
 -- an octet more
 one_before : (turns n : ℕ) (last : List ℕ) → 0 < n → base_128_before (suc turns) n last ≡ base_128_before turns (n / 128) ((128 + n % 128) ∷ last)
-one_before turns zero last h = absurd (omega arith)
-one_before turns (suc n) last h = refl
+one_before turns n last h = let e : (n == 0) ≡ false = ne_eqb n 0 (λ z. omega (arith, h, z)) in rw (e, base_128_before) refl
 
 -- up to 127 it is an octet
 pub base_is : (t : ℕ) → t < 128 → base_128 t ≡ t ∷ []
@@ -76,8 +75,8 @@ tag_octets t h = go (tag_cases t h)
   where
     go : ((t < 63) × (tag t ≡ (128 + t) ∷ [])) ⊎ (((63 ≤ t) × (t < 128) × (tag t ≡ 191 ∷ t ∷ [])) ⊎ ((128 ≤ t) × (tag t ≡ 191 ∷ (128 + t / 128) ∷ (t % 128) ∷ []))) → AreOctets (tag t)
     go (inl a) = subst AreOctets (sym a.1) (omega (arith, a.0), tt)
-    go (inr (inl b)) = subst AreOctets (sym b.2) (omega arith, omega (arith, b.1), tt)
-    go (inr (inr c)) = subst AreOctets (sym c.1) (omega arith, omega (arith, h), omega arith, tt)
+    go (inr (inl b)) = subst AreOctets (sym b.2) (omega arith, (omega (arith, b.1), tt))
+    go (inr (inr c)) = subst AreOctets (sym c.1) (omega arith, (omega (arith, h), (omega arith, tt)))
 
 -- ---- tags are a code: they are read back
 

@@ -1,12 +1,10 @@
 -- The octets of a tag of CHOICE: what their reader cites at each exit.
-use Rattle.std.proofs.Common.{◌≡◌, ◌≤◌, ◌<◌, ◌-◌, ◌+◌, ◌*◌, ◌/◌, ℕ, Bool, true, false, List, [], ◌∷◌, inl, inr, min, nat_lt, refl, sym, ap, ◌∙◌, subst, arith}
+use Rattle.std.proofs.Common.{◌≡◌, ◌≤◌, ◌<◌, ◌-◌, ◌+◌, ◌*◌, ℕ, Bool, true, false, List, inl, inr, min, nat_lt, subst, arith}
 use Rattle.std.proofs.lemmas.Bool.{lt-ltb, le-ltb}
-use Rattle.asn_bits.specs.Sets.{Among, InDigits, Meets}
-use Rattle.asn_bits.proofs.Unions.{set_meets}
+use Rattle.asn_bits.specs.Sets.{Among, InDigits}
 use Rattle.asn_rules.specs.Chunks.{Chunk}
 use Rattle.asn_rules.specs.Forks.{Same}
 use Rattle.asn_rules.specs.Languages.{Map, Nothing, Plain, Spells, Then}
-use Rattle.asn_rules.specs.NumberSets.{Admits}
 use Rattle.asn_rules.specs.OctetReading.{OctetsAmong, OctetsIn, from_to}
 use Rattle.asn_rules.proofs.Languages.Forks.{same_spells}
 use Rattle.asn_rules.proofs.Languages.Leads.{Leads, LeadsStops, leads_on, leads_map, leads_same, leads_second, stops_first, stops_on}

@@ -1,17 +1,17 @@
 -- Tags of CHOICE in OER: which octets those of n alternatives have, and what goes on after each octet.
-use Rattle.std.proofs.Common.{◌≡◌, ◌≤◌, ◌<◌, ◌-◌, ◌+◌, ◌*◌, ◌/◌, ◌%◌, ◌^◌, ◌⊎◌, ℕ, Bool, true, false, List, [], ◌∷◌, ◌++◌, inl, inr, min, refl, sym, ap, ◌∙◌, nat_lt, arith}
+use Rattle.std.proofs.Common.{◌≡◌, ◌≤◌, ◌<◌, ◌-◌, ◌+◌, ◌*◌, ◌/◌, ◌%◌, ◌^◌, ◌⊎◌, ℕ, Bool, true, false, List, [], ◌∷◌, ◌++◌, inl, inr, refl, sym, ap, ◌∙◌, nat_lt, arith}
 use Rattle.std.proofs.lemmas.Bool.{ltb-true, ltb-false, lt-ltb, le-ltb}
 use Rattle.asn_bits.specs.Numbers.{digits, base_128}
 use Rattle.asn_bits.specs.Sets.{InDigits}
 use Rattle.asn_bits.proofs.LengthsInOctets.{one_is}
 use Rattle.asn_rules.specs.Chunks.{Chunk, one, ones}
 use Rattle.asn_rules.specs.Forks.{Same}
-use Rattle.asn_rules.specs.Languages.{Inhabited, Lawful, Map, Nothing, Plain}
+use Rattle.asn_rules.specs.Languages.{Inhabited, Map, Nothing, Plain}
 use Rattle.asn_rules.specs.Spellings.{SpelledBy}
-use Rattle.asn_rules.proofs.Languages.Forks.{same_flip, same_inhabited, same_lawful}
+use Rattle.asn_rules.proofs.Languages.Forks.{same_flip, same_inhabited}
 use Rattle.asn_rules.proofs.Languages.Spellings.{same_after, same_then, same_map, same_spelled, digits_spelled, map_spelled, nothing_spelled, spelled_inhabited, then_spelled}
 use Rattle.asn_rules.proofs.Languages.Then.{Follows}
-use Rattle.asn_oer.specs.Constructed.{TagOctet, LongTagOctet, tag_ended, LastTagOctet, AfterLongTagOctet, tag_told, LongTags, AfterTagOctet, Tags}
+use Rattle.asn_oer.specs.Constructed.{TagOctet, LongTagOctet, tag_ended, LastTagOctet, AfterLongTagOctet, LongTags, AfterTagOctet, Tags}
 use Rattle.asn_oer.specs.Oer.{tag}
 use Rattle.asn_oer.proofs.Law.TagForms.{base_is, base_in_two, tag_is, long_tag_is}
 

@@ -86,7 +86,7 @@ tag_bits t h = ap unpacked (tag_is t h) ∙ one_octet (128 + t)
 -- of two
 pub tag_bits_in_two : (t : ℕ) → 63 ≤ t → t < 128 → unpacked (tag t) ≡ bits 16 (48896 + t)
 tag_bits_in_two t l h =
-    let all : octets 2 (48896 + t) ≡ 191 ∷ t ∷ [] = sym (digits_only 256 2 (48896 + t) (191 ∷ t ∷ []) (record { digits = (omega arith, omega (arith, h), tt); count = refl; sum = omega arith })).1 in
+    let all : octets 2 (48896 + t) ≡ 191 ∷ t ∷ [] = sym (digits_only 256 2 (48896 + t) (191 ∷ t ∷ []) (record { digits = (omega arith, (omega (arith, h), tt)); count = refl; sum = omega arith })).1 in
     ap unpacked (long_tag_is t l ∙ ap (λ (os : List ℕ). 191 ∷ os) (base_is t h) ∙ sym all) ∙ unpacked-octets 2 (48896 + t)
 
 -- of three
@@ -94,7 +94,7 @@ pub tag_bits_in_three : (t : ℕ) → 128 ≤ t → t < 16384 → unpacked (tag 
 tag_bits_in_three t l h =
     let n = 12550144 + 256 * (t / 128) + t % 128 in
     let os = 191 ∷ (128 + t / 128) ∷ (t % 128) ∷ [] in
-    let all : octets 3 n ≡ os = sym (digits_only 256 3 n os (record { digits = (omega arith, omega (arith, h), omega arith, tt); count = refl; sum = omega arith })).1 in
+    let all : octets 3 n ≡ os = sym (digits_only 256 3 n os (record { digits = (omega arith, (omega (arith, h), (omega arith, tt))); count = refl; sum = omega arith })).1 in
     ap unpacked (long_tag_is t (omega (arith, l)) ∙ ap (λ (os : List ℕ). 191 ∷ os) (base_in_two t l h) ∙ sym all) ∙ unpacked-octets 3 n
 
 -- ---- simple types

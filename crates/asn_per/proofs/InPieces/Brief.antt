@@ -63,7 +63,7 @@ few_unconstrained S within = few_counted (LeastSigned S) (λ k n h.
 -- a normally small number
 few_small : (values : ℕ) → values ≤ 256 → HasFew 73 (SmallBelow values)
 few_small values few = few_map 73 (few_fork 72 (few_digits 2 6 72 (λ n. n < values) (omega arith))
-(few_map 72 (few_counted (Least (IsLarge values)) (λ k n h. (let c = one_octet n (omega (arith, few, h.member.1)) in omega (arith, c, h.count))))))
+    (few_map 72 (few_counted (Least (IsLarge values)) (λ k n h. (let c = one_octet n (omega (arith, few, h.member.1)) in omega (arith, c, h.count))))))
 
 -- ---- the scalars
 

@@ -1,12 +1,11 @@
 -- What is kept of open type fields and UTF8Strings in PER is their content; the other simple types are plain bits.
-use Rattle.std.proofs.Common.{◌≡◌, ◌≢◌, ◌≤◌, ◌<◌, ◌+◌, ◌-◌, ◌/◌, ◌%◌, ◌^◌, ◌⊎◌, inl, inr, ⊎_elim, ℕ, zero, suc, Bool, true, false, List, [], ◌∷◌, ◌++◌, length, length-append, map, append-nil, append_assoc, Option, Some, None, refl, sym, ap, ◌∙◌, subst, arith}
+use Rattle.std.proofs.Common.{◌≡◌, ◌≢◌, ◌≤◌, ◌<◌, ◌+◌, ◌-◌, ◌/◌, ◌%◌, ◌^◌, ⊎_elim, ℕ, zero, suc, Bool, true, false, List, [], ◌∷◌, ◌++◌, length, length-append, map, append-nil, append_assoc, Option, Some, None, refl, sym, ap, ◌∙◌, subst, arith}
 use Rattle.std.proofs.lemmas.Bool.{cases_eq}
 use Rattle.std.proofs.lemmas.List.{length-map}
 use Rattle.std.proofs.lemmas.Str.{IsUtf8-nil}
 use Rattle.asn_values.specs.Datum.{Datum, truth, number, item, bit_list, octet_list, characters, unicode}
 use Rattle.asn_values.specs.Fits.{in_size}
-use Rattle.asn_values.specs.Profile.{InProfile}
-use Rattle.asn_values.specs.Shape.{SizeRange, Shape, boolean, null, integer, enumerated, bit_string, octet_string, restricted, utf8_string}
+use Rattle.asn_values.specs.Shape.{SizeRange, Shape, boolean, null, integer, enumerated, bit_string, octet_string, restricted}
 use Rattle.asn_bits.specs.Lengths.{lengths, joined, with_lengths, general}
 use Rattle.asn_bits.specs.Numbers.{bits}
 use Rattle.asn_bits.proofs.Octets.{length-digits}
@@ -15,9 +14,7 @@ use Rattle.asn_rules.specs.Begun.{AllPlain}
 use Rattle.asn_rules.specs.Chunks.{Chunk, one, ones}
 use Rattle.asn_rules.specs.Components.{bit_of}
 use Rattle.asn_rules.specs.Fields.{Octet}
-use Rattle.asn_rules.specs.Languages.{IsFront, Spells, Short}
-use Rattle.asn_rules.specs.Listed.{Spelt}
-use Rattle.asn_rules.proofs.Languages.Forks.{same_flip, same_spells}
+use Rattle.asn_rules.specs.Languages.{IsFront, Short}
 use Rattle.asn_rules.proofs.Languages.Parts.{contents-ones, front_ones}
 use Rattle.asn_rules.proofs.Languages.Spellings.{same_after}
 use Rattle.asn_rules.proofs.Live.Chunks.{ones-append}

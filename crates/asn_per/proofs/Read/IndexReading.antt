@@ -64,7 +64,7 @@ module _ (root more : ℕ) (some : 0 < root) where
   one_refused : more ≡ 0 → (us after : List ℕ) → us ≡ 1 ∷ after → Refused per_fields (IndexesOf root (Some more)) us (length after)
   one_refused none us after e =
       subst (λ (bs : List ℕ). Refused per_fields (IndexesOf root (Some more)) bs (length after)) (sym e)
-      (fork_refused per_fields_part (fork_inhabited_zero (below_inhabited root some)) 1 after (λ f. absurd (omega arith)) (λ f i. absurd (omega (arith, none, ((small_spelled more (omega (arith, none))).to i.value i.chunks i.spelt).fits)))
+      (fork_refused per_fields_part (fork_inhabited_zero (below_inhabited root some)) 1 after (λ f. absurd (omega arith)) (λ f i. absurd (omega (arith, none, ((small_spelled more (omega (arith, none))).to i.value i.chunks i.spelt).fits))))
 
   -- so stops the reader of the extension bit
   pub index_stops : (us : List ℕ) (why : Stop) → StopsAtMark (nat_lt 0 more) us why → Stops per_fields (IndexesOf root (Some more)) us why

@@ -1,17 +1,15 @@
 -- Where the readers of a normally small number stand, and what they cite at each exit.
-use Rattle.std.proofs.Common.{◌≡◌, ◌≤◌, ◌<◌, ◌-◌, ◌^◌, ℕ, inl, inr, List, [], ◌∷◌, None, refl, sym, subst, arith}
+use Rattle.std.proofs.Common.{◌≡◌, ◌≤◌, ◌<◌, ◌-◌, ℕ, List, [], ◌∷◌, None, ap, ◌∙◌, subst, arith}
 use Rattle.asn_bits.specs.Numbers.{octet_count}
 use Rattle.asn_bits.specs.Sets.{InSet, Meets}
-use Rattle.asn_bits.proofs.Octets.{octet_count_some}
 use Rattle.asn_bits.proofs.Unions.{set_meets}
 use Rattle.asn_bits.proofs.Weights.{bits_only}
-use Rattle.asn_rules.specs.Chunks.{Chunk}
 use Rattle.asn_rules.specs.Counted.{SomeOf, Counted, number_of, Least}
 use Rattle.asn_rules.specs.Forks.{Fork, Same}
 use Rattle.asn_rules.specs.Languages.{Plain, Short, Spells, Inhabited}
 use Rattle.asn_rules.specs.NumberSets.{Admits, up_to}
 use Rattle.asn_rules.proofs.Languages.Exits.{leads_zero, leads_one, stops_count}
-use Rattle.asn_rules.proofs.Languages.Forks.{fork_short, fork_inhabited_zero, same_inhabited}
+use Rattle.asn_rules.proofs.Languages.Forks.{fork_short, fork_inhabited_zero}
 use Rattle.asn_rules.proofs.Languages.Leads.{Leads, LeadsStops, leads_on, stops_on, leads_map, leads_same}
 use Rattle.asn_rules.proofs.Numbers.CountedCodes.{eight_bits}
 use Rattle.asn_rules.proofs.Numbers.Sets.{set_inhabited}
@@ -45,12 +43,12 @@ module _ (count : ℕ) (some : 64 < count) (few : count ≤ 256) where
   form_wanted = (leads_map per_fields of_either (Fork (Below 6 count) (LargeBelow count)) []).stops.short (fork_short (fork_inhabited_zero some_short))
 
   -- after a 0
-  pub after_zero : (us after : List ℕ) → us ≡ 0 ∷ after → Leads per_fields (Plain (InSet 6 (λ n. Admits (up_to 63 None) n))) after (λ n. n) (SmallBelow count) us
-  after_zero us after e = leads_on (leads_on (leads_same per_fields after six_bits) (leads_zero per_fields e)) (leads_map per_fields of_either (Fork (Below 6 count) (LargeBelow count)) us)
+  pub after_zero : (us after : List ℕ) (b : ℕ) → us ≡ b ∷ after → b ≡ 0 → Leads per_fields (Plain (InSet 6 (λ n. Admits (up_to 63 None) n))) after (λ n. n) (SmallBelow count) us
+  after_zero us after b e z = leads_on (leads_on (leads_same per_fields after six_bits) (leads_zero per_fields (e ∙ ap (λ (x : ℕ). x ∷ after) z))) (leads_map per_fields of_either (Fork (Below 6 count) (LargeBelow count)) us)
 
   -- after a 1
-  pub after_one : (us after : List ℕ) → us ≡ 1 ∷ after → Leads per_fields (LargeBelow count) after (λ n. n) (SmallBelow count) us
-  after_one us after e = leads_on (leads_one per_fields e) (leads_map per_fields of_either (Fork (Below 6 count) (LargeBelow count)) us)
+  pub after_one : (us after : List ℕ) (b : ℕ) → us ≡ b ∷ after → b ≡ 1 → Leads per_fields (LargeBelow count) after (λ n. n) (SmallBelow count) us
+  after_one us after b e z = leads_on (leads_one per_fields (e ∙ ap (λ (x : ℕ). x ∷ after) z)) (leads_map per_fields of_either (Fork (Below 6 count) (LargeBelow count)) us)
 
   -- ---- the long form
 

@@ -1,5 +1,5 @@
 -- Normally small numbers below a count have one of two forms, told by the bit in front.
-use Rattle.std.proofs.Common.{◌≡◌, ◌≤◌, ◌<◌, ◌+◌, ◌⊎◌, ◌/◌, ◌%◌, ◌^◌, inl, inr, ℕ, Bool, true, false, nat_lt, List, ◌∷◌, refl, sym, ap, ◌∙◌, arith}
+use Rattle.std.proofs.Common.{◌≡◌, ◌≤◌, ◌<◌, ◌⊎◌, ◌/◌, ◌%◌, ◌^◌, inl, inr, ℕ, Bool, true, false, nat_lt, List, ◌∷◌, refl, sym, ap, ◌∙◌, arith}
 use Rattle.std.proofs.lemmas.Bool.{lt-ltb, le-ltb, ltb-true, ltb-false}
 use Rattle.asn_bits.specs.Numbers.{bits, octet_count}
 use Rattle.asn_bits.proofs.Octets.{octet_count_some, octet_count_below}
@@ -75,14 +75,14 @@ all_short values few =
 
 module _ (values : ℕ) where
   -- a number of the short form has 6 bits
-  is_short : (k : ℕ) (cs : List Chunk) → Branch 0 inl (Below 6 values) (inl k) cs ⊎ Branch 1 inr (LargeBelow values) (inl k) cs → k < 64
+  is_short : (k : ℕ) (cs : List Chunk) → Branch {V = ℕ ⊎ ℕ} 0 inl (Below 6 values) (inl k) cs ⊎ Branch {V = ℕ ⊎ ℕ} 1 inr (LargeBelow values) (inl k) cs → k < 64
   is_short k cs (inl b) =
       let same : k ≡ b.value = let e = b.seen in cc in
       omega (arith, same, (bits_only 6 b.value b.spelt.units b.spelt.spelt.digits).0)
   is_short k cs (inr b) = absurd (let e = b.seen in cc)
 
   -- and one of the long form is none of them
-  is_large : (k : ℕ) (cs : List Chunk) → Branch 0 inl (Below 6 values) (inr k) cs ⊎ Branch 1 inr (LargeBelow values) (inr k) cs → 64 ≤ k
+  is_large : (k : ℕ) (cs : List Chunk) → Branch {V = ℕ ⊎ ℕ} 0 inl (Below 6 values) (inr k) cs ⊎ Branch {V = ℕ ⊎ ℕ} 1 inr (LargeBelow values) (inr k) cs → 64 ≤ k
   is_large k cs (inl b) = absurd (let e = b.seen in cc)
   is_large k cs (inr b) =
       let same : k ≡ b.value = let e = b.seen in cc in

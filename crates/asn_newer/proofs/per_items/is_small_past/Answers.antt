@@ -1,4 +1,4 @@
-use Rattle.std.proofs.Common.{◌≡◌, [], ◌∙◌, sym, refl, arith}
+use Rattle.std.proofs.Common.{[], ◌∙◌, sym, refl, arith}
 use Rattle.asn_newer.proofs.Walk.PastProfile.{no_form, no_short, short_told, each_long, no_long, long_told}
 use Rattle.asn_newer.proofs.per_items.is_small_past.Goals as goal
 

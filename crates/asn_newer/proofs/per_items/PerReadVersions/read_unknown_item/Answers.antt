@@ -1,14 +1,22 @@
-use Rattle.std.proofs.Common.{◌≡◌, ◌<◌, ◌≤◌, ◌∷◌, ◌++◌, ◌∙◌, ℕ, ℤ, refl, ap, subst, arith}
+use Rattle.std.proofs.Common.{◌≡◌, ◌≤◌, ◌∷◌, ◌++◌, ◌∙◌, ℕ, ℤ, length-append, refl, ap, subst, arith}
 use Rattle.std.proofs.lemmas.Result.{err_from_is_err_and}
 use Rattle.asn_rules.specs.Languages.{Spells}
-use Rattle.asn_values.specs.Profile.{most_items, most_item_additions}
+use Rattle.asn_values.specs.Profile.{most_item_additions}
+use Rattle.asn_values.specs.Shape.{marked_labels}
 use Rattle.asn_values.specs.View.{labels_seen}
+use Rattle.asn_walk.proofs.ItemNumbers.{few_items}
 use Rattle.asn_newer.specs.Rules.{per_loose, IsIndexToCome}
 use Rattle.asn_newer.specs.Walking.{UnknownItem}
 use Rattle.asn_per.specs.Walk.{per_coding}
 use Rattle.asn_newer.proofs.Walk.Halts.{halts_none, halts_short, halts_on}
 use Rattle.asn_newer.proofs.Walk.PerItems.{small_at, index_read, no_index, none_empty, none_root, none_to_come, none_on, none_else, few_labels, index_told}
 use Rattle.asn_newer.proofs.per_items.PerReadVersions.read_unknown_item.Goals as goal
+
+pub overflow_sub-root : goal.overflow_sub-root
+overflow_sub-root c =
+    let root = labels_seen c.args.root.now in
+    let more = labels_seen c.args.additions.now in
+    omega (arith, few_items root (marked_labels more) c.requires.of_profile, length-append root more, few_labels c.args.root.now)
 
 pub returns-in_default-clause-stop : goal.returns-in_default-clause-stop
 unfolding per_coding per_loose
@@ -76,4 +84,6 @@ returns-clause-done c =
       few = omega (arith, at.0, few);
       room = omega (arith, at.0, few_labels c.args.root.now, c.min-most.ensures);
     } in
-    index_read root more c.in_ok-index.index c.args.units.now c.next.new.self c.read_index_below.new.bits e at.1 to_come
+    subst (λ (z : ℤ). Spells per_coding.ruling.fielding (UnknownItem per_loose root more) z c.args.units.now c.read_index_below.new.bits)
+    (index_told c.in_ok-index.index (omega (arith, at.0, few)))
+    (index_read root more c.in_ok-index.index c.args.units.now c.next.new.self c.read_index_below.new.bits e at.1 to_come)

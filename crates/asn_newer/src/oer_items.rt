@@ -31,7 +31,8 @@ impl ReadVersions for Oer {
         octet > 9 && octet != 128
     }
 
-    /// A tag above 62 is the octet 191 and the tag in base 128: an octet up to 127, or two or more, the first above 128.
+    /// A tag above 62 is the octet 191 and the tag in base 128: an octet up to 127, or two and more, the first above
+    /// 128.
     fn is_index_past(_root: usize, units: &BitCursor<'_>) -> bool {
         let mut ahead = units.copied();
         let Some(front) = ahead.take_number(8) else {

@@ -1,5 +1,5 @@
 //! The items that an ENUMERATED with an extension mark has not, as PER tells them.
-ghost use Rattle.std.specs.Prelude.{◌≡◌, ◌≤◌, ◌<◌, ◌-◌, ◌↔◌, IfOk, IfErr, IsTrue, min};
+ghost use Rattle.std.specs.Prelude.{◌≤◌, ◌<◌, ◌↔◌, IfOk, IfErr, IsTrue};
 ghost use Rattle.asn_values.specs.Profile.{most_items, most_item_additions};
 ghost use Rattle.asn_rules.specs.Languages.{Spells};
 ghost use Rattle.asn_per.specs.Kinds.{SmallBelow};
@@ -91,8 +91,8 @@ fn read_index_below(most: usize, bits: &mut BitCursor<'_>) -> Result<usize, Halt
     }
 }
 
-/// Whether a normally small number begins here, and only one of at least `most` can: 0 and 6 bits, or a bit 1, the length
-/// of the number in octets, and these.
+/// Whether a normally small number begins here, and only one of at least `most` can: 0 and 6 bits, or a bit 1, the
+/// length of the number in octets, and these.
 fn is_small_past(most: usize, bits: &BitCursor<'_>) -> bool
     requires { most ≤ most_items }
     ensures { IsTrue result ↔ IsSmallPast most bits.now }

@@ -138,7 +138,7 @@ lists::feed_fragment-feed_element-requires g t c κs within =
     let good = c.requires.reached.1 in
     let all = c.requires.reached.2 in
     let x = element_ahead g.R.ReadLeaves.rules c.keep_laws.ensures c.keep_feed_laws.ensures g.R.FeedLeaves.fields g.R.ReadLeaves.ahead g.R.ReadLeaves.is_between (shape_of c.args.element.now) s good c.loop-list.list (nodes c.loop-list.frames) all (g.R.ReadLeaves.rules.to_units c.loop-list.units) c.loop-list-test.true (inv.0 s good all c.requires.reached.3) in
-    (search (rules, the_lemmas), (within.0, (within.1, (inv.2, (element_of_profile (shape_of c.args.element.now) s good, ((x.come, x.took), omega (arith, inv.1, c.requires.few)))))))
+    (search (rules, the_lemmas), (within.0, (within.1, (inv.2, (element_of_profile (shape_of c.args.element.now) s good, ((s, good), ((x.come, x.took), omega (arith, inv.1, c.requires.few))))))))
 
 pub lists::feed_fragment-returns-in_err-value-clause-stop : goal.lists::feed_fragment-returns-in_err-value-clause-stop
 lists::feed_fragment-returns-in_err-value-clause-stop g t c =
@@ -146,7 +146,7 @@ lists::feed_fragment-returns-in_err-value-clause-stop g t c =
     let p = err_from_is_err_and c.from_residual.result c.from_residual.ensures.1 in
     rw (p.1, p.2) (λ s good all h.
     (let x = element_ahead g.R.ReadLeaves.rules c.keep_laws.ensures c.keep_feed_laws.ensures g.R.FeedLeaves.fields g.R.ReadLeaves.ahead g.R.ReadLeaves.is_between (shape_of c.args.element.now) s good c.loop-list.list (nodes c.loop-list.frames) all (g.R.ReadLeaves.rules.to_units c.loop-list.units) c.loop-list-test.true (inv.0 s good all h) in
-    x.stops _ (c.in_err-value.ensures.stop x.come x.took)))
+    x.stops _ (c.in_err-value.ensures.stop x.come x.took.0)))
 
 pub lists::feed_fragment-returns-in_err-value-clause-kept : goal.lists::feed_fragment-returns-in_err-value-clause-kept
 lists::feed_fragment-returns-in_err-value-clause-kept g t c = λ e s good all h.
@@ -161,7 +161,7 @@ lists::feed_fragment-loop-list-preserved g t c =
     let inv = c.loop-list.invariant in (
       λ s good all h.
           (let x = element_ahead g.R.ReadLeaves.rules c.keep_laws.ensures c.keep_feed_laws.ensures g.R.FeedLeaves.fields g.R.ReadLeaves.ahead g.R.ReadLeaves.is_between (shape_of c.args.element.now) s good c.loop-list.list (nodes c.loop-list.frames) all (g.R.ReadLeaves.rules.to_units c.loop-list.units) c.loop-list-test.true (inv.0 s good all h) in
-          x.more _ _ c.in_ok-value.value _ (omega (arith, c.loop-list-test.true)) refl refl c.in_ok-push.ensures.items c.in_ok-value.ensures.emptied (c.in_ok-value.ensures.done x.come x.took)),
+          x.more _ _ c.in_ok-value.value _ (omega (arith, c.loop-list-test.true)) refl refl c.in_ok-push.ensures.items c.in_ok-value.ensures.emptied (c.in_ok-value.ensures.done x.come x.took.0)),
       omega (arith, inv.1, c.in_ok-value.ensures.ticked),
       c.in_ok-value.ensures.at_unit,
       inv.3,

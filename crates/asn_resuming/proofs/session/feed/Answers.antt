@@ -6,13 +6,14 @@ use Rattle.asn_rules.proofs.Feeding.Sessions.{take_few}
 use Rattle.asn_walk.proofs.Decoding.{few_units}
 use Rattle.asn_walk_feed.specs.Nodes.{nodes}
 use Rattle.asn_rules.specs.Sessions.{Past, all_so_far}
+use Rattle.asn_rules.specs.Holding.{GivesFew}
 use Rattle.asn_rules.specs.Ticks.{CountsOn}
 use Rattle.asn_rules.specs.declared.session.Step.TheVariants as step
 use Rattle.asn_rules.specs.declared.session.FeedFault.TheVariants as feed
 use Rattle.asn_walk_feed.specs.Counts.{count_of}
 use Rattle.asn_resuming.specs.Counting.{Seen, SeenAtMost, Going, CountsAfter}
 use Rattle.asn_resuming.specs.Reached.{Reached, GoesOn, AnswersOn}
-use Rattle.asn_resuming.proofs.Answering.{octets_known, feeds, reached_of, of_its_type, so_far, done_feeds, more_feeds, too_long_feeds, refused_feeds, memory_feeds, when_waiting, going_at, front_same}
+use Rattle.asn_resuming.proofs.Answering.{octets_known, feeds, reached_of, of_its_type, so_far, done_feeds, more_feeds, too_long_feeds, refused_feeds, memory_feeds, when_waiting, going_at, front_same, done_few}
 use Rattle.asn_resuming.proofs.Counts.{few_of_seen, count_at_most, most_after}
 use Rattle.asn_resuming.proofs.NextOctets.{units_joined}
 use Rattle.asn_resuming.proofs.session.feed.Goals as goal
@@ -149,3 +150,20 @@ returns-in-Err-Memory-clause-ticked g c = λ t past k.
     when_waiting r laws fc ah bt t q (λ (u : Past). CountsOn r.ruling t u p (Err feed.Memory) (count_of q.ticks) (count_of c.read_next.new.ticks)) c.in-Waiting.is (λ s w.
     let here : SeenAtMost t (length (r.ruling.units (s ++ m))) c.read_next.new.ticks = of_its_type r laws fc ah bt t q s (λ (u : Shape). SeenAtMost u (length (r.ruling.units (s ++ m))) c.read_next.new.ticks) w (most s (reached_of r laws fc ah bt t q s w) (going_at r laws fc ah bt t q s w)) in
     count_at_most t (length (r.ruling.units (all_so_far s p))) c.read_next.new.ticks (subst (λ (o : List ℕ). SeenAtMost t (length (r.ruling.units o)) c.read_next.new.ticks) (so_far r laws fc ah bt t q s p c.saturating_sub-room.result c.min.result w c.saturating_sub-room.ensures c.min.ensures) here)) past k
+
+-- ---- how large the value is
+
+pub returns-in-Ok-Done-clause-few : goal.returns-in-Ok-Done-clause-few
+returns-in-Ok-Done-clause-few g c = λ t past k.
+    let r = g.R.ReadLeaves.rules in
+    let laws = c.keep_laws.ensures in
+    let fc = g.R.FeedLeaves.fields in
+    let ah = g.R.ReadLeaves.ahead in
+    let bt = g.R.ReadLeaves.is_between in
+    let q = c.args.session.now in
+    let m = take c.min.result c.args.piece.now in
+    let v = c.in-Ok-Done.value in
+    let used = c.in-Ok-Done.used in
+    let told : (s : List ℕ) → Reached r fc ah bt (nodes q.frames) (shape_of q.ty) q.units q.octets s → Answer r.ruling (shape_of q.ty) (s ++ m) (done (datum_of v) (length s + used)) = rw (c.in-Ok-Done.is, c.in-Ok-Done.field-0-is) at c.read_next.ensures.answered in
+    when_waiting r laws fc ah bt t q (λ (u : Past). GivesFew (Ok (step.Done v used)) t u) c.in-Waiting.is (λ s w.
+    done_few r laws fc c.keep_hold_laws.ensures t (datum_of v) (s ++ m) (length s + used) w.of_profile (of_its_type r laws fc ah bt t q s (λ (u : Shape). Answer r.ruling u (s ++ m) (done (datum_of v) (length s + used))) w (told s (reached_of r laws fc ah bt t q s w)))) past k

@@ -41,7 +41,7 @@ use Rattle.asn_walk_feed.specs.Keeping.{kept_in, KeepLaws}
 use Rattle.asn_walk_feed.specs.OpenFields.{FieldLaws}
 use Rattle.asn_walk_feed.specs.Strings.{StringLaws}
 use Rattle.asn_walk_feed.proofs.Cells.{bits_of_octets, cells_within}
-use Rattle.asn_walk_feed.proofs.Held.{held_within}
+use Rattle.asn_walk_feed.proofs.HeldRead.{held_within}
 use Rattle.asn_walk_feed.proofs.KeptRead.{kept_of}
 use Rattle.asn_resuming.proofs.Counts.{count_of_seen}
 use Rattle.asn_resuming.proofs.NextOctets.{reached_none}

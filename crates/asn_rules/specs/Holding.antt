@@ -1,6 +1,6 @@
 -- How much of a message a session holds, and how large the values of encodings are: no more than the places of the type
 -- for each bit, or once.
-use Rattle.std.specs.Prelude.{◌≡◌, ◌≤◌, ◌+◌, ◌*◌, ℕ, max, Result, Ok, Err, List, length, ⊤}
+use Rattle.std.specs.Prelude.{◌≡◌, ◌≤◌, ◌+◌, ◌*◌, ℕ, max, Result, Ok, List, length, ⊤}
 use Rattle.asn_values.specs.Datum.{Datum}
 use Rattle.asn_values.specs.Measures.{cells, places}
 use Rattle.asn_values.specs.Profile.{InProfile}

@@ -7,7 +7,7 @@ use Rattle.asn_values.specs.Fits.{Fits}
 use Rattle.asn_values.specs.Measures.{places, fields_places, more_places, choice_places, more_choice_places, cells, components_cells, elements_cells}
 use Rattle.asn_values.specs.Parts.{AreOfProfile, AreAllOfProfile}
 use Rattle.asn_values.specs.Profile.{InProfile, good_default}
-use Rattle.asn_values.specs.Shape.{SizeRange, Shape, boolean, null, integer, enumerated, bit_string, octet_string, restricted, utf8_string, sequence, sequence_of, choice, Demand, must, optional, default, Fields, no_fields, field, MoreFields, closed, marked, more_fields, demands, Alternatives, no_alternatives, one_of, MoreAlternatives, closed_choice, marked_choice, more_alternatives, count}
+use Rattle.asn_values.specs.Shape.{SizeRange, Shape, boolean, null, integer, enumerated, bit_string, octet_string, restricted, utf8_string, sequence, sequence_of, choice, closed_labels, marked_labels, Demand, must, optional, default, Fields, no_fields, field, MoreFields, closed, marked, more_fields, demands, Alternatives, no_alternatives, one_of, MoreAlternatives, closed_choice, marked_choice, more_alternatives, count}
 use Rattle.asn_values.proofs.InnerTypes.{element_of_profile, additions_of_profile}
 use Rattle.asn_values.proofs.Parts.{components_of_profile}
 use Rattle.asn_bits.specs.Numbers.{bits}
@@ -97,6 +97,8 @@ pub default_cells : (t : Shape) (d : Datum) → good_default t d ≡ true → ce
 default_cells boolean (truth b) e = refl
 default_cells (integer r) (number z) e = refl
 default_cells (enumerated root more) (item p) e = refl
+default_cells (enumerated root closed_labels) _ e = absurd (true≢false (sym e))
+default_cells (enumerated root (marked_labels ls)) _ e = absurd (true≢false (sym e))
 default_cells _ d e = absurd (true≢false (sym e))
 
 module _ (c : Coding) (laws : Laws c) (fc : FieldCoding) (hold : HoldLaws c fc) where

@@ -7,7 +7,8 @@ pub mod ElementsWait
 pub mod FieldsKept
 pub mod FieldsRead
 pub mod Goings
-pub mod Held
+pub mod HeldNodes
+pub mod HeldRead
 pub mod ItemsRead
 pub mod KeptNodes
 pub mod KeptRead

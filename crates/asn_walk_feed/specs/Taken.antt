@@ -46,7 +46,7 @@ Took c fc ahead between (frame.Start b ∷ f ∷ fs) t us = ⊥
 Took c fc ahead between (frame.Elements q ∷ fs) (sequence_of t s) us =
     GoesOn c ahead between NoItem (Spelt c.code None t) (ListingOf c s (Spelt c.code None t)) datum_of q
     (NextPart q.left fs (λ come. Waits c (NextOf (ahead q.fragments)) q.next_part come)
-    (λ come. (q.next_part ≡ []) × Took c fc ahead between fs t come × (come ≡ [] → fs ≡ []))) us []
+    (λ come. (q.next_part ≡ []) × (Took c fc ahead between fs t come × (come ≡ [] → fs ≡ [])))) us []
 Took c fc ahead between (frame.Elements q ∷ fs) t us = ⊥
 Took c fc ahead between (frame.Components q ∷ fs) (sequence root more) us =
     RootGoesOn c root more q

@@ -64,11 +64,11 @@ fn cells_of_entries(entries: &[Option<Value>]) -> u64
 {
     let mut sum = 0u64;
     for entry in entries {
-        let more = match entry {
-            None => 1,
-            Some(value) => cells(value),
+        let Some(value) = entry else {
+            sum = sum.saturating_add(1);
+            continue;
         };
-        sum = sum.saturating_add(more);
+        sum = sum.saturating_add(cells(value));
     }
     sum
 }

@@ -45,6 +45,10 @@ use Rattle.asn_oer.proofs.Walk.WalkLaws.{oer_laws}
 
 -- ---- some octets
 
+some_spelled : (c : List ℕ) → 1 ≤ length (spelled c)
+some_spelled c = (let l = some_octets c in omega (arith, l))
+
+
 some_list : {A : Type 0} (xs : List A) → 1 ≤ length xs → xs ≢ []
 some_list xs h e = (let l : length xs ≡ 0 = ap length e in absurd (omega (arith, l, h)))
 
@@ -72,7 +76,7 @@ unsigned_some high z = go (int_lt high (pos (2 ^ 8))) (int_lt high (pos (2 ^ 16)
     go false true c d = (let e = length-digits 256 2 (magnitude_of z) in omega (arith, e))
     go false false true d = (let e = length-digits 256 4 (magnitude_of z) in omega (arith, e))
     go false false false true = (let e = length-digits 256 8 (magnitude_of z) in omega (arith, e))
-    go false false false false = some_octets (least (magnitude_of z))
+    go false false false false = some_spelled (least (magnitude_of z))
 
 signed_some : (k : ℕ) (z : ℤ) → length (signed_octets k z) ≡ k
 signed_some k (pos n) = length-digits 256 k n
@@ -86,20 +90,20 @@ signed_in_some low high z = go (both_in 1 low high) (both_in 2 low high) (both_i
     go false true c d = (let e = signed_some 2 z in omega (arith, e))
     go false false true d = (let e = signed_some 4 z in omega (arith, e))
     go false false false true = (let e = signed_some 8 z in omega (arith, e))
-    go false false false false = some_octets (least_signed z)
+    go false false false false = some_spelled (least_signed z)
 
 ranged_some : (low high : Option ℤ) (z : ℤ) → 1 ≤ length (ranged low high z)
 ranged_some (Some (pos low)) (Some high) z = unsigned_some high z
-ranged_some (Some (pos low)) None z = some_octets (least (magnitude_of z))
+ranged_some (Some (pos low)) None z = some_spelled (least (magnitude_of z))
 ranged_some (Some (negsuc low)) (Some high) z = signed_in_some (negsuc low) high z
-ranged_some (Some (negsuc low)) None z = some_octets (least_signed z)
-ranged_some None high z = some_octets (least_signed z)
+ranged_some (Some (negsuc low)) None z = some_spelled (least_signed z)
+ranged_some None high z = some_spelled (least_signed z)
 
 number_some : (b : Range) (z : ℤ) → 1 ≤ length (whole_number b z)
 number_some b z = go b.extensible
   where
     go : (e : Bool) → 1 ≤ length (elim e [ true ↦ counted_signed z | false ↦ ranged b.low b.high z ])
-    go true = some_octets (least_signed z)
+    go true = some_spelled (least_signed z)
     go false = ranged_some b.low b.high z
 
 item_some : (z : ℤ) → 1 ≤ length (item_number z)
@@ -115,7 +119,7 @@ item_some z = go (int_le (pos 0) z && int_lt z (pos 128))
 fixed_some : (s : SizeRange) (n : ℕ) → is_fixed_size s ≡ true → is_zero_size s ≡ false → IsTrue (s.extensible || in_size s n) → 1 ≤ n
 fixed_some s n f z h = go s.extensible s.high f z h
   where
-    not_zero : (l : ℕ) → (l == 0) && (l == 0) ≡ false → 1 ≤ l
+    not_zero : (l : ℕ) → ((l == 0) && (l == 0)) ≡ false → 1 ≤ l
     not_zero zero e = absurd (true≢false e)
     not_zero (suc l) e = omega arith
 
@@ -125,7 +129,7 @@ fixed_some s n f z h = go s.extensible s.high f z h
     go false None f z h = absurd (true≢false (sym f))
     go false (Some top) f z h =
         let same : s.low ≡ top = eqb-true s.low top f in
-        let some : 1 ≤ s.low = not_zero s.low (subst (λ (t : ℕ). (s.low == 0) && (t == 0) ≡ false) (sym same) z) in
+        let some : 1 ≤ s.low = not_zero s.low (subst (λ (t : ℕ). ((s.low == 0) && (t == 0)) ≡ false) (sym same) z) in
         let least : s.low ≤ n = leb-true s.low n (and_parts (nat_le s.low n) _ h).0 in
         omega (arith, some, least)
 
@@ -134,14 +138,14 @@ bits_some s bs z h = go (is_fixed_size s) refl
   where
     go : (f : Bool) → is_fixed_size s ≡ f → 1 ≤ length (elim f [ true ↦ filled_bits bs | false ↦ variable_bits bs ])
     go true e = filled_some bs (fixed_some s (length bs) e z h)
-    go false e = some_octets _
+    go false e = some_spelled _
 
 sized_some : (s : SizeRange) (os : List ℕ) → is_zero_size s ≡ false → IsTrue (s.extensible || in_size s (length os)) → 1 ≤ length (sized_octets s os)
 sized_some s os z h = go (is_fixed_size s) refl
   where
     go : (f : Bool) → is_fixed_size s ≡ f → 1 ≤ length (elim f [ true ↦ os | false ↦ spelled os ])
     go true e = fixed_some s (length os) e z h
-    go false e = some_octets os
+    go false e = some_spelled os
 
 -- ---- all types
 
@@ -200,7 +204,7 @@ mutual
   not_empty utf8_string good n _ f = absurd f
   not_empty (sequence root more) good n v f =
       sequence_some root more v good f (⊎_elim (λ x. inr (some_parts root (components_of_profile root more good) x)) (λ x. inl x) (either_false (no_field_bits root) (no_more_bits more) n))
-  not_empty (sequence_of t s) good n (elements ds) f = left_some (ones (spelled (least _))) _ (some_ones (spelled (least _)) (some_octets (least _)))
+  not_empty (sequence_of t s) good n (elements ds) f = left_some (ones (spelled (least _))) _ (some_ones (spelled (least _)) (some_spelled (least _)))
   not_empty (sequence_of t s) good n _ f = absurd f
   not_empty (choice root more) good n (alternative i d) f = left_some (ones (tag i)) _ (some_ones (tag i) (tag_some i))
   not_empty (choice root more) good n _ f = absurd f

@@ -46,7 +46,9 @@ many : {A : Type 0} (f : A → List Chunk) → ((x : A) → 1 ≤ length (flat s
 many f each [] = omega arith
 many f each (x ∷ xs) =
     let l = length-append (flat spelled (f x)) (joined (map (flat spelled) (map f xs))) in
-    omega (arith, l, each x, many f each xs)
+    let one = each x in
+    let more = many f each xs in
+    omega (arith, l, one, more)
 
 module _ {A : Type 0} (f : A → List Chunk) (each : (x : A) → 1 ≤ length (flat spelled (f x))) (xs : List A) where
   general_many : length xs ≤ length (flat spelled (general one (map f xs)))

@@ -45,7 +45,7 @@ use Rattle.asn_walk_feed.proofs.Weights.{total-one, total-eight, spells_fewer, c
 
 -- what types allow together, for p each
 allowed_places : (k : ℕ) (fs : Fields) → allowed (λ t. places t * k) (parts_in fs) ≡ fields_places fs * k
-allowed_places k no_fields = refl
+allowed_places k no_fields = omega arith
 allowed_places k (field name demand t fs) =
     (let e = allowed_places k fs in let sum = sum_mul (places t) (fields_places fs) k in omega (arith, e, sum))
 
@@ -139,8 +139,8 @@ module _ {F : Type 0} (c : Coding) (laws : Laws c) (fc : FieldCoding) (keep : Ke
             let some : 1 ≤ length h.come = (let l : length h.come ≡ length (x ∷ xs) = ap length e in omega (arith, l)) in
             at_most fs again t h.come (unit_bits c * length h.come) (element_of_profile t s good) w.0 (one_within ub (length h.come) (some_bits c laws fc hold) some) (omega arith)
 
-    next_held : held_in fs ≤ places t * (unit_bits c * length h.come)
-    next_held = go q.left refl
+    next_element_held : held_in fs ≤ places t * (unit_bits c * length h.come)
+    next_element_held = go q.left refl
       where
         go : (n : ℕ) → q.left ≡ n → held_in fs ≤ places t * (unit_bits c * length h.come)
         go zero e =
@@ -159,7 +159,7 @@ module _ {F : Type 0} (c : Coding) (laws : Laws c) (fc : FieldCoding) (keep : Ke
         let here : (p * ub) * length (h.come ++ []) ≡ p * (ub * length h.come) = ap (λ (n : ℕ). (p * ub) * n) come ∙ mul_assoc p ub (length h.come) in
         let all = mul_assoc p ub (length us) in
         let most : p * (ub * length us) ≤ p * bits_so_far us = mul-le-mul_left p (omega arith) in
-        one_more p (bits_so_far us) (total cells (map datum_of q.elements.items) + held_in fs) (omega arith) (omega (arith, few, here, all, most, next_held))
+        one_more p (bits_so_far us) (total cells (map datum_of q.elements.items) + held_in fs) (omega arith) (omega (arith, few, here, all, most, next_element_held))
 
   -- ---- the root of a SEQUENCE
 
@@ -200,21 +200,21 @@ module _ {F : Type 0} (c : Coding) (laws : Laws c) (fc : FieldCoding) (keep : Ke
       by_demand (default d) x = other fs d x
 
   module _ (fs : List (Frame F)) (again : Again fs) (q : Components) (root : Fields) (more : MoreFields) (us : List ℕ) (h : RootReached c fc ahead between root more q fs us []) where
-    abbrev k : ℕ
-    k = max 1 (unit_bits c * length us)
+    abbrev most_root : ℕ
+    most_root = max 1 (unit_bits c * length us)
 
     -- what has come of the next component is among all
-    come_within : unit_bits c * length h.come ≤ k
+    come_within : unit_bits c * length h.come ≤ most_root
     come_within =
         let s = (h.stands []).stands in
         let one = ap length s.split ∙ length-append (flat c.ruling.fielding.spelled s.front) ((h.come ++ []) ++ []) in
         let l : length h.come ≤ length us = omega (arith, one, length-append h.between [], length-append (h.come ++ []) [], length-append h.come [], spells_fewer h.preamble) in
-        fewer_bits c laws fc hold (length h.come) (length us) k l (omega arith)
+        fewer_bits c laws fc hold (length h.come) (length us) most_root l (omega arith)
 
-    next_held : held_in fs ≤ allowed (λ t. places t * k) (drop (length q.entries.items) (parts_in root))
-    next_held = go (drop (length q.entries.items) (parts_in root)) refl
+    next_component_held : held_in fs ≤ allowed (λ t. places t * most_root) (drop (length q.entries.items) (parts_in root))
+    next_component_held = go (drop (length q.entries.items) (parts_in root)) refl
       where
-        go : (rest : List Part) → drop (length q.entries.items) (parts_in root) ≡ rest → held_in fs ≤ allowed (λ t. places t * k) (drop (length q.entries.items) (parts_in root))
+        go : (rest : List Part) → drop (length q.entries.items) (parts_in root) ≡ rest → held_in fs ≤ allowed (λ t. places t * most_root) (drop (length q.entries.items) (parts_in root))
         go [] e =
             let inner : (fs ≡ []) × (h.come ≡ []) = rw e at h.inner in
             let none = none_held fs inner.0 in
@@ -222,23 +222,23 @@ module _ {F : Type 0} (c : Coding) (laws : Laws c) (fc : FieldCoding) (keep : Ke
         go (p ∷ ps) e =
             let st : ReadUpTo c [] (parts_in root) (bitmap_length root) q.presence.bitmap (h.between ++ []) (p ∷ ps) q.presence.left (entries_seen q.entries.items) ((h.come ++ []) ++ []) = rw e at h.stands [] in
             let inner : (x : Bool) → IsPresent p q.presence.left q.presence.bitmap x → EntryTook c fs (λ t vs. Took c fc ahead between fs t vs) p x h.come = rw e at h.inner in
-            let first = allowed_first (λ t. places t * k) (drop (length q.entries.items) (parts_in root)) p ps e in
+            let first = allowed_first (λ t. places t * most_root) (drop (length q.entries.items) (parts_in root)) p ps e in
             let held = by_bit p (has_presence_bit p.demand) refl st.of_profile.0 inner in
             omega (arith, first, held)
           where
             by_bit : (p : Part) (b : Bool) → has_presence_bit p.demand ≡ b → InProfile p.shape
-                → ((x : Bool) → IsPresent p q.presence.left q.presence.bitmap x → EntryTook c fs (λ t vs. Took c fc ahead between fs t vs) p x h.come) → held_in fs ≤ places p.shape * k
+                → ((x : Bool) → IsPresent p q.presence.left q.presence.bitmap x → EntryTook c fs (λ t vs. Took c fc ahead between fs t vs) p x h.come) → held_in fs ≤ places p.shape * most_root
             by_bit p false e good inner =
-                entry_held fs again p true h.come k good (inner true (record { must = λ x. refl; bit = λ x. absurd (true≢false (sym x ∙ e)) })) (omega arith) come_within
+                entry_held fs again p true h.come most_root good (inner true (record { must = λ x. refl; bit = λ x. absurd (true≢false (sym x ∙ e)) })) (omega arith) come_within
             by_bit p true e good inner =
                 let x = a_bit (q.presence.bitmap / 2 ^ (q.presence.left - 1) % 2) (omega arith) in
-                entry_held fs again p x.0 h.come k good (inner x.0 (record { must = λ y. absurd (true≢false (sym e ∙ y)); bit = λ y. x.1 })) (omega arith) come_within
+                entry_held fs again p x.0 h.come most_root good (inner x.0 (record { must = λ y. absurd (true≢false (sym e ∙ y)); bit = λ y. x.1 })) (omega arith) come_within
 
-    root_held : suc (total entry_cells (entries_seen q.entries.items) + held_in fs) ≤ places (sequence root more) * k
+    root_held : suc (total entry_cells (entries_seen q.entries.items) + held_in fs) ≤ places (sequence root more) * most_root
     root_held =
-        let light = h.light entry_cells (λ t. places t * k) (λ p present e cs good g s l. entry_few p.demand p.shape present e cs k good g s (omega arith) (fewer_bits c laws fc hold (length (flat c.ruling.fielding.spelled cs)) (length us) k l (omega arith))) in
-        let all = allowed_places k root in
-        one_more (fields_places root + more_places more) k (total entry_cells (entries_seen q.entries.items) + held_in fs) (omega arith) (within_first (fields_places root) (more_places more) k (total entry_cells (entries_seen q.entries.items) + held_in fs) (omega (arith, light, all, next_held)))
+        let light = h.light entry_cells (λ t. places t * most_root) (λ p present e cs good g s l. entry_few p.demand p.shape present e cs most_root good g s (omega arith) (fewer_bits c laws fc hold (length (flat c.ruling.fielding.spelled cs)) (length us) most_root l (omega arith))) in
+        let all = allowed_places most_root root in
+        one_more (fields_places root + more_places more) most_root (total entry_cells (entries_seen q.entries.items) + held_in fs) (omega arith) (within_first (fields_places root) (more_places more) most_root (total entry_cells (entries_seen q.entries.items) + held_in fs) (omega (arith, light, all, next_component_held)))
 
   -- ---- the extension additions of a SEQUENCE
 
@@ -249,42 +249,42 @@ module _ {F : Type 0} (c : Coding) (laws : Laws c) (fc : FieldCoding) (keep : Ke
   addition_few t false e cs k good h a b = subst (λ (x : Option Datum). entry_cells x ≤ places t * k) (sym h.same) (one_within (places t) k (some_places t) a)
 
   module _ (root : Fields) (more : MoreFields) (us : List ℕ) (good : InProfile (sequence root more)) where
-    abbrev k : ℕ
-    k = max 1 (unit_bits c * length us)
+    abbrev most_added : ℕ
+    most_added = max 1 (unit_bits c * length us)
 
     -- the entries of the root
-    root_few : (es : List (Option Datum)) (rest : List ℕ) → RootRead c root more es us rest → total entry_cells es ≤ fields_places root * k
+    root_few : (es : List (Option Datum)) (rest : List ℕ) → RootRead c root more es us rest → total entry_cells es ≤ fields_places root * most_added
     root_few es rest r =
         let w = r.components in
         let l : length (flat c.ruling.fielding.spelled w.chunks) ≤ length us = omega (arith, chunks_fewer w, spells_fewer r.preamble) in
-        few_listed c laws fc hold root (components_of_profile root more good) (bits (bitmap_length root) r.bitmap) es w.chunks k w.spelt (omega arith) (fewer_bits c laws fc hold (length (flat c.ruling.fielding.spelled w.chunks)) (length us) k l (omega arith))
+        few_listed c laws fc hold root (components_of_profile root more good) (bits (bitmap_length root) r.bitmap) es w.chunks most_added w.spelt (omega arith) (fewer_bits c laws fc hold (length (flat c.ruling.fielding.spelled w.chunks)) (length us) most_added l (omega arith))
 
-    bitmap_held : (p : AdditionBits) (fs : List (Frame F)) → fs ≡ [] → BitmapGoesOn c root more (entries_seen p.entries.items) p.begun us [] → suc (total entry_cells (entries_seen p.entries.items) + held_in fs) ≤ places (sequence root more) * k
+    bitmap_held : (p : AdditionBits) (fs : List (Frame F)) → fs ≡ [] → BitmapGoesOn c root more (entries_seen p.entries.items) p.begun us [] → suc (total entry_cells (entries_seen p.entries.items) + held_in fs) ≤ places (sequence root more) * most_added
     bitmap_held p fs e h =
         let few = root_few (entries_seen p.entries.items) (h.come ++ []) h.root_read in
         let none = none_held fs e in
-        one_more (fields_places root + more_places more) k (total entry_cells (entries_seen p.entries.items) + held_in fs) (omega arith) (within_first (fields_places root) (more_places more) k (total entry_cells (entries_seen p.entries.items) + held_in fs) (omega (arith, few, none)))
+        one_more (fields_places root + more_places more) most_added (total entry_cells (entries_seen p.entries.items) + held_in fs) (omega arith) (within_first (fields_places root) (more_places more) most_added (total entry_cells (entries_seen p.entries.items) + held_in fs) (omega (arith, few, none)))
 
     module _ (fs : List (Frame F)) (q : Components) (h : AdditionsGoOn c root more q (λ come. NextAdditionTook c fc ahead between fs q.presence.left q.presence.bitmap come) us []) where
       abbrev rest_of_parts : List Part
       rest_of_parts = drop (addition_count more - q.presence.left) (parts_in (more_fields more))
 
-      added_within : unit_bits c * length h.come ≤ k
+      added_within : unit_bits c * length h.come ≤ most_added
       added_within =
           let s = (h.stands []).stands in
           let r = h.root_read in
           let one = ap length s.split ∙ length-append (flat c.ruling.fielding.spelled s.front) ((h.come ++ []) ++ []) in
           let l : length h.come ≤ length us = omega (arith, one, length-append h.between [], length-append (h.come ++ []) [], length-append h.come [], spells_fewer h.bitmap, spells_fewer r.components, spells_fewer r.preamble) in
-          fewer_bits c laws fc hold (length h.come) (length us) k l (omega arith)
+          fewer_bits c laws fc hold (length h.come) (length us) most_added l (omega arith)
 
-      addition_held : held_in fs ≤ allowed (λ t. places t * k) rest_of_parts
+      addition_held : held_in fs ≤ allowed (λ t. places t * most_added) rest_of_parts
       addition_held = go q.presence.left refl rest_of_parts refl
         where
-          by_bit : (b : Bool) → AdditionTook c fc ahead between fs b h.come → held_in fs ≤ k
+          by_bit : (b : Bool) → AdditionTook c fc ahead between fs b h.come → held_in fs ≤ most_added
           by_bit false x = (let none = none_held fs x.0 in omega (arith, none))
-          by_bit true x = field_held fs h.come k x (omega arith) added_within
+          by_bit true x = field_held fs h.come most_added x (omega arith) added_within
 
-          go : (n : ℕ) → q.presence.left ≡ n → (rest : List Part) → rest_of_parts ≡ rest → held_in fs ≤ allowed (λ t. places t * k) rest_of_parts
+          go : (n : ℕ) → q.presence.left ≡ n → (rest : List Part) → rest_of_parts ≡ rest → held_in fs ≤ allowed (λ t. places t * most_added) rest_of_parts
           go zero e rest x =
               let inner : (fs ≡ []) × (h.come ≡ []) = subst (λ (m : ℕ). NextAdditionTook c fc ahead between fs m q.presence.bitmap h.come) e h.inner in
               let none = none_held fs inner.0 in
@@ -296,17 +296,17 @@ module _ {F : Type 0} (c : Coding) (laws : Laws c) (fc : FieldCoding) (keep : Ke
           go (suc n) e (p ∷ ps) x =
               let next : (y : Bool) → bit_of y ≡ q.presence.bitmap / 2 ^ n % 2 → AdditionTook c fc ahead between fs y h.come = subst (λ (m : ℕ). NextAdditionTook c fc ahead between fs m q.presence.bitmap h.come) e h.inner in
               let y = a_bit (q.presence.bitmap / 2 ^ n % 2) (omega arith) in
-              let one = within_one (places p.shape) k (held_in fs) (some_places p.shape) (by_bit y.0 (next y.0 y.1)) in
-              let first = allowed_first (λ t. places t * k) rest_of_parts p ps x in
+              let one = within_one (places p.shape) most_added (held_in fs) (some_places p.shape) (by_bit y.0 (next y.0 y.1)) in
+              let first = allowed_first (λ t. places t * most_added) rest_of_parts p ps x in
               omega (arith, one, first)
 
-      additions_held : suc (total entry_cells (entries_seen q.entries.items) + held_in fs) ≤ places (sequence root more) * k
+      additions_held : suc (total entry_cells (entries_seen q.entries.items) + held_in fs) ≤ places (sequence root more) * most_added
       additions_held =
-          let light = h.light entry_cells (λ t. places t * k) (λ t present e cs g s l. addition_few t present e cs k g s (omega arith) (fewer_bits c laws fc hold (length (flat c.ruling.fielding.spelled cs)) (length us) k l (omega arith))) in
+          let light = h.light entry_cells (λ t. places t * most_added) (λ t present e cs g s l. addition_few t present e cs most_added g s (omega arith) (fewer_bits c laws fc hold (length (flat c.ruling.fielding.spelled cs)) (length us) most_added l (omega arith))) in
           let before = root_few h.before h.rest h.root_read in
-          let all : allowed (λ t. places t * k) (parts_in (more_fields more)) ≡ more_places more * k = allowed_places k (more_fields more) ∙ ap (λ (n : ℕ). n * k) (added_places more) in
-          let sum = sum_mul (fields_places root) (more_places more) k in
-          one_more (fields_places root + more_places more) k (total entry_cells (entries_seen q.entries.items) + held_in fs) (omega arith) (omega (arith, light, before, all, sum, addition_held))
+          let all : allowed (λ t. places t * most_added) (parts_in (more_fields more)) ≡ more_places more * most_added = allowed_places most_added (more_fields more) ∙ ap (λ (n : ℕ). n * most_added) (added_places more) in
+          let sum = sum_mul (fields_places root) (more_places more) most_added in
+          one_more (fields_places root + more_places more) most_added (total entry_cells (entries_seen q.entries.items) + held_in fs) (omega arith) (omega (arith, light, before, all, sum, addition_held))
         where
           added_places : (m : MoreFields) → fields_places (more_fields m) ≡ more_places m
           added_places closed = refl
@@ -325,25 +325,25 @@ module _ {F : Type 0} (c : Coding) (laws : Laws c) (fc : FieldCoding) (keep : Ke
   added_held fs (one_of name t alts) i k l h = within_first (places t) (choice_places alts) k (held_in fs) (within_one (places t) k (held_in fs) (some_places t) h)
 
   module _ (fs : List (Frame F)) (root : Alternatives) (more : MoreAlternatives) (i : ℕ) (us : List ℕ) (good : InProfile (choice root more)) where
-    abbrev k : ℕ
-    k = max 1 (unit_bits c * length us)
+    abbrev most_chosen : ℕ
+    most_chosen = max 1 (unit_bits c * length us)
 
-    chosen_held : Again fs → ChoiceReached c fc ahead between root more i fs us [] → suc (held_in fs) ≤ places (choice root more) * k
+    chosen_held : Again fs → ChoiceReached c fc ahead between root more i fs us [] → suc (held_in fs) ≤ places (choice root more) * most_chosen
     chosen_held again h =
         let l : length h.come ≤ length us = omega (arith, spells_fewer h.index, length-append h.come []) in
-        let w = fewer_bits c laws fc hold (length h.come) (length us) k l (omega arith) in
-        one_more (choice_places root + more_choice_places more) k (held_in fs) (omega arith) (within_first (choice_places root) (more_choice_places more) k (held_in fs) (alternative_held fs again root i h.come k (root_good root more good) h.inner (omega arith) w))
+        let w = fewer_bits c laws fc hold (length h.come) (length us) most_chosen l (omega arith) in
+        one_more (choice_places root + more_choice_places more) most_chosen (held_in fs) (omega arith) (within_first (choice_places root) (more_choice_places more) most_chosen (held_in fs) (alternative_held fs again root i h.come most_chosen (root_good root more good) h.inner (omega arith) w))
 
-    addition_chosen_held : AdditionReached c fc ahead between root more i fs us [] → suc (held_in fs) ≤ places (choice root more) * k
+    addition_chosen_held : AdditionReached c fc ahead between root more i fs us [] → suc (held_in fs) ≤ places (choice root more) * most_chosen
     addition_chosen_held h =
         let l : length h.come ≤ length us = omega (arith, spells_fewer h.index, length-append h.come []) in
-        let w = fewer_bits c laws fc hold (length h.come) (length us) k l (omega arith) in
-        let held = field_held fs h.come k h.inner (omega arith) w in
-        one_more (choice_places root + more_choice_places more) k (held_in fs) (omega arith) (within_second (choice_places root) (more_choice_places more) k (held_in fs) (inside more h.index.spelt.fits held))
+        let w = fewer_bits c laws fc hold (length h.come) (length us) most_chosen l (omega arith) in
+        let held = field_held fs h.come most_chosen h.inner (omega arith) w in
+        one_more (choice_places root + more_choice_places more) most_chosen (held_in fs) (omega arith) (within_second (choice_places root) (more_choice_places more) most_chosen (held_in fs) (inside more h.index.spelt.fits held))
       where
-        inside : (m : MoreAlternatives) → IsIndexWithin (count root) (added_alternatives m) (inr i) → held_in fs ≤ k → held_in fs ≤ more_choice_places m * k
+        inside : (m : MoreAlternatives) → IsIndexWithin (count root) (added_alternatives m) (inr i) → held_in fs ≤ most_chosen → held_in fs ≤ more_choice_places m * most_chosen
         inside closed_choice x y = absurd x
-        inside (marked_choice alts) x y = added_held fs alts i k x y
+        inside (marked_choice alts) x y = added_held fs alts i most_chosen x y
 
   -- ---- a value
 

@@ -57,7 +57,10 @@ element_kept c fc ahead between t fs gs old why some k us h = go why (k us h.0)
     go : (w : Stop) → KeepsFrames c fc ahead between gs t (us ++ c.to_units old) w → KeepsElement c fc ahead between gs t (us ++ c.to_units old) w
     go (stop.Refused left why) x = tt
     go stop.Memory x = tt
-    go stop.Short x = (x, λ e.
-        (let none : us ≡ [] = first_none us (c.to_units old) e in
-        let rest : c.to_units old ≡ [] = ap (λ (l : List ℕ). l ++ c.to_units old) (sym none) ∙ e in
-        absurd (some (h.1 none) rest)))
+    go stop.Short x = (
+      x,
+      λ e.
+          (let none : us ≡ [] = first_none us (c.to_units old) e in
+          let rest : c.to_units old ≡ [] = ap (λ (l : List ℕ). l ++ c.to_units old) (sym none) ∙ e in
+          absurd (some (h.1 none) rest)),
+    )

@@ -48,7 +48,6 @@ use Rattle.asn_oer.proofs.Walk.WalkLaws.{oer_laws}
 some_spelled : (c : List ℕ) → 1 ≤ length (spelled c)
 some_spelled c = (let l = some_octets c in omega (arith, l))
 
-
 some_list : {A : Type 0} (xs : List A) → 1 ≤ length xs → xs ≢ []
 some_list xs h e = (let l : length xs ≡ 0 = ap length e in absurd (omega (arith, l, h)))
 
@@ -171,13 +170,13 @@ sequence_some root more v good f some =
     let p = x.source.0 in
     let n = bitmap_length root in
     let front : (1 ≤ length (extension_bit (is_some (added more)) p.0 ++ bits n p.1)) → oer (sequence root more) v ≢ [] = λ l.
-        subst (λ (cs : List Chunk). cs ≢ []) (sym t.whole) (left_some t.first t.second (subst (λ (cs : List Chunk). cs ≢ []) (sym t.spelt.same) (some_ones _ (filled_some _ l)))) in
+    subst (λ (cs : List Chunk). cs ≢ []) (sym t.whole) (left_some t.first t.second (subst (λ (cs : List Chunk). cs ≢ []) (sym t.spelt.same) (some_ones _ (filled_some _ l)))) in
     ⊎_elim
     (λ m. front (by_mark more m p.0 (bits n p.1)))
     (λ w. ⊎_elim
-        (λ b. front (let l = length-append (extension_bit (is_some (added more)) p.0) (bits n p.1) in let d = length-digits 2 n p.1 in omega (arith, l, d, b)))
-        (λ g. subst (λ (cs : List Chunk). cs ≢ []) (sym t.whole) (right_some t.first t.second (subst (λ (cs : List Chunk). cs ≢ []) (sym u.whole) (left_some u.first u.second (g (bits n p.1) x.source.1.0 u.first u.spelt)))))
-        w)
+    (λ b. front (let l = length-append (extension_bit (is_some (added more)) p.0) (bits n p.1) in let d = length-digits 2 n p.1 in omega (arith, l, d, b)))
+    (λ g. subst (λ (cs : List Chunk). cs ≢ []) (sym t.whole) (right_some t.first t.second (subst (λ (cs : List Chunk). cs ≢ []) (sym u.whole) (left_some u.first u.second (g (bits n p.1) x.source.1.0 u.first u.spelt)))))
+    w)
     some
   where
     by_mark : (more : MoreFields) → no_more_bits more ≡ false → (e : Bool) (bs : List ℕ) → 1 ≤ length (extension_bit (is_some (added more)) e ++ bs)
@@ -213,15 +212,15 @@ mutual
   some_parts no_fields good n = absurd (true≢false n)
   some_parts (field name must t fs) good n = ⊎_elim
       (λ x. inr (λ bs es cs h.
-          (let t2 = h.spelt in
-          let w = t2.spelt.spelt in
-          subst (λ (ds : List Chunk). ds ≢ []) (sym t2.whole) (left_some t2.first t2.second (subst (λ (ds : List Chunk). ds ≢ []) (sym w.same) (not_empty t good.0 x t2.spelt.source w.fits.0))))))
+      (let t2 = h.spelt in
+      let w = t2.spelt.spelt in
+      subst (λ (ds : List Chunk). ds ≢ []) (sym t2.whole) (left_some t2.first t2.second (subst (λ (ds : List Chunk). ds ≢ []) (sym w.same) (not_empty t good.0 x t2.spelt.source w.fits.0))))))
       (λ x. ⊎_elim
-          (λ l. inl l)
-          (λ g. inr (λ bs es cs h.
-              (let t2 = h.spelt in
-              subst (λ (ds : List Chunk). ds ≢ []) (sym t2.whole) (right_some t2.first t2.second (g bs h.source.1 t2.second t2.follows)))))
-          (some_parts fs good.2 x))
+      (λ l. inl l)
+      (λ g. inr (λ bs es cs h.
+      (let t2 = h.spelt in
+      subst (λ (ds : List Chunk). ds ≢ []) (sym t2.whole) (right_some t2.first t2.second (g bs h.source.1 t2.second t2.follows)))))
+      (some_parts fs good.2 x))
       (either_false (no_bits t) (no_field_bits fs) n)
   some_parts (field name optional t fs) good n = inl (omega arith)
   some_parts (field name (default d) t fs) good n = inl (omega arith)

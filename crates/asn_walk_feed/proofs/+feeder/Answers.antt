@@ -58,6 +58,7 @@ use Rattle.asn_values.specs.View.{entries_seen}
 use Rattle.asn_walk_feed.specs.Additions.{marked_seen}
 use Rattle.asn_walk_feed.specs.AddedTaken.{AdditionsReached}
 use Rattle.asn_walk_feed.proofs.AddedRead.{some_present, bitmap_begun, bitmap_stops, bitmap_kept, additions_start, next_addition, left_within, additions_end, additions_emptied, bitmap_goes_on, additions_go_on, took_bitmap, bitmap_took, took_additions, bitmap_starts, no_mark, left_out, absent_read, present_took, present_read, present_stops, present_kept}
+use Rattle.std.proofs.lemmas.Bool.{true≢false}
 use Rattle.asn_walk_feed.proofs.ElementsWait.{to_come_stops, to_come_kept, element_kept}
 use Rattle.asn_walk_feed.proofs.Sizes.{root_smaller, added_type_smaller, components_smaller, additions_smaller}
 use Rattle.asn_walk_feed.proofs.Levels.{is_short, never, costs_same, costs_none, costs_like, costs_after, costs_then, costs_next, costs_last, content_within, field_pays, level_costs, field_stops, adds_inside, level_of_none, none_open, none_come, open_elements, open_components, open_chosen, open_additions, open_added, depth_of_elements, depth_is, depth_of_root, depth_of_additions, depth_of_alternatives, depth_of_added, depth_of_component, depth_of_addition, depth_of_alternative, depth_of_added_one}
@@ -1750,7 +1751,7 @@ pub lists::feed_element-returns-else-is_to_come-clause-kept : goal.lists::feed_e
 lists::feed_element-returns-else-is_to_come-clause-kept g t c =
     let r = g.R.ReadLeaves.rules in
     let still = (c.in-None.ensures.still cc).0 in
-    IfErr-weaker c.feed.result _ _ (λ why k. element_kept r g.R.FeedLeaves.fields g.R.ReadLeaves.ahead g.R.ReadLeaves.is_between (shape_of c.args.ty.now) (nodes c.args.frames.now) (nodes c.feed.new.frames) c.args.units.now why (λ e z. absurd cc) (rw still at k)) c.feed.ensures.kept
+    IfErr-weaker c.feed.result _ _ (λ why k. element_kept r g.R.FeedLeaves.fields g.R.ReadLeaves.ahead g.R.ReadLeaves.is_between (shape_of c.args.ty.now) (nodes c.args.frames.now) (nodes c.feed.new.frames) c.args.units.now why (λ e z. (let yes = c.is_to_come.ensures.no e (ap r.to_units still ∙ z) in absurd (true≢false (sym yes ∙ c.if-is_to_come.false)))) (rw still at k)) c.feed.ensures.kept
 
 pub lists::feed_element-returns-else-is_to_come-clause-inside : goal.lists::feed_element-returns-else-is_to_come-clause-inside
 lists::feed_element-returns-else-is_to_come-clause-inside g t c =

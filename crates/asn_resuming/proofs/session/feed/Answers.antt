@@ -41,7 +41,7 @@ returns-in-Ok-Done-clause-answered g c = λ t past k.
     let v = c.in-Ok-Done.value in
     let used = c.in-Ok-Done.used in
     let told : (s : List ℕ) → Reached r fc ah bt (nodes q.frames) (shape_of q.ty) q.units q.octets s → Answer r.ruling (shape_of q.ty) (s ++ m) (done (datum_of v) (length s + used)) = rw (c.in-Ok-Done.is, c.in-Ok-Done.field-0-is) at c.read_next.ensures.answered in
-    feeds r laws fc ah bt t q _ p _ c.in-Waiting.is (λ s w. done_feeds r laws fc ah bt t q _ refl s p m w (so_far r laws fc ah bt t q s p c.saturating_sub-room.result c.min.result w c.saturating_sub-room.ensures c.min.ensures) v used refl refl (of_its_type r laws fc ah bt t q s (λ (u : Shape). Answer r.ruling u (s ++ m) (done (datum_of v) (length s + used))) w (told s (reached_of r laws fc ah bt t q s w)))) past k
+    feeds r laws fc ah bt t q _ p _ c.in-Waiting.is (λ s w. done_feeds r laws fc ah bt t q _ refl s p m w (so_far r laws fc ah bt t q s p c.saturating_sub-room.result c.min.result w c.saturating_sub-room.ensures c.min.ensures) v used refl c.none.ensures refl (of_its_type r laws fc ah bt t q s (λ (u : Shape). Answer r.ruling u (s ++ m) (done (datum_of v) (length s + used))) w (told s (reached_of r laws fc ah bt t q s w)))) past k
 
 pub returns-then-octets-eq-MAX_OCTETS-clause-answered : goal.returns-then-octets-eq-MAX_OCTETS-clause-answered
 returns-then-octets-eq-MAX_OCTETS-clause-answered g c = λ t past k.
@@ -59,7 +59,7 @@ returns-then-octets-eq-MAX_OCTETS-clause-answered g c = λ t past k.
     let at = w.goes_on.2 in
     let count : q.units + c.units_of.result ≡ length (r.ruling.units (s ++ m)) = omega (arith, units_joined r laws s m, at.units_are, c.units_of.ensures) in
     let all : length (s ++ m) ≡ max_octets = omega (arith, length-append s m, at.octets_are, c.if-octets-eq-MAX_OCTETS.true) in
-    too_long_feeds r laws fc ah bt t q _ refl s p m w (so_far r laws fc ah bt t q s p c.saturating_sub-room.result c.min.result w c.saturating_sub-room.ensures c.min.ensures) (nodes c.read_next.new.frames) (record { taken = q.units + c.units_of.result }) refl refl count all (of_its_type r laws fc ah bt t q s (λ (u : Shape). GoesOn r fc ah bt (nodes c.read_next.new.frames) u (s ++ m)) w (told s (reached_of r laws fc ah bt t q s w))) (of_its_type r laws fc ah bt t q s (λ (u : Shape). Going r fc ah bt (nodes c.read_next.new.frames) u (length (r.ruling.units (s ++ m))) c.read_next.new.ticks) w (going s (reached_of r laws fc ah bt t q s w) (going_at r laws fc ah bt t q s w)))) past k
+    too_long_feeds r laws fc ah bt t q _ refl s p m w (so_far r laws fc ah bt t q s p c.saturating_sub-room.result c.min.result w c.saturating_sub-room.ensures c.min.ensures) (nodes c.read_next.new.frames) (record { taken = q.units + c.units_of.result }) refl c.none-in-Ok-More.ensures refl count all (of_its_type r laws fc ah bt t q s (λ (u : Shape). GoesOn r fc ah bt (nodes c.read_next.new.frames) u (s ++ m)) w (told s (reached_of r laws fc ah bt t q s w))) (of_its_type r laws fc ah bt t q s (λ (u : Shape). Going r fc ah bt (nodes c.read_next.new.frames) u (length (r.ruling.units (s ++ m))) c.read_next.new.ticks) w (going s (reached_of r laws fc ah bt t q s w) (going_at r laws fc ah bt t q s w)))) past k
 
 pub returns-else-octets-eq-MAX_OCTETS-clause-answered : goal.returns-else-octets-eq-MAX_OCTETS-clause-answered
 returns-else-octets-eq-MAX_OCTETS-clause-answered g c = λ t past k.
@@ -93,7 +93,7 @@ returns-in-Err-Refused-clause-answered g c = λ t past k.
     let at = c.in-Err-Refused.at in
     let told : (s : List ℕ) → Reached r fc ah bt (nodes q.frames) (shape_of q.ty) q.units q.octets s → Answer r.ruling (shape_of q.ty) (s ++ m) (refused at) = rw (c.in-Err-Refused.is, c.in-Err-Refused.field-0-is) at c.read_next.ensures.answered in
     let seen : (s : List ℕ) → Reached r fc ah bt (nodes q.frames) (shape_of q.ty) q.units q.octets s → Going r fc ah bt (nodes q.frames) (shape_of q.ty) (length (r.ruling.units s)) q.ticks → Seen (shape_of q.ty) at c.read_next.new.ticks = rw (c.in-Err-Refused.is, c.in-Err-Refused.field-0-is) at c.read_next.ensures.counted in
-    feeds r laws fc ah bt t q _ p _ c.in-Waiting.is (λ s w. refused_feeds r laws fc ah bt t q _ refl s p m w (so_far r laws fc ah bt t q s p c.saturating_sub-room.result c.min.result w c.saturating_sub-room.ensures c.min.ensures) at c.in-Err-Refused.why (record { taken = c.saturating_sub-taken.result }) refl refl c.saturating_sub-taken.ensures (of_its_type r laws fc ah bt t q s (λ (u : Shape). Answer r.ruling u (s ++ m) (refused at)) w (told s (reached_of r laws fc ah bt t q s w))) (of_its_type r laws fc ah bt t q s (λ (u : Shape). Seen u at c.read_next.new.ticks) w (seen s (reached_of r laws fc ah bt t q s w) (going_at r laws fc ah bt t q s w)))) past k
+    feeds r laws fc ah bt t q _ p _ c.in-Waiting.is (λ s w. refused_feeds r laws fc ah bt t q _ refl s p m w (so_far r laws fc ah bt t q s p c.saturating_sub-room.result c.min.result w c.saturating_sub-room.ensures c.min.ensures) at c.in-Err-Refused.why (record { taken = c.saturating_sub-taken.result }) refl c.none-in-Err-Refused.ensures refl c.saturating_sub-taken.ensures (of_its_type r laws fc ah bt t q s (λ (u : Shape). Answer r.ruling u (s ++ m) (refused at)) w (told s (reached_of r laws fc ah bt t q s w))) (of_its_type r laws fc ah bt t q s (λ (u : Shape). Seen u at c.read_next.new.ticks) w (seen s (reached_of r laws fc ah bt t q s w) (going_at r laws fc ah bt t q s w)))) past k
 
 pub returns-in-Err-Memory-clause-answered : goal.returns-in-Err-Memory-clause-answered
 returns-in-Err-Memory-clause-answered g c = λ t past k.
@@ -104,7 +104,7 @@ returns-in-Err-Memory-clause-answered g c = λ t past k.
     let bt = g.R.ReadLeaves.is_between in
     let q = c.args.session.now in
     let p = c.args.piece.now in
-    feeds r laws fc ah bt t q _ p _ c.in-Waiting.is (λ s w. memory_feeds r laws fc ah bt t q _ refl s p (take c.min.result p) w (so_far r laws fc ah bt t q s p c.saturating_sub-room.result c.min.result w c.saturating_sub-room.ensures c.min.ensures) refl refl) past k
+    feeds r laws fc ah bt t q _ p _ c.in-Waiting.is (λ s w. memory_feeds r laws fc ah bt t q _ refl s p (take c.min.result p) w (so_far r laws fc ah bt t q s p c.saturating_sub-room.result c.min.result w c.saturating_sub-room.ensures c.min.ensures) refl c.none-in-Err-Memory.ensures refl) past k
 
 -- ---- what was counted
 

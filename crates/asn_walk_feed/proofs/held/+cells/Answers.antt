@@ -16,13 +16,13 @@ cells-returns-in-List t c =
 
 pub cells_of_entries-loop-entry-preserved : goal.cells_of_entries-loop-entry-preserved
 cells_of_entries-loop-entry-preserved t c =
-    counts_next (option_map datum_of) entry_cells c.args.entries.now c.loop-entry.entry-index c.entry-item.result c.loop-entry.sum c.cells.result c.saturating_add-sum.result
-    c.loop-entry-test.true c.entry-item.is c.loop-entry.invariant (subst (λ (o : Option Value). c.cells.result ≡ counted (entry_cells (option_map datum_of o))) (sym c.in-Some.is) c.cells.ensures) c.saturating_add-sum.ensures
+    counts_next (option_map datum_of) entry_cells c.args.entries.now c.loop-entry.entry-index c.entry-item.result c.loop-entry.sum c.cells.result c.saturating_add-sum-in-loop-entry.result
+    c.loop-entry-test.true c.entry-item.is c.loop-entry.invariant (subst (λ (o : Option Value). c.cells.result ≡ counted (entry_cells (option_map datum_of o))) (sym c.in-Some.is) c.cells.ensures) c.saturating_add-sum-in-loop-entry.ensures
 
 pub cells_of_entries-loop-entry-preserved-in_default : goal.cells_of_entries-loop-entry-preserved-in_default
 cells_of_entries-loop-entry-preserved-in_default t c =
-    counts_next (option_map datum_of) entry_cells c.args.entries.now c.loop-entry.entry-index c.entry-item.result c.loop-entry.sum 1 c.saturating_add-sum-in_default.result
-    c.loop-entry-test.true c.entry-item.is c.loop-entry.invariant (subst (λ (o : Option Value). 1 ≡ counted (entry_cells (option_map datum_of o))) (sym c.in_default.is) one_counted) c.saturating_add-sum-in_default.ensures
+    counts_next (option_map datum_of) entry_cells c.args.entries.now c.loop-entry.entry-index c.entry-item.result c.loop-entry.sum 1 c.saturating_add-sum.result
+    c.loop-entry-test.true c.entry-item.is c.loop-entry.invariant (subst (λ (o : Option Value). 1 ≡ counted (entry_cells (option_map datum_of o))) (sym c.in_default.is) one_counted) c.saturating_add-sum.ensures
 
 pub cells_of_elements-loop-element-preserved : goal.cells_of_elements-loop-element-preserved
 cells_of_elements-loop-element-preserved t c =

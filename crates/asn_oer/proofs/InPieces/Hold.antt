@@ -4,15 +4,15 @@ use Rattle.std.proofs.lemmas.Bool.{true≢false, and_parts, eqb-true, eq-eqb, le
 use Rattle.std.proofs.lemmas.List.{length-map}
 use Rattle.std.specs.Prelude.{◌^◌, nat_le, nat_lt, is_some}
 use Rattle.std.specs.Int.RustNames.{int_le, int_lt}
-use Rattle.asn_values.specs.Datum.{Datum, truth, number, item, bit_list, octet_list, characters, unicode, elements, alternative}
+use Rattle.asn_values.specs.Datum.{Datum, truth, number, item, bit_list, octet_list, characters, unicode, elements, element_list, alternative}
 use Rattle.asn_values.specs.Fits.{Fits, FitsLength, in_size}
 use Rattle.asn_values.specs.Measures.{cells}
 use Rattle.asn_values.specs.Parts.{AreOfProfile}
 use Rattle.asn_values.specs.Profile.{InProfile, EmptyRange, SizeTooLarge, ZeroWidthElement, somewhere, zero_width_element, no_bits, no_field_bits, no_more_bits, is_zero_size, is_fixed_size}
-use Rattle.asn_values.specs.Shape.{Range, SizeRange, Shape, boolean, null, integer, enumerated, bit_string, octet_string, restricted, utf8_string, sequence, sequence_of, choice, must, optional, default, more_labels, Fields, no_fields, field, MoreFields, closed, marked}
+use Rattle.asn_values.specs.Shape.{Range, SizeRange, Shape, boolean, null, integer, enumerated, bit_string, octet_string, restricted, utf8_string, sequence, sequence_of, choice, must, optional, default, more_labels, Fields, no_fields, field, MoreFields, closed, marked, count}
 use Rattle.asn_values.proofs.InnerTypes.{element_of_profile}
 use Rattle.asn_values.proofs.Parts.{left_false, components_of_profile}
-use Rattle.asn_bits.specs.Lengths.{joined}
+use Rattle.asn_bits.specs.Lengths.{joined, octet_length}
 use Rattle.asn_bits.specs.Numbers.{base_128, bits, octets, least, least_signed, signed_octets}
 use Rattle.asn_bits.specs.Sets.{InDigits}
 use Rattle.asn_bits.proofs.Octets.{length-digits}
@@ -35,11 +35,10 @@ use Rattle.asn_walk_feed.specs.Octets.{FirstOf}
 use Rattle.asn_walk_feed.specs.Strings.{IsString}
 use Rattle.asn_walk_feed.specs.Weights.{total}
 use Rattle.asn_walk_feed.proofs.Cells.{cells_within}
-use Rattle.asn_oer.specs.Oer.{oer, unsigned_octets, both_in, signed_size, counted_signed, unsigned_in, signed_in, ranged, whole_number, variable_bits, bit_octets, sized_octets, item_number, tag}
+use Rattle.asn_oer.specs.Oer.{oer, oer_alternative, oer_more, unsigned_octets, both_in, signed_size, counted_signed, unsigned_in, signed_in, ranged, whole_number, variable_bits, bit_octets, sized_octets, item_number, tag}
 use Rattle.asn_oer.specs.Rules.{oer_ruling}
-use Rattle.asn_oer.specs.SingleItems.{InFront, AfterUnused, string_items, oer_parts}
+use Rattle.asn_oer.specs.SingleItems.{InFront, AfterUnused, BitsStart, string_items, oer_parts}
 use Rattle.asn_oer.specs.Walk.{oer_coding}
-use Rattle.asn_oer.proofs.Encodings.Tells.{oer_tells}
 use Rattle.asn_oer.proofs.InPieces.PackedItems.{filled_count}
 use Rattle.asn_oer.proofs.Walk.WalkLaws.{oer_laws}
 
@@ -101,14 +100,14 @@ ranged_some None high z = some_spelled (least_signed z)
 number_some : (b : Range) (z : ℤ) → 1 ≤ length (whole_number b z)
 number_some b z = go b.extensible
   where
-    go : (e : Bool) → 1 ≤ length (elim e [ true ↦ counted_signed z | false ↦ ranged b.low b.high z ])
+    go : (e : Bool) → 1 ≤ length {A = ℕ} (elim e [ true ↦ counted_signed z | false ↦ ranged b.low b.high z ])
     go true = some_spelled (least_signed z)
     go false = ranged_some b.low b.high z
 
 item_some : (z : ℤ) → 1 ≤ length (item_number z)
 item_some z = go (int_le (pos 0) z && int_lt z (pos 128))
   where
-    go : (e : Bool) → 1 ≤ length (elim e [ true ↦ magnitude_of z ∷ [] | false ↦ (128 + length (least_signed z)) ∷ least_signed z ])
+    go : (e : Bool) → 1 ≤ length {A = ℕ} (elim e [ true ↦ magnitude_of z ∷ [] | false ↦ (128 + length (least_signed z)) ∷ least_signed z ])
     go true = omega arith
     go false = omega arith
 
@@ -135,14 +134,14 @@ fixed_some s n f z h = go s.extensible s.high f z h
 bits_some : (s : SizeRange) (bs : List ℕ) → is_zero_size s ≡ false → IsTrue (s.extensible || in_size s (length bs)) → 1 ≤ length (bit_octets s bs)
 bits_some s bs z h = go (is_fixed_size s) refl
   where
-    go : (f : Bool) → is_fixed_size s ≡ f → 1 ≤ length (elim f [ true ↦ filled_bits bs | false ↦ variable_bits bs ])
+    go : (f : Bool) → is_fixed_size s ≡ f → 1 ≤ length {A = ℕ} (elim f [ true ↦ filled_bits bs | false ↦ variable_bits bs ])
     go true e = filled_some bs (fixed_some s (length bs) e z h)
     go false e = some_spelled _
 
 sized_some : (s : SizeRange) (os : List ℕ) → is_zero_size s ≡ false → IsTrue (s.extensible || in_size s (length os)) → 1 ≤ length (sized_octets s os)
 sized_some s os z h = go (is_fixed_size s) refl
   where
-    go : (f : Bool) → is_fixed_size s ≡ f → 1 ≤ length (elim f [ true ↦ os | false ↦ spelled os ])
+    go : (f : Bool) → is_fixed_size s ≡ f → 1 ≤ length {A = ℕ} (elim f [ true ↦ os | false ↦ spelled os ])
     go true e = fixed_some s (length os) e z h
     go false e = some_spelled os
 
@@ -155,7 +154,7 @@ either_false false b h = inl refl
 tag_some : (n : ℕ) → 1 ≤ length (tag n)
 tag_some n = go (nat_lt n 63)
   where
-    go : (e : Bool) → 1 ≤ length (elim e [ true ↦ (128 + n) ∷ [] | false ↦ 191 ∷ base_128 n ])
+    go : (e : Bool) → 1 ≤ length {A = ℕ} (elim e [ true ↦ (128 + n) ∷ [] | false ↦ 191 ∷ base_128 n ])
     go true = omega arith
     go false = omega arith
 
@@ -203,9 +202,12 @@ mutual
   not_empty utf8_string good n _ f = absurd f
   not_empty (sequence root more) good n v f =
       sequence_some root more v good f (⊎_elim (λ x. inr (some_parts root (components_of_profile root more good) x)) (λ x. inl x) (either_false (no_field_bits root) (no_more_bits more) n))
-  not_empty (sequence_of t s) good n (elements ds) f = left_some (ones (spelled (least _))) _ (some_ones (spelled (least _)) (some_spelled (least _)))
+  not_empty (sequence_of t s) good n (elements ds) f =
+      let os = spelled (least (length (element_list ds))) in
+      left_some (ones os) (joined (map (λ e. oer t e) (element_list ds))) (some_ones os (some_spelled (least (length (element_list ds)))))
   not_empty (sequence_of t s) good n _ f = absurd f
-  not_empty (choice root more) good n (alternative i d) f = left_some (ones (tag i)) _ (some_ones (tag i) (tag_some i))
+  not_empty (choice root more) good n (alternative i d) f =
+      left_some (ones (tag i)) (elim (nat_lt i (count root)) [ true ↦ oer_alternative root i d | false ↦ oer_more more (i - count root) d ]) (some_ones (tag i) (tag_some i))
   not_empty (choice root more) good n _ f = absurd f
 
   some_parts : (fs : Fields) → AreOfProfile fs → no_field_bits fs ≡ false → (0 < bitmap_length fs) ⊎ ((bs : List ℕ) (es : List (Option Datum)) (cs : List Chunk) → Listed oer fs bs es cs → cs ≢ [])
@@ -235,19 +237,19 @@ element_octets t s good =
 -- ---- items of strings
 
 spelled_long : (os : List ℕ) → length os ≤ length (spelled os)
-spelled_long os = (let l = oer_tells.long os in omega (arith, l))
+spelled_long os = (let l = length-append (octet_length (length os)) os in omega (arith, l))
 
 bits_many : (s : SizeRange) (bs : List ℕ) → length bs ≤ 8 * length (bit_octets s bs)
 bits_many s bs = go (is_fixed_size s)
   where
-    go : (f : Bool) → length bs ≤ 8 * length (elim f [ true ↦ filled_bits bs | false ↦ variable_bits bs ])
+    go : (f : Bool) → length bs ≤ 8 * length {A = ℕ} (elim f [ true ↦ filled_bits bs | false ↦ variable_bits bs ])
     go true = (let e = filled_count bs in omega (arith, e))
     go false = (let e = filled_count bs in let l = spelled_long _ in omega (arith, e, l))
 
 sized_many : (s : SizeRange) (os : List ℕ) → length os ≤ 8 * length (sized_octets s os)
 sized_many s os = go (is_fixed_size s)
   where
-    go : (f : Bool) → length os ≤ 8 * length (elim f [ true ↦ os | false ↦ spelled os ])
+    go : (f : Bool) → length os ≤ 8 * length {A = ℕ} (elim f [ true ↦ os | false ↦ spelled os ])
     go true = omega arith
     go false = (let l = spelled_long os in omega (arith, l))
 
@@ -281,11 +283,15 @@ item_units _ i o cs h = absurd i
 
 -- none stands before the first length, but the number of unused bits
 first_units : (t : Shape) → IsString t → (vs : List ℕ) (cs : List Chunk) → FirstOf (string_items t) vs cs → total (λ (o : ℕ). 1) vs ≤ 1 * length (flat spelled cs)
-first_units (bit_string s) i vs cs h = go (is_fixed_size s) h.0 h.1
+first_units (bit_string s) i vs cs h = go (is_fixed_size s) refl h.0 h.1
   where
-    go : (f : Bool) (a : Ahead) → elim f [ true ↦ InFront (Nothing (filled_octets s.low)) | false ↦ AfterUnused (FitsLength s) ] (vs, a) cs → total (λ (o : ℕ). 1) vs ≤ 1 * length (flat spelled cs)
-    go true a x = (let e : vs ≡ [] = ap (λ (p : List ℕ × Ahead). p.0) x.seen in rw e (omega arith))
-    go false a x =
+    go : (f : Bool) → is_fixed_size s ≡ f → (a : Ahead) → BitsStart s (vs, a) cs → total (λ (o : ℕ). 1) vs ≤ 1 * length (flat spelled cs)
+    go true b a y =
+        let x : InFront (Nothing (filled_octets s.low)) (vs, a) cs = rw b at y in
+        let e : vs ≡ [] = ap (λ (p : List ℕ × Ahead). p.0) x.seen in
+        rw e (omega arith)
+    go false b a y =
+        let x : AfterUnused (FitsLength s) (vs, a) cs = rw b at y in
         let e : vs ≡ x.source.1 ∷ [] = ap (λ (p : List ℕ × Ahead). p.0) x.seen in
         let t2 = x.spelt in
         let units : length (flat spelled cs) ≡ length (flat spelled t2.first) + length (flat spelled t2.second) =

@@ -1,5 +1,5 @@
 -- An element of a list has a bit in PER, and a string has at least a bit for each item.
-use Rattle.std.proofs.Common.{◌≡◌, ◌≤◌, ◌+◌, ◌-◌, ◌*◌, ℕ, zero, suc, Bool, true, false, List, [], ◌∷◌, ◌++◌, length, length-append, map, Option, Some, None, refl, sym, ap, ◌∙◌, subst, arith}
+use Rattle.std.proofs.Common.{◌≡◌, ◌≤◌, ◌+◌, ◌-◌, ◌*◌, ◌==◌, ℕ, zero, suc, Bool, true, false, List, [], ◌∷◌, ◌++◌, length, length-append, map, Option, Some, None, refl, sym, ap, ◌∙◌, subst, arith}
 use Rattle.std.proofs.lemmas.List.{length-map}
 use Rattle.asn_values.specs.Datum.{Datum, bit_list, octet_list, characters, unicode}
 use Rattle.asn_values.specs.Fits.{Fits, in_size}
@@ -79,7 +79,7 @@ each_plain k us e = (let l = ap length (flat-ones spelled us) in omega (arith, l
 character_many : (k : Alphabet) (c : ℕ) → 1 ≤ length (flat spelled (ones (character_bits k c)))
 character_many ia5 c = each_plain 6 (character_bits ia5 c) (length-digits 2 7 c)
 character_many visible c = each_plain 6 (character_bits visible c) (length-digits 2 7 c)
-character_many numeric c = each_plain 3 (character_bits numeric c) (length-digits 2 4 _)
+character_many numeric c = each_plain 3 (character_bits numeric c) (length-digits 2 4 (elim (c == 32) [ true ↦ 0 | false ↦ c - 47 ]))
 
 -- a string has a bit for each item
 string_bits : (t : Shape) → IsString t → (v : Datum) → Fits t v → cells v ≤ suc (1 * length (flat spelled (per t v)))

@@ -13,7 +13,7 @@ use Rattle.asn_values.specs.Shape.{Range, SizeRange, Shape, boolean, null, integ
 use Rattle.asn_values.proofs.InnerTypes.{element_of_profile}
 use Rattle.asn_values.proofs.Parts.{left_false, components_of_profile}
 use Rattle.asn_bits.specs.Lengths.{joined, octet_length}
-use Rattle.asn_bits.specs.Numbers.{base_128, bits, octets, least, least_signed, signed_octets}
+use Rattle.asn_bits.specs.Numbers.{base_128, bits, octets, least, least_signed, padding, signed_octets}
 use Rattle.asn_bits.specs.Sets.{InDigits}
 use Rattle.asn_bits.proofs.Octets.{length-digits}
 use Rattle.asn_rules.specs.Chunks.{Chunk, one, ones, flat}
@@ -136,7 +136,7 @@ bits_some s bs z h = go (is_fixed_size s) refl
   where
     go : (f : Bool) → is_fixed_size s ≡ f → 1 ≤ length {A = ℕ} (elim f [ true ↦ filled_bits bs | false ↦ variable_bits bs ])
     go true e = filled_some bs (fixed_some s (length bs) e z h)
-    go false e = some_spelled _
+    go false e = some_spelled (length (padding (length bs)) ∷ filled_bits bs)
 
 sized_some : (s : SizeRange) (os : List ℕ) → is_zero_size s ≡ false → IsTrue (s.extensible || in_size s (length os)) → 1 ≤ length (sized_octets s os)
 sized_some s os z h = go (is_fixed_size s) refl
@@ -244,7 +244,7 @@ bits_many s bs = go (is_fixed_size s)
   where
     go : (f : Bool) → length bs ≤ 8 * length {A = ℕ} (elim f [ true ↦ filled_bits bs | false ↦ variable_bits bs ])
     go true = (let e = filled_count bs in omega (arith, e))
-    go false = (let e = filled_count bs in let l = spelled_long _ in omega (arith, e, l))
+    go false = (let e = filled_count bs in let l = spelled_long (length (padding (length bs)) ∷ filled_bits bs) in omega (arith, e, l))
 
 sized_many : (s : SizeRange) (os : List ℕ) → length os ≤ 8 * length (sized_octets s os)
 sized_many s os = go (is_fixed_size s)
@@ -287,11 +287,11 @@ first_units (bit_string s) i vs cs h = go (is_fixed_size s) refl h.0 h.1
   where
     go : (f : Bool) → is_fixed_size s ≡ f → (a : Ahead) → BitsStart s (vs, a) cs → total (λ (o : ℕ). 1) vs ≤ 1 * length (flat spelled cs)
     go true b a y =
-        let x : InFront (Nothing (filled_octets s.low)) (vs, a) cs = rw b at y in
+        let x : InFront (Nothing (filled_octets s.low)) (vs, a) cs = rw (b, BitsStart) at y in
         let e : vs ≡ [] = ap (λ (p : List ℕ × Ahead). p.0) x.seen in
         rw e (omega arith)
     go false b a y =
-        let x : AfterUnused (FitsLength s) (vs, a) cs = rw b at y in
+        let x : AfterUnused (FitsLength s) (vs, a) cs = rw (b, BitsStart) at y in
         let e : vs ≡ x.source.1 ∷ [] = ap (λ (p : List ℕ × Ahead). p.0) x.seen in
         let t2 = x.spelt in
         let units : length (flat spelled cs) ≡ length (flat spelled t2.first) + length (flat spelled t2.second) =

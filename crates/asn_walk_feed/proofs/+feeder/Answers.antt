@@ -1745,7 +1745,7 @@ lists::feed_element-returns-then-is_to_come-clause-kept g t c =
 
 pub lists::feed_element-returns-then-is_to_come-clause-inside : goal.lists::feed_element-returns-then-is_to_come-clause-inside
 lists::feed_element-returns-then-is_to_come-clause-inside g t c =
-    rw (sym (c.in-None.ensures.still cc).0, sym c.whole_value.ensures.inside) (costs_like costs_none (omega arith) (λ n o. o) (λ n o e. o))
+    rw (sym (c.in-None.ensures.still cc).0, sym c.whole_value.ensures.inside) (costs_like {d' = sealed_depth (shape_of c.args.ty.now)} costs_none (omega arith) (λ n o. o) (λ n o e. o))
 
 pub lists::feed_element-returns-else-is_to_come-clause-kept : goal.lists::feed_element-returns-else-is_to_come-clause-kept
 lists::feed_element-returns-else-is_to_come-clause-kept g t c =

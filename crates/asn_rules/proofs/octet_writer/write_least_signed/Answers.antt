@@ -14,6 +14,11 @@ signed_residue-residue-requires-clause-room g c =
     let z = kept c.args.z c.requires.low c.requires.high in
     rw (c.signed_octet_count-count.ensures.count, z) (signed_fits c.args.z)
 
+pub returns-then-count-gt8 : goal.returns-then-count-gt8
+returns-then-count-gt8 g c =
+    let z = kept c.args.z c.requires.low c.requires.high in
+    rw z at c.push_least_signed_octets.ensures
+
 -- the octets of z, of which there are k, after their count
 all_octets : (z : ℤ) (k n : ℕ) → signed_octets k z ≡ octets k n → k ≤ 8 → k ≡ signed_octet_count z → general_octets (λ u. u) (least_signed z) ≡ bits 8 k ++ bits (8 * k) n
 all_octets z k n h few e = general_signed z n k h (omega (arith, few)) e
@@ -28,9 +33,9 @@ returns-in-1 g c =
     let all = all_octets c.args.z k n (rw z at h.octets) (omega (arith, c.if-count-gt8.false)) (rw z at e.count) in
     let fits : n < 2 ^ (8 * 1) = rw c.in-1.is at h.fits in
     let joined : bits (8 * 2) (256 + n) ≡ bits 8 1 ++ bits (8 * 1) n = after_octet 1 1 n (256 + n) fits (omega arith) in
-    on_ok_weaker c.push_low_octets-in-1.result
-    (pushed_same g.S.Sink.pushes c.args.sink.now c.push_low_octets-in-1.new.self (joined ∙ sym (rw c.in-1.is at all)))
-    c.push_low_octets-in-1.ensures
+    on_ok_weaker c.push_low_octets.result
+    (pushed_same g.S.Sink.pushes c.args.sink.now c.push_low_octets.new.self (joined ∙ sym (rw c.in-1.is at all)))
+    c.push_low_octets.ensures
 
 pub returns-in-2 : goal.returns-in-2
 returns-in-2 g c =

@@ -4,10 +4,10 @@ ghost use Rattle.std.specs.Prelude.{◌≡◌, ◌≤ℤ◌, ◌<ℤ◌, ◌+ℤ
 ghost use Rattle.asn_oer.specs.Words.{lowest_integer, highest_integer, FitsNumber, number, integer, InProfile, range_of, Inhabited, AtOctet, IsWithin, unmarked, between, IsOfProfile, TellsWhether, unsigned_octets, signed_size, signed_size_of, oer_octets, ranged, unpacked, IntegersBut, IsBelowZero, IsCounted, ValuesOf, Reads, ReadsSome, StopsIn};
 
 use asn_bits::BitCursor;
-use asn_bits::internal::at_offset;
+use asn_bits::internal::{at_offset, at_wide_offset};
 use asn_rules::internal::{
-    Stop, numbers_of, offsets_of, read_counted, read_counted_signed, read_octets,
-    read_signed_octets, try_octets, try_signed_octets, write_fixed, write_least,
+    Stop, numbers_of, offsets_of, read_counted, read_octets, read_signed_octets,
+    read_wide_counted_signed, try_octets, try_signed_octets, write_fixed, write_least,
     write_least_signed,
 };
 use asn_rules::{Unwritten, Why};
@@ -162,8 +162,8 @@ fn read_signed(
         }
         None => {
             let in_count = Why::in_count(excluded.is_some());
-            let offset = read_counted_signed(set, in_count, why, units)?;
-            Ok(at_offset(LOWEST_INTEGER, offset))
+            let offset = read_wide_counted_signed(set, in_count, why, units)?;
+            Ok(at_wide_offset(LOWEST_INTEGER, offset))
         }
     }
 }

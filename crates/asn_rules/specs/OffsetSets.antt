@@ -19,11 +19,11 @@ abbrev pub HasInteger : OffsetSet → ℤ → Type 0
 HasInteger s z = (lowest_integer ≤ℤ z) × (z ≤ℤ highest_integer) × HasOffset s (above lowest_integer z)
 
 -- the offsets begin with that of the lowest integer and end with that of the highest, or they lack one number at most
--- and do one of these
+-- and begin with the former, or have those of all greater integers of 64 bits in two's complement
 abbrev pub IsOpen : OffsetSet → Type 0
 IsOpen s = (s.end ≤ integer_count)
     × (((s.start ≡ 0) × (s.end ≡ integer_count))
-    ⊎ ((s.from ≤ s.below + 1) × ((s.start ≡ 0) ⊎ (s.end ≡ integer_count))))
+    ⊎ ((s.from ≤ s.below + 1) × ((s.start ≡ 0) ⊎ (offset_of_zero + 2 ^ 63 ≤ s.end))))
 
 -- an integer of the set in the fewest octets of two's complement after their count (X.691, "unconstrained whole
 -- number")

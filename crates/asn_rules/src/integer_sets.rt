@@ -1,5 +1,5 @@
 //! The integers of a range without one that may be excluded: the DEFAULT of a component, which an encoder leaves out.
-ghost use Rattle.std.specs.Prelude.{◌≡◌, ◌≤ℤ◌, pos, Some, None, ◌⊎◌};
+ghost use Rattle.std.specs.Prelude.{◌≡◌, ◌≤ℤ◌, ◌^◌, pos, Some, None, ◌⊎◌, IsSomeAnd};
 ghost use Rattle.asn_values.specs.Fits.{lowest_integer, highest_integer};
 ghost use Rattle.asn_values.specs.Profile.{InProfile};
 ghost use Rattle.asn_values.specs.Shape.{integer};
@@ -36,6 +36,7 @@ pub fn offsets_of(low: Option<i128>, high: Option<i128>, excluded: Option<i128>)
     requires within { IsWithin (unmarked low high) excluded }
     ensures same { AreOffsetsBut excluded (unmarked low high) result }
     ensures gap { (low ≡ None) ⊎ (high ≡ None) → IsOpen result }
+    ensures far { IsSomeAnd high (λ h. pos (2 ^ 63) ≤ℤ h) → IsOpen result }
 {
     let start = offset_of(low.unwrap_or(LOWEST_INTEGER));
     let end = offset_of(high.unwrap_or(HIGHEST_INTEGER)) + 1;

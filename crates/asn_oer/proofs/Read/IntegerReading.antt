@@ -34,7 +34,7 @@ use Rattle.asn_rules.proofs.Languages.Leads.{Leads, leads_on, leads_map, leads_s
 use Rattle.asn_rules.proofs.Languages.Spellings.{same_after, same_map, same_spelled, digits_spelled, map_spelled, spelled_inhabited}
 use Rattle.asn_rules.specs.OctetReading.{OctetsIn, CountedIn, CountedSignedIn, SignedOctetsIn}
 use Rattle.asn_rules.specs.IntegerSets.{IsWithin, IsOneBut, unmarked, AreNumbersBut, AreOffsetsBut}
-use Rattle.asn_rules.proofs.Plain.IntegerSets.{low_inside, high_inside}
+use Rattle.asn_rules.proofs.Plain.IntegerSets.{low_inside}
 use Rattle.asn_oer.specs.Oer.{counted_signed, unsigned_octets, both_in, signed_size, signed_in, ranged, whole_number, oer, oer_fields}
 use Rattle.asn_oer.specs.Reading.{IntegersBut, IsBelowZero, signed_size_of}
 use Rattle.asn_oer.proofs.Law.Integers.{below_bound, unsigned_cases, signed_cases}
@@ -253,8 +253,3 @@ pub no_size : (low high : Option ℤ) → InProfile (integer (unmarked low high)
 no_size None high good e = inl (inl refl)
 no_size (Some l) None good e = inl (inr refl)
 no_size (Some l) (Some h) good e = inr (large l h (low_inside (Some l) (Some h) good).0 e)
-
--- no integer of the profile is
-pub none_far : (low high : Option ℤ) → InProfile (integer (unmarked low high)) → IsSomeAnd high (λ h. pos 9223372036854775808 ≤ℤ h) → ⊥
-none_far low None good far = absurd far
-none_far low (Some h) good far = (let w = high_inside low (Some h) good in omega (arith, ints, far, w.1))

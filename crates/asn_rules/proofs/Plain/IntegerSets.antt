@@ -1,9 +1,10 @@
 -- The integers of a range, but for one that is left out, as sets of numbers and of offsets.
-use Rattle.std.proofs.Common.{◌≡◌, ◌≤◌, ◌<◌, ◌+◌, ◌⊎◌, inl, inr, ⊎_elim, ℕ, ℤ, pos, negsuc, ◌≤ℤ◌, Bool, true, false, ◌||◌, Option, Some, None, refl, sym, ap, ◌∙◌, subst, arith}
+use Rattle.std.proofs.Common.{◌≡◌, ◌≤◌, ◌<◌, ◌+◌, ◌⊎◌, inl, inr, ⊎_elim, ℕ, ℤ, pos, negsuc, ◌≤ℤ◌, Bool, true, false, ◌||◌, Option, Some, None, refl, sym, ap, ◌∙◌, subst, lit≤, arith}
 use Rattle.std.proofs.lemmas.Bool.{true≢false, not-false, and_parts, cases_lt, leb-true, le-leb}
 use Rattle.std.proofs.lemmas.Int.{ints}
 use Rattle.std.specs.Int.RustNames.{int_le, int_lt}
 use Rattle.std.specs.Option.{option_map, unwrap_or}
+use Rattle.std.specs.Prelude.{IsSomeAnd}
 use lib.IntN.{nat_abs}
 use mir.Syntax.{w128}
 use mir.Val.{to_z, of_z}
@@ -243,13 +244,25 @@ module _ (low high : Option ℤ) (good : InProfile (integer (unmarked low high))
         ),
       )
 
+  -- no more than one is left out
+  one_hole : (e : Option ℤ) → after_hole low e ≤ hole low e + 1
+  one_hole None = omega arith
+  one_hole (Some d) = omega arith
+
   -- where one bound is missing
   pub offsets_open : (e : Option ℤ) → (low ≡ None) ⊎ (high ≡ None) → IsOpen (offset_set low high e)
   offsets_open e o = (
     omega (arith, ints, pos-above lowest_integer (highest_of high) (high_inside low high good).0, (high_inside low high good).1),
-    inr (small e, ⊎_elim (λ n. inl (rw n refl)) (λ n. inr (rw n refl)) o),
+    inr (one_hole e, ⊎_elim (λ n. inl (rw n refl)) (λ n. inr (rw n (lit≤ tt))) o),
+  )
+
+  -- and where the high one is not below those of 64 bits in two's complement
+  pub offsets_far : (e : Option ℤ) → IsSomeAnd high (λ h. pos 9223372036854775808 ≤ℤ h) → IsOpen (offset_set low high e)
+  offsets_far e far = (
+    omega (arith, ints, pos-above lowest_integer (highest_of high) (high_inside low high good).0, (high_inside low high good).1),
+    inr (one_hole e, inr (omega (arith, ints, pos-above lowest_integer (highest_of high) (high_inside low high good).0, (last high far)))),
   )
     where
-      small : (e : Option ℤ) → after_hole low e ≤ hole low e + 1
-      small None = omega arith
-      small (Some d) = omega arith
+      last : (o : Option ℤ) → IsSomeAnd o (λ h. pos 9223372036854775808 ≤ℤ h) → pos 9223372036854775808 ≤ℤ highest_of o
+      last None f = absurd f
+      last (Some h) f = f

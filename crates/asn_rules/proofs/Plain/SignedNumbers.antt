@@ -235,7 +235,7 @@ count_up s c gap some few o = go (some_offset s c some (omega arith) (inside_sho
     go p =
         let q = within p.0 p.1 in
         ⊎_elim (λ e. ended p.0 (e.0, far e.1) q.0 q.1 p.2.1)
-        (λ f. ⊎_elim (λ e. pierced p.0 f.0 e q.0 p.2.0) (λ e. raised p.0 f.0 (far e) q.1 p.2.1) f.1)
+        (λ f. ⊎_elim (λ e. pierced p.0 f.0 e q.0 p.2.0) (λ e. raised p.0 f.0 e q.1 p.2.1) f.1)
         gap.1
 
 -- an integer at an offset has a count

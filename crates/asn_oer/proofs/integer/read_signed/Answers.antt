@@ -4,7 +4,7 @@ use Rattle.asn_values.specs.Fits.{lowest_integer}
 use Rattle.asn_bits.specs.Numbers.{packed}
 use Rattle.asn_rules.proofs.Languages.Leads.{stops_by}
 use Rattle.asn_rules.specs.IntegerSets.{unmarked}
-use Rattle.asn_oer.proofs.Read.IntegerReading.{counted_signed_leads, counted_where, given, no_size, none_far, sized_leads, sized_some}
+use Rattle.asn_oer.proofs.Read.IntegerReading.{counted_signed_leads, counted_where, given, no_size, sized_leads, sized_some}
 use Rattle.asn_oer.proofs.integer.read_signed.Goals as goal
 
 pub read_signed_octets-requires-clause-some : goal.read_signed_octets-requires-clause-some
@@ -25,11 +25,9 @@ returns-in_ok-offset-in-Some-clause-done c =
     let lead = sized_leads c.args.excluded c.args.low c.args.high c.in-Some.count c.offsets_of-set.result c.requires.below_zero (sym c.in-Some.ensures) c.offsets_of-set.ensures.same us in
     rw c.at_offset.ensures (given c.args.excluded (unmarked c.args.low c.args.high) z us vs (lead.done z vs c.in_ok-offset-in-Some.ensures.done))
 
--- where the bounds have no size one is missing
-pub read_counted_signed-requires-clause-gap : goal.read_counted_signed-requires-clause-gap
-read_counted_signed-requires-clause-gap c =
-    let why = no_size c.args.low c.args.high c.requires.of_profile (sym c.in-None.ensures) in
-    c.offsets_of-set.ensures.gap (⊎_elim (λ missing. missing) (λ far. absurd (none_far c.args.low c.args.high c.requires.of_profile far)) why)
+pub read_wide_counted_signed-requires-clause-gap : goal.read_wide_counted_signed-requires-clause-gap
+read_wide_counted_signed-requires-clause-gap c =
+    ⊎_elim (λ missing. c.offsets_of-set.ensures.gap missing) (λ far. c.offsets_of-set.ensures.far far) (no_size c.args.low c.args.high c.requires.of_profile (sym c.in-None.ensures))
 
 pub returns-in_err-offset-in-None-clause-stop : goal.returns-in_err-offset-in-None-clause-stop
 returns-in_err-offset-in-None-clause-stop c =
@@ -41,8 +39,8 @@ returns-in_err-offset-in-None-clause-stop c =
 pub returns-in_ok-offset-in-None-clause-done : goal.returns-in_ok-offset-in-None-clause-done
 returns-in_ok-offset-in-None-clause-done c =
     let us = packed c.args.units.now in
-    let vs = packed c.read_counted_signed.new.units in
+    let vs = packed c.read_wide_counted_signed.new.units in
     let z = lowest_integer +ℤ pos c.in_ok-offset-in-None.offset in
     let form = counted_where c.args.low c.args.high c.requires.below_zero (sym c.in-None.ensures) in
     let lead = counted_signed_leads c.args.excluded (unmarked c.args.low c.args.high) c.offsets_of-set.result c.offsets_of-set.ensures.same form us in
-    rw c.at_offset-in-None.ensures (given c.args.excluded (unmarked c.args.low c.args.high) z us vs (lead.done z vs c.in_ok-offset-in-None.ensures.done))
+    rw c.at_wide_offset.ensures (given c.args.excluded (unmarked c.args.low c.args.high) z us vs (lead.done z vs c.in_ok-offset-in-None.ensures.done))

@@ -6,6 +6,6 @@ pub use crate::numbers::{
     least_parts, least_signed_parts, octet_count, signed_octet_count, signed_residue,
     wide_octet_count, width,
 };
-pub use crate::offsets::{at_offset, at_wide_offset, offset_from, wide_offset_from};
+pub use crate::offsets::{at_offset, at_wide_offset, wide_offset_from};
 pub use crate::shifts::fill_shifted;
 pub use crate::words::{full_word, last_octets, low_octet, shift_in};

@@ -3,16 +3,6 @@ ghost use Rattle.std.specs.Prelude.{◌≡◌, ◌<◌, ◌^◌, ◌≤ℤ◌, �
 ghost use Rattle.asn_values.specs.Fits.{lowest_integer, highest_integer};
 ghost use Rattle.asn_bits.specs.Numbers.{above};
 
-/// How far `n` lies above `low`, both integers of 64 signed bits.
-pub fn offset_from(low: i128, n: i128) -> u64
-    requires ordered { low ≤ℤ n }
-    requires within_low { lowest_integer ≤ℤ low }
-    requires within_high { n ≤ℤ highest_integer }
-    ensures { result ≡ above low n }
-{
-    (n - low) as u64
-}
-
 /// The integer that lies `n` above `low`, where it is one of 64 signed bits.
 pub fn at_offset(low: i128, n: u64) -> i128
     requires within_low { lowest_integer ≤ℤ low }

@@ -15,7 +15,7 @@ ghost use Rattle.asn_rules.specs.OctetReading.{AtOctet, ReadsOctets, StopsAtOcte
 use crate::fault::Why;
 use crate::number_reader::{NumberSet, read_number, read_number_among, read_up_to, try_in_octets};
 use crate::signed_reader::{
-    OffsetSet, read_signed, read_unconstrained, read_wide_unconstrained, try_signed,
+    OffsetSet, read_signed, read_wide_unconstrained, try_signed,
     try_unconstrained,
 };
 use crate::stop::Stop;
@@ -190,27 +190,6 @@ pub fn read_wide_counted_signed(
     octets_left(units);
     match read_wide_unconstrained(set, in_count, in_number, units) {
         Ok(wide) => Ok(wide),
-        Err(stop) => Err(in_octets(stop)),
-    }
-}
-
-/// As `read_wide_counted_signed`, where offsets have 64 bits.
-pub fn read_counted_signed(
-    set: OffsetSet,
-    in_count: Why,
-    in_number: Why,
-    units: &mut BitCursor<'_>,
-) -> Result<u64, Stop>
-    requires at_octet { AtOctet units.old }
-    requires gap { IsOpen set }
-    requires some { (w : ℕ) × HasOffset set w }
-    ensures at_octet { OnOk result (AtOctet units.new) }
-    ensures done { IfOk result (λ w. ReadsOctets (CountedSignedIn set) (lowest_integer +ℤ pos w) units.old units.new) }
-    ensures stop { IfErr result (λ why. StopsAtOctets (CountedSignedIn set) units.old why) }
-{
-    octets_left(units);
-    match read_unconstrained(set, in_count, in_number, units) {
-        Ok(offset) => Ok(offset),
         Err(stop) => Err(in_octets(stop)),
     }
 }

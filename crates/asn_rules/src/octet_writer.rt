@@ -131,8 +131,7 @@ pub fn write_least_signed<S: Sink>(z: i128, sink: &mut S) -> Result<(), S::Fault
 {
     let count = signed_octet_count(z);
     if count > 8 {
-        sink.push_low_octets(2, 9 << 8)?;
-        return sink.push_low_octets(8, z as u64);
+        return sink.push_least_signed_octets(z);
     }
     let residue = signed_residue(z, count);
     match count {

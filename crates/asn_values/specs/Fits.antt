@@ -16,7 +16,7 @@ abbrev pub lowest_integer : ℤ
 lowest_integer = negsuc 9223372036854775807
 
 abbrev pub highest_integer : ℤ
-highest_integer = pos 9223372036854775807
+highest_integer = pos 18446744073709551615
 
 -- the highest as a number without a sign, how far 0 lies above the lowest, and how many there are
 abbrev pub highest_number : ℕ

@@ -6,11 +6,11 @@ ghost use Rattle.asn_values.specs.Profile as limits;
 /// The lowest integer of the profile, -2^63.
 pub const LOWEST_INTEGER: i128 = -9_223_372_036_854_775_808;
 
-/// The highest integer of the profile, 2^63 - 1.
-pub const HIGHEST_INTEGER: i128 = 9_223_372_036_854_775_807;
+/// The highest integer of the profile, 2^64 - 1.
+pub const HIGHEST_INTEGER: i128 = 18_446_744_073_709_551_615;
 
-/// How many integers the profile has, 2^64.
-pub const INTEGER_COUNT: u128 = 18_446_744_073_709_551_616;
+/// How many integers the profile has, 2^64 + 2^63.
+pub const INTEGER_COUNT: u128 = 27_670_116_110_564_327_424;
 
 /// How far 0 lies above the lowest integer of the profile.
 pub const OFFSET_OF_ZERO: u128 = 9_223_372_036_854_775_808;

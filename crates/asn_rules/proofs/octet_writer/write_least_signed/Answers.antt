@@ -14,6 +14,11 @@ signed_residue-residue-requires-clause-room g c =
     let z = kept c.args.z c.requires.low c.requires.high in
     rw (c.signed_octet_count-count.ensures.count, z) (signed_fits c.args.z)
 
+pub returns-then-count-gt8 : goal.returns-then-count-gt8
+returns-then-count-gt8 g c =
+    let z = kept c.args.z c.requires.low c.requires.high in
+    rw z at c.push_least_signed_octets.ensures
+
 -- the octets of z, of which there are k, after their count
 all_octets : (z : ℤ) (k n : ℕ) → signed_octets k z ≡ octets k n → k ≤ 8 → k ≡ signed_octet_count z → general_octets (λ u. u) (least_signed z) ≡ bits 8 k ++ bits (8 * k) n
 all_octets z k n h few e = general_signed z n k h (omega (arith, few)) e

@@ -1,7 +1,7 @@
 //! INTEGER and BOOLEAN (X.691). A reader may exclude one value: a component's DEFAULT, which an encoder leaves out.
-ghost use Rattle.std.specs.Prelude.{◌≡◌, ◌≤ℤ◌, ◌++◌, OnOk, IfSome, IsNone, ℕ, Some, None, true, false};
+ghost use Rattle.std.specs.Prelude.{◌≡◌, ◌≤◌, ◌≤ℤ◌, ◌++◌, OnOk, IfSome, IsNone, ℕ, suc, Some, None, true, false};
 ghost use Rattle.std.specs.Option.{option_map};
-ghost use Rattle.asn_values.specs.Fits.{FitsNumber};
+ghost use Rattle.asn_values.specs.Fits.{FitsNumber, lowest_integer, highest_integer};
 ghost use Rattle.asn_values.specs.Shape.{integer};
 ghost use Rattle.asn_values.specs.Datum.{number, truth};
 ghost use Rattle.asn_values.specs.Profile.{InProfile};
@@ -15,22 +15,27 @@ ghost use Rattle.asn_walk.specs.Writing.{TellsWhether};
 ghost use Rattle.asn_walk.specs.Integers.{IsOfProfile};
 ghost use Rattle.asn_per.specs.Kinds.{between, IsNotBetween, IsOutside};
 ghost use Rattle.asn_per.specs.Laws.{per_bits};
-ghost use Rattle.asn_per.specs.Per.{per_fields};
+ghost use Rattle.asn_per.specs.Per.{per_fields, constrained};
+ghost use Rattle.asn_rules.specs.Components.{extension_bit};
 ghost use Rattle.asn_per.specs.Reading.{Reads, StopsIn, IntegersBut, IntegersBetween, BooleansBut, IntegersOutside};
 
 use crate::indexes::read_extension_bit;
 use crate::sizes::write_extension_bit;
 use asn_bits::BitCursor;
-use asn_bits::internal::{at_offset, offset_from, width};
+use asn_bits::internal::{at_offset, at_wide_offset, wide_offset_from, width};
 use asn_rules::internal::{
-    NumberSet, OffsetSet, Stop, offsets_of, read_constrained, read_semi_constrained,
-    read_unconstrained, try_number,
+    NumberSet, OffsetSet, Stop, offsets_of, read_constrained, read_wide_constrained,
+    read_wide_semi_constrained, read_wide_unconstrained, try_number, write_wide_least,
+    write_wide_number,
 };
 use asn_rules::{Unwritten, Why};
 use asn_sinks::Sink;
 use asn_values::Bounds;
 use asn_values::internal::{is_between, number_fits};
 use asn_values::profile::{HIGHEST_INTEGER, INTEGER_COUNT, LOWEST_INTEGER};
+
+/// One more than the highest number of 64 bits. The offset of an integer from a low bound may be wide: above them.
+const WORD: u128 = 1 << 64;
 
 /// Writes a number, where it is one of the range (X.691, "encoding the integer type").
 #[inline(always)]
@@ -45,18 +50,69 @@ pub(crate) fn write_integer<S: Sink>(
         (per_bits (integer (range_of bounds.now)) (number value))) }
 {
     if let (Some(low), Some(high)) = (bounds.low, bounds.high)
+        && let Some(offset) = near_offset(low, value)
+        && let Some(highest) = near_offset(low, high)
+        && offset <= highest
+    {
+        write_near(highest, bounds.ext, offset, sink)?;
+        return Ok(());
+    }
+    write_far(bounds, value, sink)
+}
+
+/// How far `n` lies above `low`, where that is less than 2^64.
+#[inline(always)]
+fn near_offset(low: i128, n: i128) -> Option<u64>
+    requires within_low { lowest_integer ≤ℤ low }
+    requires within_high { low ≤ℤ highest_integer }
+    ensures { IfSome result (λ w. (low ≤ℤ n) × (w ≡ above low n)) }
+{
+    let offset = n.wrapping_sub(low).cast_unsigned();
+    if offset < WORD {
+        Some(offset as u64)
+    } else {
+        None
+    }
+}
+
+/// Writes a number from 0 to `highest` as a constrained whole number, after an extension bit 0 where there is one.
+#[inline(always)]
+fn write_near<S: Sink>(highest: u64, ext: bool, offset: u64, sink: &mut S) -> Result<(), S::Fault>
+    requires { offset ≤ highest }
+    ensures { OnOk result (S.pushes sink.old sink.new
+        (extension_bit ext false ++ constrained (suc highest) offset)) }
+{
+    let count = width(u128::from(highest) + 1);
+    if ext {
+        if count < 64 {
+            return sink.push_number(1 + count, offset);
+        }
+        sink.push(false)?;
+    }
+    sink.push_number(count, offset)
+}
+
+/// Writes a number, where it is one of the range, whether it lies between two bounds or not.
+#[inline(never)]
+fn write_far<S: Sink>(bounds: &Bounds, value: i128, sink: &mut S) -> Result<(), Unwritten<S::Fault>>
+    requires of_profile { InProfile (integer (range_of bounds.now)) }
+    ensures of_type { TellsWhether result (FitsNumber (range_of bounds.now) value) }
+    ensures written { OnOk result (S.pushes sink.old sink.new
+        (per_bits (integer (range_of bounds.now)) (number value))) }
+{
+    if let (Some(low), Some(high)) = (bounds.low, bounds.high)
         && low <= value
         && value <= high
     {
-        write_between(low, high, bounds.ext, value, sink)?;
+        write_wide_between(low, high, bounds.ext, value, sink)?;
         return Ok(());
     }
     write_unbounded(bounds, value, sink)
 }
 
-/// Writes a number between two bounds as a constrained whole number, after an extension bit 0 where there is one.
-#[inline(always)]
-fn write_between<S: Sink>(
+/// Writes a number between two bounds as a constrained whole number, after an extension bit 0 where there is one. It may
+/// have more than 64 bits.
+fn write_wide_between<S: Sink>(
     low: i128,
     high: i128,
     ext: bool,
@@ -68,15 +124,9 @@ fn write_between<S: Sink>(
     ensures { OnOk result (S.pushes sink.old sink.new
         (per_bits (integer (between low high ext)) (number value))) }
 {
-    let count = width(u128::from(offset_from(low, high)) + 1);
-    let offset = offset_from(low, value);
-    if ext {
-        if count < 64 {
-            return sink.push_number(1 + count, offset);
-        }
-        sink.push(false)?;
-    }
-    sink.push_number(count, offset)
+    write_extension_bit(ext, false, sink)?;
+    let count = width(wide_offset_from(low, high) + 1);
+    write_wide_number(count, wide_offset_from(low, value), sink)
 }
 
 /// Writes a number that does not lie between two bounds, where it is one of the range: after the extension bit, from
@@ -99,7 +149,7 @@ fn write_unbounded<S: Sink>(
     let inside = is_between(bounds, value);
     write_extension_bit(bounds.ext, !inside, sink)?;
     match bounds.low {
-        Some(low) if inside => Ok(sink.push_least_octets(offset_from(low, value))?),
+        Some(low) if inside => Ok(write_wide_least(wide_offset_from(low, value), sink)?),
         _ => Ok(sink.push_least_signed_octets(value)?),
     }
 }
@@ -166,17 +216,19 @@ fn read_from_low(
     let left_out = excluded_offset(low, high, excluded);
     match high {
         Some(high) => {
-            let offset = read_constrained(offset_from(low, high), left_out, bits)?;
-            Ok(at_offset(low, offset))
+            let offset = read_wide_constrained(wide_offset_from(low, high), left_out, bits)?;
+            Ok(at_wide_offset(low, offset))
         }
         None => {
-            let offset = read_semi_constrained(offset_from(low, HIGHEST_INTEGER), left_out, bits)?;
-            Ok(at_offset(low, offset))
+            let highest = wide_offset_from(low, HIGHEST_INTEGER);
+            let offset = read_wide_semi_constrained(highest, left_out, bits)?;
+            Ok(at_wide_offset(low, offset))
         }
     }
 }
 
-/// Fast path: an integer between these bounds, if its bits are present and in range; otherwise consumes nothing.
+/// Fast path: an integer between these bounds, if its bits are present, 64 at most, and in range; otherwise consumes
+/// nothing.
 #[inline(always)]
 pub(crate) fn try_constrained(low: i128, high: i128, bits: &mut BitCursor<'_>) -> Option<i128>
     requires of_profile { InProfile (integer (unmarked (Some low) (Some high))) }
@@ -184,7 +236,7 @@ pub(crate) fn try_constrained(low: i128, high: i128, bits: &mut BitCursor<'_>) -
     ensures of_integers { IfSome result IsOfProfile }
     ensures none { IsNone result → bits.new ≡ bits.old }
 {
-    let highest = offset_from(low, high);
+    let highest = near_offset(low, high)?;
     let set = NumberSet {
         low: 0,
         high: highest,
@@ -195,13 +247,13 @@ pub(crate) fn try_constrained(low: i128, high: i128, bits: &mut BitCursor<'_>) -
 }
 
 /// The offset of the excluded integer from the low bound.
-fn excluded_offset(low: i128, high: Option<i128>, excluded: Option<i128>) -> Option<u64>
+fn excluded_offset(low: i128, high: Option<i128>, excluded: Option<i128>) -> Option<u128>
     requires of_profile { InProfile (integer (unmarked (Some low) high)) }
     requires within { IsWithin (unmarked (Some low) high) excluded }
     ensures { result ≡ option_map (λ z. above low z) excluded }
 {
     match excluded {
-        Some(integer) => Some(offset_from(low, integer)),
+        Some(integer) => Some(wide_offset_from(low, integer)),
         None => None,
     }
 }
@@ -220,8 +272,13 @@ fn read_up_to_high(
 {
     let set = offsets_of(None, high, excluded);
     let left_out = excluded.is_some();
-    let offset = read_unconstrained(set, Why::in_count(left_out), Why::in_number(left_out), bits)?;
-    Ok(at_offset(LOWEST_INTEGER, offset))
+    let offset = read_wide_unconstrained(
+        set,
+        Why::in_count(left_out),
+        Why::in_number(left_out),
+        bits,
+    )?;
+    Ok(at_wide_offset(LOWEST_INTEGER, offset))
 }
 
 /// Reads an integer outside the bounds.
@@ -231,8 +288,8 @@ fn read_outside(bounds: &Bounds, bits: &mut BitCursor<'_>) -> Result<i128, Stop>
     ensures done { Reads result number (IntegersOutside (range_of bounds.now)) bits.old bits.new }
     ensures stop { StopsIn result (IntegersOutside (range_of bounds.now)) bits.old }
 {
-    let offset = read_unconstrained(offsets_outside(bounds), Why::Length, Why::Number, bits)?;
-    Ok(at_offset(LOWEST_INTEGER, offset))
+    let offset = read_wide_unconstrained(offsets_outside(bounds), Why::Length, Why::Number, bits)?;
+    Ok(at_wide_offset(LOWEST_INTEGER, offset))
 }
 
 /// The offsets of the integers outside the bounds.
@@ -247,8 +304,8 @@ fn offsets_outside(bounds: &Bounds) -> OffsetSet
     let high = bounds.high.unwrap_or(HIGHEST_INTEGER);
     OffsetSet {
         start: 0,
-        below: u128::from(offset_from(LOWEST_INTEGER, low)),
-        from: u128::from(offset_from(LOWEST_INTEGER, high)) + 1,
+        below: wide_offset_from(LOWEST_INTEGER, low),
+        from: wide_offset_from(LOWEST_INTEGER, high) + 1,
         end: INTEGER_COUNT,
     }
 }

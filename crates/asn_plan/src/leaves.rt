@@ -12,7 +12,7 @@ use crate::build::Build;
 use crate::plan::{Between, Leaf, WithDefault};
 use crate::ranged::Ranged;
 use asn_bits::BitCursor;
-use asn_bits::internal::{offset_from, width};
+use asn_bits::internal::{wide_offset_from, width};
 use asn_values::profile::MAX_ALTERNATIVES;
 use asn_values::{AsnType, Bounds, Value};
 use asn_walk::ReadLeaves;
@@ -51,8 +51,8 @@ pub(crate) fn between_of(bounds: &Bounds) -> Option<Between>
 {
     let low = bounds.low?;
     let high = bounds.high?;
-    let highest = offset_from(low, high);
-    let bits = u32::from(bounds.ext) + width(u128::from(highest) + 1);
+    let highest = wide_offset_from(low, high);
+    let bits = u32::from(bounds.ext) + width(highest + 1);
     if bits > 64 {
         return None;
     }
@@ -60,7 +60,7 @@ pub(crate) fn between_of(bounds: &Bounds) -> Option<Between>
         low,
         high,
         marked: bounds.ext,
-        highest,
+        highest: highest as u64,
         bits,
     };
     Some(Between { range })

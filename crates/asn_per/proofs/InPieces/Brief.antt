@@ -48,22 +48,22 @@ use Rattle.asn_per.proofs.InPieces.Few.{HasFew, brief, front_few, few_more, few_
 few_below : (values n : ℕ) → values ≤ 2 ^ n → HasFew n (Below (width values) values)
 few_below values n h = few_digits 2 (width values) n (λ k. k < values) (width_below values n h)
 
--- octets after their count, of which there are at most 8
-few_counted : (T : ℕ → ℕ → Type 0) → ((k n : ℕ) → T k n → k ≤ 8) → HasFew 72 (Counted 2 8 T)
-few_counted T h = few_then 8 64 (few_digits 2 8 8 (SomeOf T) (omega arith)) (λ k cs s. few_digits 2 (8 * k) 64 (T k) (omega (arith, h k s.spelt.member.number s.spelt.member.member)))
+-- octets after their count, of which there are at most 9
+few_counted : (T : ℕ → ℕ → Type 0) → ((k n : ℕ) → T k n → k ≤ 9) → HasFew 80 (Counted 2 8 T)
+few_counted T h = few_then 8 72 (few_digits 2 8 8 (SomeOf T) (omega arith)) (λ k cs s. few_digits 2 (8 * k) 72 (T k) (omega (arith, h k s.spelt.member.number s.spelt.member.member)))
 
 -- an unconstrained number of the profile
-few_unconstrained : (S : ℤ → Type 0) → ((z : ℤ) → S z → (lowest_integer ≤ℤ z) × (z ≤ℤ highest_integer)) → HasFew 72 (Counted 2 8 (LeastSigned S))
+few_unconstrained : (S : ℤ → Type 0) → ((z : ℤ) → S z → (lowest_integer ≤ℤ z) × (z ≤ℤ highest_integer)) → HasFew 80 (Counted 2 8 (LeastSigned S))
 few_unconstrained S within = few_counted (LeastSigned S) (λ k n h.
     let w = within (signed_number (k, n)) h.member in
     let m = magnitude_below (signed_number (k, n)) w.0 w.1 in
-    let c : signed_octet_count (signed_number (k, n)) ≤ 8 = signed_count_below (signed_number (k, n)) 8 (omega arith) (omega (arith, m)) in
+    let c : signed_octet_count (signed_number (k, n)) ≤ 9 = signed_count_below (signed_number (k, n)) 9 (omega arith) (omega (arith, m)) in
     omega (arith, c, h.count))
 
 -- a normally small number
-few_small : (values : ℕ) → values ≤ 256 → HasFew 73 (SmallBelow values)
-few_small values few = few_map 73 (few_fork 72 (few_digits 2 6 72 (λ n. n < values) (omega arith))
-    (few_map 72 (few_counted (Least (IsLarge values)) (λ k n h. (let c = one_octet n (omega (arith, few, h.member.1)) in omega (arith, c, h.count))))))
+few_small : (values : ℕ) → values ≤ 256 → HasFew 81 (SmallBelow values)
+few_small values few = few_map 81 (few_fork 80 (few_digits 2 6 80 (λ n. n < values) (omega arith))
+    (few_map 80 (few_counted (Least (IsLarge values)) (λ k n h. (let c = one_octet n (omega (arith, few, h.member.1)) in omega (arith, c, h.count))))))
 
 -- ---- the scalars
 
@@ -74,39 +74,39 @@ few_null : HasFew 0 (Values null)
 few_null = few_same 0 nulls_compose (few_nothing _)
 
 -- an integer of a range
-few_ranged : (low high : Option ℤ) → InProfile (integer (record { low = low; high = high; extensible = false })) → HasFew 72 (Ranged low high)
+few_ranged : (low high : Option ℤ) → InProfile (integer (record { low = low; high = high; extensible = false })) → HasFew 80 (Ranged low high)
 few_ranged (Some low) (Some high) good =
     let a = low_above_lowest low (Some high) good in
     let b = high_below_highest low high good in
     let c = low_below_high low high good in
-    let top : above low high < 2 ^ 64 = omega (arith, ints, pos-above low high c) in
-    few_map 72 (few_more 64 72 (omega arith) (few_below (suc (above low high)) 64 (omega arith)))
+    let top : above low high < 2 ^ 65 = omega (arith, ints, pos-above low high c) in
+    few_map 80 (few_more 65 80 (omega arith) (few_below (suc (above low high)) 65 (omega arith)))
 few_ranged (Some low) None good =
     let top = offsets_below low (low_above_lowest low None good) (low_below_highest low None good) in
-    few_map 72 (few_map 72 (few_counted (Least (λ n. n ≤ above low highest_integer)) (λ k n h. (let c : octet_count n ≤ 8 = octet_count_below n 8 (omega arith) (omega (arith, top, h.member)) in omega (arith, c, h.count)))))
-few_ranged None high good = few_map 72 (few_map 72 (few_unconstrained _ (λ z h. (h.0, h.1))))
+    few_map 80 (few_map 80 (few_counted (Least (λ n. n ≤ above low highest_integer)) (λ k n h. (let c : octet_count n ≤ 9 = octet_count_below n 9 (omega arith) (omega (arith, top, h.member)) in omega (arith, c, h.count)))))
+few_ranged None high good = few_map 80 (few_map 80 (few_unconstrained _ (λ z h. (h.0, h.1))))
 
-few_integer : (b : Range) → InProfile (integer b) → HasFew 73 (Values (integer b))
-few_integer b good = few_same 73 (integers_compose b good) (go b.low b.high b.extensible good)
+few_integer : (b : Range) → InProfile (integer b) → HasFew 81 (Values (integer b))
+few_integer b good = few_same 81 (integers_compose b good) (go b.low b.high b.extensible good)
   where
-    go : (low high : Option ℤ) (m : Bool) → InProfile (integer (record { low = low; high = high; extensible = m })) → HasFew 73 (Integers (record { low = low; high = high; extensible = m }))
-    go low high false good = few_more 72 73 (omega arith) (few_ranged low high good)
-    go low high true good = few_map 73 (few_fork 72 (few_ranged low high (root_of_profile (record { low = low; high = high; extensible = true }) good)) (few_map 72 (few_map 72 (few_unconstrained _ (λ z h. (h.least, h.most))))))
+    go : (low high : Option ℤ) (m : Bool) → InProfile (integer (record { low = low; high = high; extensible = m })) → HasFew 81 (Integers (record { low = low; high = high; extensible = m }))
+    go low high false good = few_more 80 81 (omega arith) (few_ranged low high good)
+    go low high true good = few_map 81 (few_fork 80 (few_ranged low high (root_of_profile (record { low = low; high = high; extensible = true }) good)) (few_map 80 (few_map 80 (few_unconstrained _ (λ z h. (h.least, h.most))))))
 
 -- an item of an ENUMERATED
-few_items : (root : List Label) (more : MoreLabels) → InProfile (enumerated root more) → HasFew 74 (Items root more)
-few_items root closed_labels good = few_map 74 (few_more 8 74 (omega arith) (few_below (length root) 8 (omega (arith, (root_items root closed_labels good).few))))
+few_items : (root : List Label) (more : MoreLabels) → InProfile (enumerated root more) → HasFew 82 (Items root more)
+few_items root closed_labels good = few_map 82 (few_more 8 82 (omega arith) (few_below (length root) 8 (omega (arith, (root_items root closed_labels good).few))))
 few_items root (marked_labels more) good =
     let few = few_additions root (marked_labels more) good in
-    few_map 74 (few_fork 73 (few_map 73 (few_more 8 73 (omega arith) (few_below (length root) 8 (omega (arith, (root_items root (marked_labels more) good).few)))))
-    (few_map 73 (few_small (length more) (omega (arith, few)))))
+    few_map 82 (few_fork 81 (few_map 81 (few_more 8 81 (omega arith) (few_below (length root) 8 (omega (arith, (root_items root (marked_labels more) good).few)))))
+    (few_map 81 (few_small (length more) (omega (arith, few)))))
 
 -- each of them
-few_scalar : (t : Shape) → InProfile t → IsScalar t → HasFew 74 (Values t)
-few_scalar boolean good h = few_more 1 74 (omega arith) few_boolean
-few_scalar null good h = few_more 0 74 (omega arith) few_null
-few_scalar (integer b) good h = few_more 73 74 (omega arith) (few_integer b good)
-few_scalar (enumerated root more) good h = few_same 74 (items_compose root more good) (few_items root more good)
+few_scalar : (t : Shape) → InProfile t → IsScalar t → HasFew 82 (Values t)
+few_scalar boolean good h = few_more 1 82 (omega arith) few_boolean
+few_scalar null good h = few_more 0 82 (omega arith) few_null
+few_scalar (integer b) good h = few_more 81 82 (omega arith) (few_integer b good)
+few_scalar (enumerated root more) good h = few_same 82 (items_compose root more good) (few_items root more good)
 few_scalar _ good h = absurd h
 
 -- only they have a DEFAULT
@@ -123,11 +123,11 @@ default_scalar d _ e = absurd (cc)
 
 pub scalar_brief : (t : Shape) → InProfile t → IsScalar t → IsBrief per_coding (Spelt per_coding.code None t)
 unfolding per_coding
-scalar_brief t good h = brief 74 (omega arith) (few_spelt None t 74 (few_scalar t good h))
+scalar_brief t good h = brief 82 (omega arith) (few_spelt None t 82 (few_scalar t good h))
 
 pub other_brief : (d : Datum) (t : Shape) → InProfile t → good_default t d ≡ true → IsBrief per_coding (Spelt per_coding.code (Some d) t)
 unfolding per_coding
-other_brief d t good e = brief 74 (omega arith) (few_spelt (Some d) t 74 (few_scalar t good (default_scalar d t e)))
+other_brief d t good e = brief 82 (omega arith) (few_spelt (Some d) t 82 (few_scalar t good (default_scalar d t e)))
 
 -- ---- what stands in a SEQUENCE and a CHOICE
 
@@ -155,11 +155,11 @@ few_root root None h = h
 few_root root (Some more) h = omega (arith, h)
 
 pub index_brief : (root : ℕ) (more : Option ℕ) → AreFew root more → IsBrief per_coding (IndexOf per_coding root more)
-index_brief root more h = brief 74 (omega arith) (few_same 74 (index_spelled root more h) (go more h))
+index_brief root more h = brief 82 (omega arith) (few_same 82 (index_spelled root more h) (go more h))
   where
-    go : (more : Option ℕ) → AreFew root more → HasFew 74 (IndexesOf root more)
-    go None h = few_map 74 (few_more 8 74 (omega arith) (few_below root 8 (omega (arith, few_root root None h))))
-    go (Some more) h = few_fork 73 (few_more 8 73 (omega arith) (few_below root 8 (omega (arith, few_root root (Some more) h)))) (few_small more (omega (arith, h)))
+    go : (more : Option ℕ) → AreFew root more → HasFew 82 (IndexesOf root more)
+    go None h = few_map 82 (few_more 8 82 (omega arith) (few_below root 8 (omega (arith, few_root root None h))))
+    go (Some more) h = few_fork 81 (few_more 8 81 (omega arith) (few_below root 8 (omega (arith, few_root root (Some more) h)))) (few_small more (omega (arith, h)))
 
 -- ---- lengths, and what stands before them
 

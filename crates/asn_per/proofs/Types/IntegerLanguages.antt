@@ -1,5 +1,5 @@
 -- The integers of a range, but for one that may be left out, as numbers in bits and under the count of their octets.
-use Rattle.std.proofs.Common.{◌≡◌, ◌≤◌, ◌<◌, ◌+◌, ◌^◌, ℕ, suc, ℤ, pos, ◌+ℤ◌, ◌≤ℤ◌, Bool, true, false, ◌&&◌, List, Option, Some, None, refl, sym, ap, subst, ◌∙◌, arith}
+use Rattle.std.proofs.Common.{◌≡◌, ◌≤◌, ◌<◌, ◌+◌, ◌^◌, ℕ, suc, ℤ, pos, ◌+ℤ◌, ◌≤ℤ◌, Bool, true, false, ◌&&◌, List, Option, Some, None, IfSome, refl, sym, ap, subst, ◌∙◌, arith}
 use Rattle.std.specs.Int.RustNames.{int_le}
 use Rattle.std.specs.Option.{option_map}
 use Rattle.std.proofs.lemmas.Int.{ints}
@@ -69,10 +69,20 @@ other_offset low high (Some d) z w p h = λ same.
     let t : is_default (number d) (number z) ≡ true = ap (λ x. is_default (number d) (number x)) is ∙ default_self d in
     cc
 
+-- it lies between the bounds
+pub left_out_within : (low high : ℤ) (e : Option ℤ) → IsWithin (ranging low (Some high)) e → IfSome (offset_of low e) (λ x. x ≤ above low high)
+left_out_within low high None w = tt
+left_out_within low high (Some d) w = above_within low high d (number_above_low low (Some high) d w.0) (number_below_high low high d w.0)
+
+-- or between the low bound and the end of the profile
+pub left_out_open : (low : ℤ) (e : Option ℤ) → IsWithin (ranging low None) e → IfSome (offset_of low e) (λ x. x ≤ above low highest_integer)
+left_out_open low None w = tt
+left_out_open low (Some d) w = above_within low highest_integer d (number_above_low low None d w.0) w.0.1
+
 -- ---- the integer that lies so far above
 
--- no integer of the profile lies 2 ^ 64 above another
-pub offsets_below : (low : ℤ) → lowest_integer ≤ℤ low → low ≤ℤ highest_integer → above low highest_integer < 2 ^ 64
+-- no integer of the profile lies 2 ^ 65 above another
+pub offsets_below : (low : ℤ) → lowest_integer ≤ℤ low → low ≤ℤ highest_integer → above low highest_integer < 2 ^ 65
 offsets_below low p q = omega (arith, ints, pos-above low highest_integer q)
 
 abbrev pub number_from : ℤ → ℕ → Datum
@@ -140,8 +150,8 @@ module _ (low : ℤ) (e : Option ℤ) (good : InProfile (integer (ranging low No
 
   pub few_octets : (n : ℕ) → OpenOffsets n → octet_count n < 128
   few_octets n h =
-      let top : above low highest_integer < 2 ^ 64 = offsets_below low (low_above_lowest low None good) (low_below_highest low None good) in
-      let few : octet_count n ≤ 8 = octet_count_below n 8 (omega arith) (omega (arith, h.1, top)) in
+      let top : above low highest_integer < 2 ^ 65 = offsets_below low (low_above_lowest low None good) (low_below_highest low None good) in
+      let few : octet_count n ≤ 9 = octet_count_below n 9 (omega arith) (omega (arith, h.1, top)) in
       omega (arith, few)
 
   pub semi_constrained_language : Same (Map (number_from low) (Map number_of (Counted 2 8 (Least OpenOffsets)))) (Spelt per (option_map number e) (integer (ranging low None)))
@@ -171,8 +181,8 @@ module _ (low : ℤ) (e : Option ℤ) (good : InProfile (integer (ranging low No
   counted_leads us =
       leads_on (leads_map per_fields (number_from low) (Map number_of (Counted 2 8 (Least (OpenOffsets low e good within)))) us) (leads_same per_fields us (semi_constrained_language low e good within))
 
-  pub counted_some : Inhabited (Spelt per (option_map number e) (integer (ranging low None))) → Meets (λ n. Admits (up_to (above low highest_integer) (offset_of low e)) n) 0 64
+  pub counted_some : Inhabited (Spelt per (option_map number e) (integer (ranging low None))) → Meets (λ n. Admits (up_to (above low highest_integer) (offset_of low e)) n) 0 72
   counted_some i =
       let n = open_back low e good within i.value i.spelt.fits in
       let top = offsets_below low (low_above_lowest low None good) (low_below_highest low None good) in
-      set_meets 2 64 n.0 n.1 (omega (arith, n.1.1, top))
+      set_meets 2 72 n.0 n.1 (omega (arith, n.1.1, top))

@@ -1,5 +1,5 @@
 -- The bits of an integer between two bounds, as a writer puts them.
-use Rattle.std.proofs.Common.{◌≡◌, ◌<◌, ◌+◌, ◌^◌, ◌++◌, ◌||◌, suc, ℤ, ◌≤ℤ◌, Bool, true, false, Some, refl, sym, ap, ◌∙◌, arith}
+use Rattle.std.proofs.Common.{◌≡◌, ◌≤◌, ◌<◌, ◌^◌, ◌++◌, ◌||◌, suc, ℤ, ◌≤ℤ◌, Bool, true, false, Some, refl, sym, arith}
 use Rattle.std.proofs.lemmas.Bool.{and_from}
 use Rattle.std.proofs.lemmas.Int.{ints}
 use Rattle.std.specs.Int.RustNames.{int_le}
@@ -9,14 +9,13 @@ use Rattle.asn_values.specs.Shape.{integer}
 use Rattle.asn_values.specs.Datum.{number}
 use Rattle.asn_values.specs.Fits.{lowest_integer, highest_integer, in_range, FitsNumber}
 use Rattle.asn_values.specs.Profile.{InProfile}
-use Rattle.asn_bits.specs.Numbers.{above, width, bits}
-use Rattle.asn_bits.proofs.Above.{test_of_le, above_within, kept}
+use Rattle.asn_bits.specs.Numbers.{above, width}
+use Rattle.asn_bits.proofs.Above.{test_of_le, pos-above, above_within, kept}
 use Rattle.asn_bits.proofs.Widths.{width_fits}
 use Rattle.asn_rules.specs.Components.{extension_bit}
 use Rattle.asn_per.specs.Kinds.{between}
 use Rattle.asn_per.specs.Laws.{per_bits}
 use Rattle.asn_per.specs.Per.{constrained}
-use Rattle.asn_per.proofs.Write.IndexBits.{index_fits, root_index_bits}
 use Rattle.asn_per.proofs.Types.IntegerRanges.{ranging, low_above_lowest, low_below_high, high_below_highest}
 use Rattle.asn_per.proofs.Types.MarkedIntegers.{root_of_profile}
 use Rattle.asn_per.proofs.Write.Spellings.{bits_of_unmarked, bits_of_inside}
@@ -28,6 +27,10 @@ module _ (low high : ℤ) (m : Bool) (good : InProfile (integer (between low hig
   -- the bounds are integers of the profile, in their order
   pub bounds_within : (lowest_integer ≤ℤ low) × (low ≤ℤ high) × (high ≤ℤ highest_integer)
   bounds_within = (low_above_lowest low (Some high) plain, low_below_high low high plain, high_below_highest low high plain)
+
+-- an integer that lies no further above the low bound than the high one lies below it or at it
+pub below_by_offset : (low high z : ℤ) → low ≤ℤ high → low ≤ℤ z → above low z ≤ above low high → z ≤ℤ high
+below_by_offset low high z p q h = omega (arith, ints, pos-above low high p, pos-above low z q, h)
 
 module _ (low high z : ℤ) (m : Bool) (good : InProfile (integer (between low high m))) (least : low ≤ℤ z) (most : z ≤ℤ high) where
   pub low_within : lowest_integer ≤ℤ low
@@ -55,12 +58,9 @@ module _ (low high z : ℤ) (m : Bool) (good : InProfile (integer (between low h
   below : above low z < suc (above low high)
   below = omega (arith, above_within low high z least most)
 
-  -- how far it lies above the low bound has this many bits, and one more after an extension mark
+  -- how far it lies above the low bound has this many bits
   pub offset_fits : above low z < 2 ^ width (suc (above low high))
   offset_fits = width_fits (suc (above low high)) (above low z) below
-
-  pub offset_fits_more : above low z < 2 ^ (1 + width (suc (above low high)))
-  offset_fits_more = index_fits (suc (above low high)) (above low z) below 1
 
   -- which are its bits
   pub bits_between : extension_bit m false ++ constrained (suc (above low high)) (above low z) ≡ per_bits (integer (between low high m)) (number z)
@@ -69,9 +69,6 @@ module _ (low high z : ℤ) (m : Bool) (good : InProfile (integer (between low h
       go : (b : Bool) → b ≡ m → extension_bit b false ++ constrained (suc (above low high)) (above low z) ≡ per_bits (integer (between low high m)) (number z)
       go false e = sym (bits_of_unmarked (between low high m) z (sym e))
       go true e = sym (bits_of_inside (between low high m) z (sym e) inside)
-
-  pub bits_after_mark : m ≡ true → bits (1 + width (suc (above low high))) (above low z) ≡ per_bits (integer (between low high m)) (number z)
-  bits_after_mark e = sym (root_index_bits (suc (above low high)) (above low z) below true 1 refl) ∙ ap (λ (b : Bool). extension_bit b false ++ constrained (suc (above low high)) (above low z)) (sym e) ∙ bits_between
 
   -- and it is a value
   pub between_fits : FitsNumber (between low high m) z

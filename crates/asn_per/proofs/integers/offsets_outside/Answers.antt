@@ -10,29 +10,29 @@ use Rattle.asn_per.proofs.Types.MarkedIntegers.{root_of_profile}
 use Rattle.asn_per.proofs.Read.SignedOffsets.{low_offset_is, high_offset_is, outside_offsets, some_outside}
 use Rattle.asn_per.proofs.integers.offsets_outside.Goals as goal
 
-pub offset_from-requires-clause-ordered : goal.offset_from-requires-clause-ordered
-offset_from-requires-clause-ordered c =
+pub wide_offset_from-requires-clause-ordered : goal.wide_offset_from-requires-clause-ordered
+wide_offset_from-requires-clause-ordered c =
     let b = range_of c.args.bounds.now in
     let l = low_inside b.low b.high (root_of_profile b c.requires.of_profile) in
     let same : c.unwrap_or-low.result ≡ lowest_of b.low = c.unwrap_or-low.ensures ∙ low_is b.low in
     rw (same, kept (lowest_of b.low) l.0 l.1) l.0
 
-pub offset_from-requires-clause-within_high : goal.offset_from-requires-clause-within_high
-offset_from-requires-clause-within_high c =
+pub wide_offset_from-requires-clause-within_high : goal.wide_offset_from-requires-clause-within_high
+wide_offset_from-requires-clause-within_high c =
     let b = range_of c.args.bounds.now in
     let l = low_inside b.low b.high (root_of_profile b c.requires.of_profile) in
     let same : c.unwrap_or-low.result ≡ lowest_of b.low = c.unwrap_or-low.ensures ∙ low_is b.low in
     rw (same, kept (lowest_of b.low) l.0 l.1) l.1
 
-pub offset_from-requires-2-clause-ordered : goal.offset_from-requires-2-clause-ordered
-offset_from-requires-2-clause-ordered c =
+pub wide_offset_from-requires-2-clause-ordered : goal.wide_offset_from-requires-2-clause-ordered
+wide_offset_from-requires-2-clause-ordered c =
     let b = range_of c.args.bounds.now in
     let h = high_inside b.low b.high (root_of_profile b c.requires.of_profile) in
     let same : c.unwrap_or-high.result ≡ highest_of b.high = c.unwrap_or-high.ensures ∙ high_is b.high in
     rw (same, kept (highest_of b.high) h.0 h.1) h.0
 
-pub offset_from-requires-2-clause-within_high : goal.offset_from-requires-2-clause-within_high
-offset_from-requires-2-clause-within_high c =
+pub wide_offset_from-requires-2-clause-within_high : goal.wide_offset_from-requires-2-clause-within_high
+wide_offset_from-requires-2-clause-within_high c =
     let b = range_of c.args.bounds.now in
     let h = high_inside b.low b.high (root_of_profile b c.requires.of_profile) in
     let same : c.unwrap_or-high.result ≡ highest_of b.high = c.unwrap_or-high.ensures ∙ high_is b.high in
@@ -44,10 +44,10 @@ returns-clause-same c =
     let good = root_of_profile b c.requires.of_profile in
     let l = low_inside b.low b.high good in
     let h = high_inside b.low b.high good in
-    let first : c.offset_from.result ≡ above lowest_integer (lowest_of b.low) = rw (c.unwrap_or-low.ensures, low_is b.low, kept (lowest_of b.low) l.0 l.1) at c.offset_from.ensures in
-    let last : c.offset_from-2.result ≡ above lowest_integer (highest_of b.high) = rw (c.unwrap_or-high.ensures, high_is b.high, kept (highest_of b.high) h.0 h.1) at c.offset_from-2.ensures in
-    let below : c.from.result ≡ low_offset b.low = omega (arith, c.from.ensures, first, low_offset_is b.low) in
-    let from : c.from-2.result + 1 ≡ high_offset b.high = omega (arith, c.from-2.ensures, last, high_offset_is b.high) in
+    let first : c.wide_offset_from.result ≡ above lowest_integer (lowest_of b.low) = rw (c.unwrap_or-low.ensures, low_is b.low, kept (lowest_of b.low) l.0 l.1) at c.wide_offset_from.ensures.is in
+    let last : c.wide_offset_from-2.result ≡ above lowest_integer (highest_of b.high) = rw (c.unwrap_or-high.ensures, high_is b.high, kept (highest_of b.high) h.0 h.1) at c.wide_offset_from-2.ensures.is in
+    let below : c.wide_offset_from.result ≡ low_offset b.low = omega (arith, first, low_offset_is b.low) in
+    let from : c.wide_offset_from-2.result + 1 ≡ high_offset b.high = omega (arith, last, high_offset_is b.high) in
     rw (below, from) (outside_offsets b c.requires.of_profile)
 
 pub returns-clause-some : goal.returns-clause-some
@@ -56,8 +56,8 @@ returns-clause-some c =
     let good = root_of_profile b c.requires.of_profile in
     let l = low_inside b.low b.high good in
     let h = high_inside b.low b.high good in
-    let first : c.offset_from.result ≡ above lowest_integer (lowest_of b.low) = rw (c.unwrap_or-low.ensures, low_is b.low, kept (lowest_of b.low) l.0 l.1) at c.offset_from.ensures in
-    let last : c.offset_from-2.result ≡ above lowest_integer (highest_of b.high) = rw (c.unwrap_or-high.ensures, high_is b.high, kept (highest_of b.high) h.0 h.1) at c.offset_from-2.ensures in
-    let below : c.from.result ≡ low_offset b.low = omega (arith, c.from.ensures, first, low_offset_is b.low) in
-    let from : c.from-2.result + 1 ≡ high_offset b.high = omega (arith, c.from-2.ensures, last, high_offset_is b.high) in
+    let first : c.wide_offset_from.result ≡ above lowest_integer (lowest_of b.low) = rw (c.unwrap_or-low.ensures, low_is b.low, kept (lowest_of b.low) l.0 l.1) at c.wide_offset_from.ensures.is in
+    let last : c.wide_offset_from-2.result ≡ above lowest_integer (highest_of b.high) = rw (c.unwrap_or-high.ensures, high_is b.high, kept (highest_of b.high) h.0 h.1) at c.wide_offset_from-2.ensures.is in
+    let below : c.wide_offset_from.result ≡ low_offset b.low = omega (arith, first, low_offset_is b.low) in
+    let from : c.wide_offset_from-2.result + 1 ≡ high_offset b.high = omega (arith, last, high_offset_is b.high) in
     rw (below, from) (some_outside b c.requires.of_profile c.requires.mark)

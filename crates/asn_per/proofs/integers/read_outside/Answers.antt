@@ -25,4 +25,4 @@ returns-clause-done c =
     let z = lowest_integer +ℤ pos w in
     let in_profile = signed_within per_fields c.offsets_outside.result (c.in_ok-offset.ensures.done per_fields) in
     let same : to_z w128 (of_z w128 z) ≡ z = kept z in_profile.0 in_profile.1 in
-    rw (c.at_offset.ensures, same) (lead.done z c.read_unconstrained.new.bits (c.in_ok-offset.ensures.done per_fields))
+    rw (c.at_wide_offset.ensures, same) (lead.done z c.read_wide_unconstrained.new.bits (c.in_ok-offset.ensures.done per_fields))

@@ -1,18 +1,89 @@
-use Rattle.std.proofs.Common.{rules, ◌≤ℤ◌}
-use Rattle.asn_values.specs.Fits.{FitsNumber}
+use Rattle.std.proofs.Common.{rules, to_z, of_z, ◌≡◌, ◌≤ℤ◌, ◌++◌, ℕ, suc, false, ap, ◌∙◌, arith}
+use Rattle.std.proofs.lemmas.Int.{ints}
+use mir.Syntax.{w128}
 use Rattle.asn_values.specs.Profile.{InProfile}
 use Rattle.asn_values.specs.Shape.{integer}
+use Rattle.asn_bits.specs.Numbers.{above}
+use Rattle.asn_bits.proofs.Above.{kept}
+use Rattle.asn_rules.specs.Components.{extension_bit}
+use Rattle.asn_sinks.proofs.Pushing.{pushed_same}
 use Rattle.asn_per.specs.Kinds.{between}
-use Rattle.asn_per.proofs.Write.BetweenBounds.{between_fits}
+use Rattle.asn_per.specs.Per.{constrained}
+use Rattle.asn_per.proofs.Write.BetweenBounds.{bounds_within, below_by_offset, bits_between, between_fits}
 use Rattle.asn_per.proofs.integers.write_integer.Goals as goal
+
+pub near_offset-requires-clause-within_low : goal.near_offset-requires-clause-within_low
+near_offset-requires-clause-within_low g c =
+    let low = c.in-Some-Some.low in
+    let high = c.in-Some-Some.high in
+    let ext = c.args.bounds.now.ext in
+    let good : InProfile (integer (between low high ext)) = rw (c.in-Some-Some.is-0, c.in-Some-Some.is-1) at c.requires.of_profile in
+    let w = bounds_within low high ext good in
+    let low_stays : to_z w128 (of_z w128 low) ≡ low = kept low w.0 (omega (arith, ints, w.1, w.2)) in
+    rw low_stays w.0
+
+pub near_offset-requires-clause-within_high : goal.near_offset-requires-clause-within_high
+near_offset-requires-clause-within_high g c =
+    let low = c.in-Some-Some.low in
+    let high = c.in-Some-Some.high in
+    let ext = c.args.bounds.now.ext in
+    let good : InProfile (integer (between low high ext)) = rw (c.in-Some-Some.is-0, c.in-Some-Some.is-1) at c.requires.of_profile in
+    let w = bounds_within low high ext good in
+    let low_stays : to_z w128 (of_z w128 low) ≡ low = kept low w.0 (omega (arith, ints, w.1, w.2)) in
+    rw low_stays (omega (arith, ints, w.1, w.2))
+
+pub near_offset-requires-2-clause-within_low : goal.near_offset-requires-2-clause-within_low
+near_offset-requires-2-clause-within_low g c =
+    let low = c.in-Some-Some.low in
+    let high = c.in-Some-Some.high in
+    let ext = c.args.bounds.now.ext in
+    let good : InProfile (integer (between low high ext)) = rw (c.in-Some-Some.is-0, c.in-Some-Some.is-1) at c.requires.of_profile in
+    let w = bounds_within low high ext good in
+    let low_stays : to_z w128 (of_z w128 low) ≡ low = kept low w.0 (omega (arith, ints, w.1, w.2)) in
+    rw low_stays w.0
+
+pub near_offset-requires-2-clause-within_high : goal.near_offset-requires-2-clause-within_high
+near_offset-requires-2-clause-within_high g c =
+    let low = c.in-Some-Some.low in
+    let high = c.in-Some-Some.high in
+    let ext = c.args.bounds.now.ext in
+    let good : InProfile (integer (between low high ext)) = rw (c.in-Some-Some.is-0, c.in-Some-Some.is-1) at c.requires.of_profile in
+    let w = bounds_within low high ext good in
+    let low_stays : to_z w128 (of_z w128 low) ≡ low = kept low w.0 (omega (arith, ints, w.1, w.2)) in
+    rw low_stays (omega (arith, ints, w.1, w.2))
 
 pub returns-clause-of_type : goal.returns-clause-of_type
 returns-clause-of_type g c =
     let low = c.in-Some-Some.low in
     let high = c.in-Some-Some.high in
     let ext = c.args.bounds.now.ext in
+    let z = c.args.value in
     let good : InProfile (integer (between low high ext)) = rw (c.in-Some-Some.is-0, c.in-Some-Some.is-1) at c.requires.of_profile in
-    let least : low ≤ℤ c.args.value = search rules in
-    let most : c.args.value ≤ℤ high = search rules in
-    let fits : FitsNumber (between low high ext) c.args.value = between_fits low high c.args.value ext good least most in
-    rw (c.in-Some-Some.is-0, c.in-Some-Some.is-1) fits
+    let w = bounds_within low high ext good in
+    let low_stays : to_z w128 (of_z w128 low) ≡ low = kept low w.0 (omega (arith, ints, w.1, w.2)) in
+    let high_stays : to_z w128 (of_z w128 high) ≡ high = kept high (omega (arith, ints, w.0, w.1)) w.2 in
+    let same : to_z w128 (of_z w128 z) ≡ z = search rules in
+    let near : (low ≤ℤ z) × (c.in-Some.offset ≡ above low z) = rw (low_stays, same) at c.in-Some.ensures in
+    let top : (low ≤ℤ high) × (c.in-Some-near_offset.highest ≡ above low high) = rw (low_stays, high_stays) at c.in-Some-near_offset.ensures in
+    let most : z ≤ℤ high = below_by_offset low high z w.1 near.0 (omega (arith, near.1, top.1, c.if-offset-highest.true)) in
+    rw (c.in-Some-Some.is-0, c.in-Some-Some.is-1) (between_fits low high z ext good near.0 most)
+
+pub returns-clause-written : goal.returns-clause-written
+returns-clause-written g c =
+    let low = c.in-Some-Some.low in
+    let high = c.in-Some-Some.high in
+    let ext = c.args.bounds.now.ext in
+    let z = c.args.value in
+    let good : InProfile (integer (between low high ext)) = rw (c.in-Some-Some.is-0, c.in-Some-Some.is-1) at c.requires.of_profile in
+    let w = bounds_within low high ext good in
+    let low_stays : to_z w128 (of_z w128 low) ≡ low = kept low w.0 (omega (arith, ints, w.1, w.2)) in
+    let high_stays : to_z w128 (of_z w128 high) ≡ high = kept high (omega (arith, ints, w.0, w.1)) w.2 in
+    let same : to_z w128 (of_z w128 z) ≡ z = search rules in
+    let near : (low ≤ℤ z) × (c.in-Some.offset ≡ above low z) = rw (low_stays, same) at c.in-Some.ensures in
+    let top : (low ≤ℤ high) × (c.in-Some-near_offset.highest ≡ above low high) = rw (low_stays, high_stays) at c.in-Some-near_offset.ensures in
+    let most : z ≤ℤ high = below_by_offset low high z w.1 near.0 (omega (arith, near.1, top.1, c.if-offset-highest.true)) in
+    let bits =
+    ap (λ (h : ℕ). extension_bit ext false ++ constrained (suc h) c.in-Some.offset) top.1
+    ∙ ap (λ (o : ℕ). extension_bit ext false ++ constrained (suc (above low high)) o) near.1
+    ∙ bits_between low high z ext good near.0 most in
+    rw (c.in-Some-Some.is-0, c.in-Some-Some.is-1) (pushed_same g.S.Sink.pushes c.args.sink.now c.write_near.new.sink bits c.in_ok-write_near.ensures)

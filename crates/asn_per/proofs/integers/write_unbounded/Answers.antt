@@ -14,14 +14,14 @@ use Rattle.asn_per.proofs.Write.Spellings.{bits_of_unconstrained, bits_of_semi_c
 use Rattle.asn_per.proofs.integers.write_unbounded.Goals as goal
 use Rattle.asn_per.proofs.integers.write_unbounded.Goals.{in_default-via-in-Some+else-inside, in_default-via-in_default}
 
-pub offset_from-requires-clause-within_low : goal.offset_from-requires-clause-within_low
-offset_from-requires-clause-within_low g c =
+pub wide_offset_from-requires-clause-within_low : goal.wide_offset_from-requires-clause-within_low
+wide_offset_from-requires-clause-within_low g c =
     let b = c.args.bounds.now in
     let good : InProfile (integer (ranging c.in-Some.low b.high)) = rw c.in-Some.is at (root_of_profile (range_of b) c.requires.of_profile) in
     subst (λ (z : ℤ). lowest_integer ≤ℤ z) (sym (low_kept c.in-Some.low b.high good)) (low_above_lowest c.in-Some.low b.high good)
 
-pub returns-in_ok-push_least_octets-in-Some-clause-written : goal.returns-in_ok-push_least_octets-in-Some-clause-written
-returns-in_ok-push_least_octets-in-Some-clause-written g c =
+pub returns-in_ok-write_wide_least-in-Some-clause-written : goal.returns-in_ok-write_wide_least-in-Some-clause-written
+returns-in_ok-write_wide_least-in-Some-clause-written g c =
     let b = range_of c.args.bounds.now in
     let z = c.args.value in
     let l = c.in-Some.low in
@@ -34,10 +34,10 @@ returns-in_ok-push_least_octets-in-Some-clause-written g c =
     let mid = c.write_extension_bit.new.sink in
     let front = extension_bit b.extensible (not (in_range b z)) in
     let mark : push old mid front = subst (λ (i : Bool). push old mid (extension_bit b.extensible (not i))) tested c.in_ok-write_extension_bit.ensures in
-    let offset : c.offset_from.result ≡ above l z = rw (low_kept l b.high good, same) at c.offset_from.ensures in
+    let offset : c.wide_offset_from.result ≡ above l z = rw (low_kept l b.high good, same) at c.wide_offset_from.ensures.is in
     let all = bits_of_semi_constrained b l z fits c.in-Some.is (sym tested ∙ c.if-inside.true) c.requires.open in
-    let new = c.push_least_octets.new.self in
-    let back : push mid new (semi_constrained (above l z)) = subst (λ (n : ℕ). push mid new (semi_constrained n)) offset c.in_ok-push_least_octets-in-Some.ensures in
+    let new = c.write_wide_least.new.sink in
+    let back : push mid new (semi_constrained (above l z)) = subst (λ (n : ℕ). push mid new (semi_constrained n)) offset c.in_ok-write_wide_least-in-Some.ensures in
     pushed_same push old new (sym all) (g.met.S.Sink.pushes_joined old mid new front (semi_constrained (above l z)) mark back)
 
 pub returns-in_ok-push_least_signed_octets-in_default-clause-written : goal.returns-in_ok-push_least_signed_octets-in_default-clause-written

@@ -208,8 +208,8 @@ def narrower(count, program):
     for name, rules, given, wanted in (
         ("T", "per", b"c8\nc9\n", b"200\n! refused at bit 8: number\n"),
         ("T", "oer", b"c8\nc9\n", b"200\n! refused at octet 1: number\n"),
-        ("U", "per", b"087fffffffffffffff\n09008000000000000000\n", b"9223372036854775807\n! refused at bit 8: length\n"),
-        ("U", "oer", b"087fffffffffffffff\n09008000000000000000\n", b"9223372036854775807\n! refused at octet 1: length\n"),
+        ("U", "per", b"0900ffffffffffffffff\n0a\n", b"18446744073709551615\n! refused at bit 7: length\n"),
+        ("U", "oer", b"0900ffffffffffffffff\n0a\n", b"18446744073709551615\n! refused at octet 1: length\n"),
     ):
         ran = run(program, ["show", "--type", name, "--rules", rules, "--module", "wide.asn"], given)
         count.add(ran[:2] == (1, wanted), f"show {name} {rules}: {ran[:3]}")

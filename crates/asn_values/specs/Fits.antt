@@ -11,7 +11,7 @@ use Rattle.asn_values.specs.Shape.{Range, SizeRange, Alphabet, ia5, numeric, vis
 abbrev pub max_len : ℕ
 max_len = 268435455
 
--- the integers of the profile: those of 64 bits in two's complement
+-- the integers of the profile: those of 64 bits, in two's complement or without a sign
 abbrev pub lowest_integer : ℤ
 lowest_integer = negsuc 9223372036854775807
 

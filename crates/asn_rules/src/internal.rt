@@ -13,9 +13,9 @@ pub use crate::octet_length_reader::{
     read_length, read_octets_with_length, read_row, try_length, try_row,
 };
 pub use crate::octet_reader::{
-    numbers, octets_left, read_counted, read_filled, read_octets,
-    read_octets_among, read_signed_octets, read_wide_counted_signed, try_counted_signed,
-    try_octets, try_signed_octets,
+    numbers, octets_left, read_counted, read_filled, read_octets, read_octets_among,
+    read_signed_octets, read_wide_counted_signed, try_counted_signed, try_octets,
+    try_signed_octets,
 };
 pub use crate::octet_strings::{read_characters, read_packed, read_variable};
 pub use crate::octet_writer::{
@@ -24,9 +24,7 @@ pub use crate::octet_writer::{
 };
 pub use crate::readings::{one_reading, readings_answer};
 pub use crate::short_octets::try_short_octets;
-pub use crate::signed_reader::{
-    OffsetSet, read_signed, read_wide_unconstrained,
-};
+pub use crate::signed_reader::{OffsetSet, read_signed, read_wide_unconstrained};
 pub use crate::stop::Stop;
 pub use crate::whole_number_reader::{
     greatest_of_width, power_of_two, read_constrained, read_semi_constrained,

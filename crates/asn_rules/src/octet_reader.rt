@@ -15,8 +15,7 @@ ghost use Rattle.asn_rules.specs.OctetReading.{AtOctet, ReadsOctets, StopsAtOcte
 use crate::fault::Why;
 use crate::number_reader::{NumberSet, read_number, read_number_among, read_up_to, try_in_octets};
 use crate::signed_reader::{
-    OffsetSet, read_signed, read_wide_unconstrained, try_signed,
-    try_unconstrained,
+    OffsetSet, read_signed, read_wide_unconstrained, try_signed, try_unconstrained,
 };
 use crate::stop::Stop;
 use crate::whole_number_reader::{greatest_of_width, greatest_with, least_with};

@@ -89,6 +89,7 @@ fn write_near<S: Sink>(highest: u64, ext: bool, offset: u64, sink: &mut S) -> Re
 }
 
 /// Writes a number, where it is one of the range, whether it lies between two bounds or not.
+#[cold]
 #[inline(never)]
 fn write_far<S: Sink>(bounds: &Bounds, value: i128, sink: &mut S) -> Result<(), Unwritten<S::Fault>>
     requires of_profile { InProfile (integer (range_of bounds.now)) }
@@ -201,6 +202,7 @@ fn read_ranged(
 }
 
 /// Reads an integer between the bounds, but for `excluded`, whether there are two bounds or not.
+#[cold]
 #[inline(never)]
 fn read_far(
     low: Option<i128>,
@@ -240,11 +242,7 @@ fn read_wide_between(
 }
 
 /// Reads an integer from the low bound on, but for `excluded`, where there is no high bound.
-fn read_from(
-    low: i128,
-    excluded: Option<i128>,
-    bits: &mut BitCursor<'_>,
-) -> Result<i128, Stop>
+fn read_from(low: i128, excluded: Option<i128>, bits: &mut BitCursor<'_>) -> Result<i128, Stop>
     requires of_profile { InProfile (integer (unmarked (Some low) None)) }
     requires within { IsWithin (unmarked (Some low) None) excluded }
     requires some { Inhabited (IntegersBut excluded (unmarked (Some low) None)) }

@@ -69,4 +69,3 @@ returns-in_ok-offset-clause-done c =
     let value : c.at_wide_offset.result ≡ c.args.low +ℤ pos n = rw (low_kept c.args.low (Some c.args.high) c.requires.of_profile) at c.at_wide_offset.ensures in
     let same : to_z w128 (of_z w128 (c.args.low +ℤ pos n)) ≡ c.args.low +ℤ pos n = kept (c.args.low +ℤ pos n) whole.spelt.fits.0.0 whole.spelt.fits.0.1 in
     rw (value, same) whole
-

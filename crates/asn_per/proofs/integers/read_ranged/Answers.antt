@@ -47,21 +47,6 @@ wide_offset_from-highest-requires-clause-within_high c =
     let good : InProfile (integer (ranging l (Some h))) = rw (c.in-Some-Some.is-0, c.in-Some-Some.is-1) at c.requires.of_profile in
     rw (high_kept l h good) (high_below_highest l h good)
 
-pub excluded_offset-requires-clause-of_profile : goal.excluded_offset-requires-clause-of_profile
-excluded_offset-requires-clause-of_profile c =
-    let l = c.in-Some-Some.low in
-    let h = c.in-Some-Some.high in
-    let good : InProfile (integer (ranging l (Some h))) = rw (c.in-Some-Some.is-0, c.in-Some-Some.is-1) at c.requires.of_profile in
-    rw (low_kept l (Some h) good, high_kept l h good) good
-
-pub excluded_offset-requires-clause-within : goal.excluded_offset-requires-clause-within
-excluded_offset-requires-clause-within c =
-    let l = c.in-Some-Some.low in
-    let h = c.in-Some-Some.high in
-    let good : InProfile (integer (ranging l (Some h))) = rw (c.in-Some-Some.is-0, c.in-Some-Some.is-1) at c.requires.of_profile in
-    let within : IsWithin (ranging l (Some h)) c.args.excluded = rw (c.in-Some-Some.is-0, c.in-Some-Some.is-1) at c.requires.within in
-    rw (low_kept l (Some h) good, high_kept l h good) within
-
 pub narrow-requires : goal.narrow-requires
 narrow-requires c =
     let l = c.in-Some-Some.low in
@@ -112,8 +97,8 @@ returns-in_err-offset-clause-stop c =
     rw (top, out) at (c.in_err-offset.ensures.stop per_fields) in
     rw (p.1, p.2, c.in-Some-Some.is-0, c.in-Some-Some.is-1) (stops_by _ (constrained_leads l h c.args.excluded good within c.args.bits.now).stops stop)
 
-pub returns-in_ok-offset-clause-done : goal.returns-in_ok-offset-clause-done
-returns-in_ok-offset-clause-done c =
+pub returns-clause-done : goal.returns-clause-done
+returns-clause-done c =
     let l = c.in-Some-Some.low in
     let h = c.in-Some-Some.high in
     let good : InProfile (integer (ranging l (Some h))) = rw (c.in-Some-Some.is-0, c.in-Some-Some.is-1) at c.requires.of_profile in

@@ -58,8 +58,8 @@ returns-in_err-offset-clause-stop c =
     rw (top, out) at (c.in_err-offset.ensures.stop per_fields) in
     rw (p.1, p.2) (stops_by _ (constrained_leads c.args.low c.args.high c.args.excluded c.requires.of_profile c.requires.within c.args.bits.now).stops stop)
 
-pub returns-in_ok-offset-clause-done : goal.returns-in_ok-offset-clause-done
-returns-in_ok-offset-clause-done c =
+pub returns-clause-done : goal.returns-clause-done
+returns-clause-done c =
     let top : c.wide_offset_from.result ≡ above c.args.low c.args.high = rw (low_kept c.args.low (Some c.args.high) c.requires.of_profile, high_kept c.args.low c.args.high c.requires.of_profile) at c.wide_offset_from.ensures.is in
     let out : c.excluded_offset-left_out.result ≡ offset_of c.args.low c.args.excluded = rw (low_kept c.args.low (Some c.args.high) c.requires.of_profile) at c.excluded_offset-left_out.ensures in
     let n = c.in_ok-offset.offset in

@@ -184,8 +184,8 @@ pub(crate) fn put_alone(room: &mut Room, value: &Value) -> Option<usize>
             Some(at)
         }
         Value::Int(number) => {
-            let content = content_of(*number)?;
-            let at = put_slot(room, content)?;
+            let number = of_profile(number)?;
+            let at = put_slot(room, number_content(number))?;
             Some(at)
         }
         Value::Enum(index) => {
@@ -216,14 +216,14 @@ pub(crate) fn put_alone(room: &mut Room, value: &Value) -> Option<usize>
     }
 }
 
-/// What the slot of an integer is of, where it is one of the profile.
-fn content_of(integer: i128) -> Option<Content>
-    ensures { IfSome result (λ c. IsNumberAlone c integer) }
+/// The integer, where it is one of the profile.
+fn of_profile(integer: &i128) -> Option<i128>
+    ensures { IfSome result (λ n. (n ≡ integer.now) × IsOfProfile n) }
 {
-    if integer < LOWEST_INTEGER || integer > HIGHEST_INTEGER {
+    if *integer < LOWEST_INTEGER || *integer > HIGHEST_INTEGER {
         return None;
     }
-    Some(number_content(integer))
+    Some(*integer)
 }
 
 /// What the slot of an integer of the profile is of.

@@ -1,5 +1,5 @@
 //! INTEGER and BOOLEAN (X.691). A reader may exclude one value: a component's DEFAULT, which an encoder leaves out.
-ghost use Rattle.std.specs.Prelude.{◌≡◌, ◌≤◌, ◌≤ℤ◌, ◌++◌, OnOk, IfSome, IsNone, ℕ, suc, Some, None, true, false};
+ghost use Rattle.std.specs.Prelude.{◌≡◌, ◌≤◌, ◌<◌, ◌^◌, ◌≤ℤ◌, ◌++◌, OnOk, IfSome, IsNone, ℕ, suc, Some, None, true, false};
 ghost use Rattle.std.specs.Option.{option_map};
 ghost use Rattle.asn_values.specs.Fits.{FitsNumber, lowest_integer, highest_integer};
 ghost use Rattle.asn_values.specs.Shape.{integer};

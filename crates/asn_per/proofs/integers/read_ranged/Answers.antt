@@ -21,11 +21,6 @@ use Rattle.asn_per.proofs.Types.IntegerRanges.{ranging, low_above_lowest, low_be
 use Rattle.asn_bits.proofs.Above.{kept}
 use Rattle.asn_per.proofs.integers.read_ranged.Goals as goal
 
--- between bounds that lie less than 2 ^ 64 apart, the offset of the integer that is left out is below it too
-few_left_out : (low high : ℤ) (e : Option ℤ) → IsWithin (ranging low (Some high)) e → above low high < 2 ^ 64 → IfSome (offset_of low e) (λ n. n < 2 ^ 64)
-few_left_out low high None w h = tt
-few_left_out low high (Some d) w h = omega (arith, left_out_within low high (Some d) w, h)
-
 pub wide_offset_from-highest-requires-clause-ordered : goal.wide_offset_from-highest-requires-clause-ordered
 wide_offset_from-highest-requires-clause-ordered c =
     let l = c.in-Some-Some.low in
@@ -46,16 +41,6 @@ wide_offset_from-highest-requires-clause-within_high c =
     let h = c.in-Some-Some.high in
     let good : InProfile (integer (ranging l (Some h))) = rw (c.in-Some-Some.is-0, c.in-Some-Some.is-1) at c.requires.of_profile in
     rw (high_kept l h good) (high_below_highest l h good)
-
-pub narrow-requires : goal.narrow-requires
-narrow-requires c =
-    let l = c.in-Some-Some.low in
-    let h = c.in-Some-Some.high in
-    let good : InProfile (integer (ranging l (Some h))) = rw (c.in-Some-Some.is-0, c.in-Some-Some.is-1) at c.requires.of_profile in
-    let within : IsWithin (ranging l (Some h)) c.args.excluded = rw (c.in-Some-Some.is-0, c.in-Some-Some.is-1) at c.requires.within in
-    let top : c.wide_offset_from-highest.result ≡ above l h = rw (low_kept l (Some h) good, high_kept l h good) at c.wide_offset_from-highest.ensures.is in
-    let wide : c.excluded_offset.result ≡ offset_of l c.args.excluded = rw (low_kept l (Some h) good) at c.excluded_offset.ensures in
-    rw wide (few_left_out l h c.args.excluded within (omega (arith, top)))
 
 pub read_constrained-requires : goal.read_constrained-requires
 read_constrained-requires c =
@@ -97,8 +82,8 @@ returns-in_err-offset-clause-stop c =
     rw (top, out) at (c.in_err-offset.ensures.stop per_fields) in
     rw (p.1, p.2, c.in-Some-Some.is-0, c.in-Some-Some.is-1) (stops_by _ (constrained_leads l h c.args.excluded good within c.args.bits.now).stops stop)
 
-pub returns-clause-done : goal.returns-clause-done
-returns-clause-done c =
+pub returns-then-highest-lt-WORD-clause-done : goal.returns-then-highest-lt-WORD-clause-done
+returns-then-highest-lt-WORD-clause-done c =
     let l = c.in-Some-Some.low in
     let h = c.in-Some-Some.high in
     let good : InProfile (integer (ranging l (Some h))) = rw (c.in-Some-Some.is-0, c.in-Some-Some.is-1) at c.requires.of_profile in

@@ -75,9 +75,9 @@ returns-clause-of_type g c =
     let high_stays : to_z w128 (of_z w128 high) ≡ high = kept high (omega (arith, ints, w.0, w.1)) w.2 in
     let same : to_z w128 (of_z w128 z) ≡ z = search rules in
     let top : c.wide_offset_from-highest.result ≡ above low high = rw (low_stays, high_stays) at c.wide_offset_from-highest.ensures.is in
-    let least : low ≤ℤ z = rw (low_stays, same) at (c.offset_or_more-offset.ensures.below (omega arith)) in
+    let least : low ≤ℤ z = rw (low_stays, same) at (c.offset_or_more-offset.ensures.below (omega (arith, c.if-offset-highest.true, c.wide_offset_from-highest.ensures.few))) in
     let near : c.offset_or_more-offset.result ≡ above low z = rw (low_stays, same) at (c.offset_or_more-offset.ensures.above (rw (low_stays, same) least)) in
-    let most : z ≤ℤ high = below_by_offset low high z w.1 least (omega (arith, near, top)) in
+    let most : z ≤ℤ high = below_by_offset low high z w.1 least (omega (arith, near, top, c.if-offset-highest.true)) in
     rw (c.in-Some-Some.is-0, c.in-Some-Some.is-1) (between_fits low high z ext good least most)
 
 pub returns-clause-written : goal.returns-clause-written
@@ -92,9 +92,9 @@ returns-clause-written g c =
     let high_stays : to_z w128 (of_z w128 high) ≡ high = kept high (omega (arith, ints, w.0, w.1)) w.2 in
     let same : to_z w128 (of_z w128 z) ≡ z = search rules in
     let top : c.wide_offset_from-highest.result ≡ above low high = rw (low_stays, high_stays) at c.wide_offset_from-highest.ensures.is in
-    let least : low ≤ℤ z = rw (low_stays, same) at (c.offset_or_more-offset.ensures.below (omega arith)) in
+    let least : low ≤ℤ z = rw (low_stays, same) at (c.offset_or_more-offset.ensures.below (omega (arith, c.if-offset-highest.true, c.wide_offset_from-highest.ensures.few))) in
     let near : c.offset_or_more-offset.result ≡ above low z = rw (low_stays, same) at (c.offset_or_more-offset.ensures.above (rw (low_stays, same) least)) in
-    let most : z ≤ℤ high = below_by_offset low high z w.1 least (omega (arith, near, top)) in
+    let most : z ≤ℤ high = below_by_offset low high z w.1 least (omega (arith, near, top, c.if-offset-highest.true)) in
     let bits =
     ap (λ (h : ℕ). extension_bit ext false ++ constrained (suc h) c.offset_or_more-offset.result) top
     ∙ ap (λ (o : ℕ). extension_bit ext false ++ constrained (suc (above low high)) o) near

@@ -22,19 +22,19 @@ bits_needed m j a h l =
 pub width_below : (r m : ℕ) → r ≤ 2 ^ m → width r ≤ m
 width_below r m h = least_from_below (λ k. nat_le r (2 ^ k)) r 0 m (omega arith) (le-leb r (2 ^ m) h)
 
--- the bits of the highest of r values, counted from 0, are its width
-pub width_counted : (r a : ℕ) → a < 2 ^ 128 → a ≡ r - 1 → 128 - count_leading_zeros 128 a ≡ width r
-width_counted zero a h e =
-    let found = leading_length 128 a h in
+-- the bits of the highest of r values, counted from 0, are its width, in a word of w bits that holds it
+pub width_counted : (w r a : ℕ) → a < 2 ^ w → a ≡ r - 1 → w - count_leading_zeros w a ≡ width r
+width_counted w zero a h e =
+    let found = leading_length w a h in
     let m = found.0 in
-    let c : count_leading_zeros 128 a + m ≡ 128 = found.1 in
+    let c : count_leading_zeros w a + m ≡ w = found.1 in
     let half : 2 ^ m ≤ 2 * a + 1 = found.3 in
     let none : m ≤ 0 = bits_needed m 0 a half (omega (arith, pow-zero 2)) in
     omega arith
-width_counted (suc r) a h e =
-    let found = leading_length 128 a h in
+width_counted w (suc r) a h e =
+    let found = leading_length w a h in
     let m = found.0 in
-    let c : count_leading_zeros 128 a + m ≡ 128 = found.1 in
+    let c : count_leading_zeros w a + m ≡ w = found.1 in
     let fits : a < 2 ^ m = found.2 in
     let half : 2 ^ m ≤ 2 * a + 1 = found.3 in
     let least : width (suc r) ≤ m = width_below (suc r) m (omega arith) in

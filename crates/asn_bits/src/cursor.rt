@@ -165,6 +165,7 @@ impl<'a> BitCursor<'a> {
     }
 
     // the same, where the bits do not all stand in the first eight octets
+    #[cold]
     #[inline(never)]
     fn peek_across(&self, k: u32) -> Option<u64>
         requires { k ≤ 64 }

@@ -1,5 +1,5 @@
 //! How many bits and octets a number needs.
-ghost use Rattle.std.specs.Prelude.{◌≡◌, ℕ, pos, ◌-◌, ◌*◌, ◌^◌, ◌<◌, ◌≤◌, ◌≤ℤ◌, ◌<ℤ◌, ◌++◌};
+ghost use Rattle.std.specs.Prelude.{◌≡◌, ℕ, pos, ◌+◌, ◌-◌, ◌*◌, ◌^◌, ◌<◌, ◌≤◌, ◌≤ℤ◌, ◌<ℤ◌, ◌++◌};
 ghost use Rattle.asn_values.specs.Fits.{lowest_integer, highest_integer};
 ghost use Rattle.asn_bits.specs.Lengths.{general_octets};
 ghost use Rattle.asn_bits.specs.Numbers.{bits, least, least_signed, octet_count, width, octets, signed_octets, signed_octet_count, most_signed_octets, magnitude};
@@ -15,6 +15,14 @@ pub fn width(values: u128) -> u32
     ensures wide { values ≤ 2 ^ 72 → result ≤ 72 }
 {
     128 - values.saturating_sub(1).leading_zeros()
+}
+
+/// How many bits tell the numbers from 0 to `highest` apart (X.691, "constrained whole number").
+pub fn width_up_to(highest: u64) -> u32
+    ensures width { result ≡ width (highest + 1) }
+    ensures few { result ≤ 64 }
+{
+    64 - highest.leading_zeros()
 }
 
 /// How many octets `n` needs, at least one (X.691, "semi-constrained whole number").

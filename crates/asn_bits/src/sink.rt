@@ -107,6 +107,7 @@ impl BitSink {
     }
 
     /// Adds `n` in `k` bits, the highest first. An `Err` is out of memory, and then nothing has changed.
+    #[inline(always)]
     pub fn push_number(&mut self, k: u32, n: u64) -> Result<(), AllocError>
         requires few { k ≤ 64 }
         requires fits { n < 2 ^ k }

@@ -62,7 +62,7 @@ the_greatest_bound_of_the_profile_has_eight_octets :
     ≡ hex "7F FF FF FF FF FF FF FF"
 the_greatest_bound_of_the_profile_has_eight_octets = refl
 
--- 2^64 - 1, past the integers of the profile
+-- 2^64 - 1, the highest integer of the profile
 a_bound_of_64_bits_has_eight_octets :
     oer_octets (integer (between (pos 0) (pos 18446744073709551615))) (number (pos 18446744073709551615))
     ≡ hex "FF FF FF FF FF FF FF FF"
@@ -152,7 +152,7 @@ sixty_four_signed_bits_have_eight_octets_greatest :
     ≡ hex "7F FF FF FF FF FF FF FF"
 sixty_four_signed_bits_have_eight_octets_greatest = refl
 
--- INTEGER (-2^63..2^64-1), past the integers of the profile
+-- INTEGER (-2^63..2^64-1), all integers of the profile
 more_than_64_signed_bits_have_a_length_least :
     oer_octets (integer (between (negsuc 9223372036854775807) (pos 18446744073709551615)))
     (number (negsuc 9223372036854775807))
@@ -190,7 +190,7 @@ from_zero_greatest_of_the_profile :
     oer_octets (integer (number_from (pos 0))) (number (pos 9223372036854775807)) ≡ hex "08 7F FF FF FF FF FF FF FF"
 from_zero_greatest_of_the_profile = refl
 
--- 2^64 - 1, past the integers of the profile
+-- 2^64 - 1, the highest integer of the profile
 from_zero_greatest_of_64_bits :
     oer_octets (integer (number_from (pos 0))) (number (pos 18446744073709551615)) ≡ hex "08 FF FF FF FF FF FF FF FF"
 from_zero_greatest_of_64_bits = refl
@@ -206,7 +206,7 @@ from_a_negative_bound_with_a_sign_bit :
     oer_octets (integer (number_from (negsuc 4))) (number (pos 128)) ≡ hex "02 00 80"
 from_a_negative_bound_with_a_sign_bit = refl
 
--- INTEGER (-9223372036854775808..MAX): 2^64 - 1, past the integers of the profile
+-- INTEGER (-9223372036854775808..MAX): 2^64 - 1, the highest integer of the profile
 from_the_least_integer :
     oer_octets (integer (number_from (negsuc 9223372036854775807))) (number (pos 18446744073709551615))
     ≡ hex "09 00 FF FF FF FF FF FF FF FF"
@@ -248,12 +248,12 @@ the_greatest_integer :
     oer_octets (integer any_number) (number (pos 9223372036854775807)) ≡ hex "08 7F FF FF FF FF FF FF FF"
 the_greatest_integer = refl
 
--- past the integers of the profile
+-- past the integers of 64 bits with a sign
 2_to_the_63_has_nine_octets :
     oer_octets (integer any_number) (number (pos 9223372036854775808)) ≡ hex "09 00 80 00 00 00 00 00 00 00"
 2_to_the_63_has_nine_octets = refl
 
--- 2^64 - 1, past the integers of the profile
+-- 2^64 - 1, the highest integer of the profile
 the_greatest_of_64_bits_has_nine_octets :
     oer_octets (integer any_number) (number (pos 18446744073709551615)) ≡ hex "09 00 FF FF FF FF FF FF FF FF"
 the_greatest_of_64_bits_has_nine_octets = refl

@@ -86,13 +86,13 @@ all_integers_of_64_bits_greatest :
     ≡ hex "FF FF FF FF FF FF FF FF"
 all_integers_of_64_bits_greatest = refl
 
--- 64 bits of 1, past the integers of the profile
+-- 64 bits of 1: the highest integer of the profile
 all_unsigned_integers_of_64_bits_greatest :
     per_octets (integer (between (pos 0) (pos 18446744073709551615))) (number (pos 18446744073709551615))
     ≡ hex "FF FF FF FF FF FF FF FF"
 all_unsigned_integers_of_64_bits_greatest = refl
 
--- INTEGER (-2^63..2^64-1), past the integers of the profile: 65 bits of 0
+-- INTEGER (-2^63..2^64-1), all integers of the profile: 65 bits of 0
 a_range_of_65_bits_least :
     per_octets (integer (between (negsuc 9223372036854775807) (pos 18446744073709551615)))
     (number (negsuc 9223372036854775807))
@@ -146,7 +146,7 @@ from_zero_greatest_of_the_profile :
     per_octets (integer (number_from (pos 0))) (number (pos 9223372036854775807)) ≡ hex "08 7F FF FF FF FF FF FF FF"
 from_zero_greatest_of_the_profile = refl
 
--- 2^64 - 1, past the integers of the profile
+-- 2^64 - 1, the highest integer of the profile
 from_zero_greatest_of_64_bits :
     per_octets (integer (number_from (pos 0))) (number (pos 18446744073709551615)) ≡ hex "08 FF FF FF FF FF FF FF FF"
 from_zero_greatest_of_64_bits = refl
@@ -211,12 +211,12 @@ the_greatest_integer :
     per_octets (integer any_number) (number (pos 9223372036854775807)) ≡ hex "08 7F FF FF FF FF FF FF FF"
 the_greatest_integer = refl
 
--- past the integers of the profile
+-- past the integers of 64 bits with a sign
 2_to_the_63_has_nine_octets :
     per_octets (integer any_number) (number (pos 9223372036854775808)) ≡ hex "09 00 80 00 00 00 00 00 00 00"
 2_to_the_63_has_nine_octets = refl
 
--- 2^64 - 1, past the integers of the profile
+-- 2^64 - 1, the highest integer of the profile
 the_greatest_of_64_bits_has_nine_octets :
     per_octets (integer any_number) (number (pos 18446744073709551615)) ≡ hex "09 00 FF FF FF FF FF FF FF FF"
 the_greatest_of_64_bits_has_nine_octets = refl

@@ -22,9 +22,9 @@ ghost use Rattle.asn_per.specs.Reading.{Reads, StopsIn, IntegersBut, IntegersBet
 use crate::indexes::read_extension_bit;
 use crate::sizes::write_extension_bit;
 use asn_bits::BitCursor;
-use asn_bits::internal::{at_offset, at_wide_offset, wide_offset_from, width};
+use asn_bits::internal::{at_offset, at_wide_offset, wide_offset_from, width, width_up_to};
 use asn_rules::internal::{
-    NumberSet, OffsetSet, Stop, offsets_of, read_constrained, read_wide_constrained,
+    NumberSet, OffsetSet, Stop, narrow, offsets_of, read_constrained, read_wide_constrained,
     read_wide_semi_constrained, read_wide_unconstrained, try_number, write_wide_least,
     write_wide_number,
 };
@@ -49,30 +49,26 @@ pub(crate) fn write_integer<S: Sink>(
     ensures written { OnOk result (S.pushes sink.old sink.new
         (per_bits (integer (range_of bounds.now)) (number value))) }
 {
-    if let (Some(low), Some(high)) = (bounds.low, bounds.high)
-        && let Some(offset) = near_offset(low, value)
-        && let Some(highest) = near_offset(low, high)
-        && offset <= highest
-    {
-        write_near(highest, bounds.ext, offset, sink)?;
-        return Ok(());
+    if let (Some(low), Some(high)) = (bounds.low, bounds.high) {
+        let highest = wide_offset_from(low, high);
+        let offset = offset_or_more(low, value);
+        if highest < WORD && offset <= highest {
+            write_near(highest as u64, bounds.ext, offset as u64, sink)?;
+            return Ok(());
+        }
     }
     write_far(bounds, value, sink)
 }
 
-/// How far `n` lies above `low`, where that is less than 2^64.
+/// How far `n` lies above `low`, and more than any two integers of the profile lie apart where it lies below it.
 #[inline(always)]
-fn near_offset(low: i128, n: i128) -> Option<u64>
+fn offset_or_more(low: i128, n: i128) -> u128
     requires within_low { lowest_integer ≤ℤ low }
     requires within_high { low ≤ℤ highest_integer }
-    ensures { IfSome result (λ w. (low ≤ℤ n) × (w ≡ above low n)) }
+    ensures above { low ≤ℤ n → result ≡ above low n }
+    ensures below { result < 2 ^ 65 → low ≤ℤ n }
 {
-    let offset = n.wrapping_sub(low).cast_unsigned();
-    if offset < WORD {
-        Some(offset as u64)
-    } else {
-        None
-    }
+    n.wrapping_sub(low).cast_unsigned()
 }
 
 /// Writes a number from 0 to `highest` as a constrained whole number, after an extension bit 0 where there is one.
@@ -82,7 +78,7 @@ fn write_near<S: Sink>(highest: u64, ext: bool, offset: u64, sink: &mut S) -> Re
     ensures { OnOk result (S.pushes sink.old sink.new
         (extension_bit ext false ++ constrained (suc highest) offset)) }
 {
-    let count = width(u128::from(highest) + 1);
+    let count = width_up_to(highest);
     if ext {
         if count < 64 {
             return sink.push_number(1 + count, offset);
@@ -93,6 +89,7 @@ fn write_near<S: Sink>(highest: u64, ext: bool, offset: u64, sink: &mut S) -> Re
 }
 
 /// Writes a number, where it is one of the range, whether it lies between two bounds or not.
+#[cold]
 #[inline(never)]
 fn write_far<S: Sink>(bounds: &Bounds, value: i128, sink: &mut S) -> Result<(), Unwritten<S::Fault>>
     requires of_profile { InProfile (integer (range_of bounds.now)) }
@@ -193,38 +190,69 @@ fn read_ranged(
     ensures done { Reads result number (IntegersBut excluded (unmarked low high)) bits.old bits.new }
     ensures stop { StopsIn result (IntegersBut excluded (unmarked low high)) bits.old }
 {
-    match low {
-        Some(low) => read_from_low(low, high, excluded, bits),
-        None => read_up_to_high(high, excluded, bits),
+    if let (Some(low), Some(high)) = (low, high) {
+        let highest = wide_offset_from(low, high);
+        if highest < WORD {
+            let left_out = narrow(excluded_offset(low, Some(high), excluded));
+            let offset = read_constrained(highest as u64, left_out, bits)?;
+            return Ok(at_offset(low, offset));
+        }
     }
+    read_far(low, high, excluded, bits)
 }
 
-/// Reads an integer from the low bound on, but for `excluded`.
-#[inline(always)]
-fn read_from_low(
-    low: i128,
+/// Reads an integer between the bounds, but for `excluded`, whether there are two bounds or not.
+#[cold]
+#[inline(never)]
+fn read_far(
+    low: Option<i128>,
     high: Option<i128>,
     excluded: Option<i128>,
     bits: &mut BitCursor<'_>,
 ) -> Result<i128, Stop>
-    requires of_profile { InProfile (integer (unmarked (Some low) high)) }
-    requires within { IsWithin (unmarked (Some low) high) excluded }
-    requires some { Inhabited (IntegersBut excluded (unmarked (Some low) high)) }
-    ensures done { Reads result number (IntegersBut excluded (unmarked (Some low) high)) bits.old bits.new }
-    ensures stop { StopsIn result (IntegersBut excluded (unmarked (Some low) high)) bits.old }
+    requires of_profile { InProfile (integer (unmarked low high)) }
+    requires within { IsWithin (unmarked low high) excluded }
+    requires some { Inhabited (IntegersBut excluded (unmarked low high)) }
+    ensures done { Reads result number (IntegersBut excluded (unmarked low high)) bits.old bits.new }
+    ensures stop { StopsIn result (IntegersBut excluded (unmarked low high)) bits.old }
 {
-    let left_out = excluded_offset(low, high, excluded);
-    match high {
-        Some(high) => {
-            let offset = read_wide_constrained(wide_offset_from(low, high), left_out, bits)?;
-            Ok(at_wide_offset(low, offset))
-        }
-        None => {
-            let highest = wide_offset_from(low, HIGHEST_INTEGER);
-            let offset = read_wide_semi_constrained(highest, left_out, bits)?;
-            Ok(at_wide_offset(low, offset))
-        }
+    match (low, high) {
+        (Some(low), Some(high)) => read_wide_between(low, high, excluded, bits),
+        (Some(low), None) => read_from(low, excluded, bits),
+        (None, _) => read_up_to_high(high, excluded, bits),
     }
+}
+
+/// Reads an integer between two bounds, but for `excluded`. How far it lies above the low one may have more than 64 bits.
+fn read_wide_between(
+    low: i128,
+    high: i128,
+    excluded: Option<i128>,
+    bits: &mut BitCursor<'_>,
+) -> Result<i128, Stop>
+    requires of_profile { InProfile (integer (unmarked (Some low) (Some high))) }
+    requires within { IsWithin (unmarked (Some low) (Some high)) excluded }
+    requires some { Inhabited (IntegersBut excluded (unmarked (Some low) (Some high))) }
+    ensures done { Reads result number (IntegersBut excluded (unmarked (Some low) (Some high))) bits.old bits.new }
+    ensures stop { StopsIn result (IntegersBut excluded (unmarked (Some low) (Some high))) bits.old }
+{
+    let left_out = excluded_offset(low, Some(high), excluded);
+    let offset = read_wide_constrained(wide_offset_from(low, high), left_out, bits)?;
+    Ok(at_wide_offset(low, offset))
+}
+
+/// Reads an integer from the low bound on, but for `excluded`, where there is no high bound.
+fn read_from(low: i128, excluded: Option<i128>, bits: &mut BitCursor<'_>) -> Result<i128, Stop>
+    requires of_profile { InProfile (integer (unmarked (Some low) None)) }
+    requires within { IsWithin (unmarked (Some low) None) excluded }
+    requires some { Inhabited (IntegersBut excluded (unmarked (Some low) None)) }
+    ensures done { Reads result number (IntegersBut excluded (unmarked (Some low) None)) bits.old bits.new }
+    ensures stop { StopsIn result (IntegersBut excluded (unmarked (Some low) None)) bits.old }
+{
+    let left_out = excluded_offset(low, None, excluded);
+    let highest = wide_offset_from(low, HIGHEST_INTEGER);
+    let offset = read_wide_semi_constrained(highest, left_out, bits)?;
+    Ok(at_wide_offset(low, offset))
 }
 
 /// Fast path: an integer between these bounds, if its bits are present, 64 at most, and in range; otherwise consumes
@@ -236,13 +264,17 @@ pub(crate) fn try_constrained(low: i128, high: i128, bits: &mut BitCursor<'_>) -
     ensures of_integers { IfSome result IsOfProfile }
     ensures none { IsNone result → bits.new ≡ bits.old }
 {
-    let highest = near_offset(low, high)?;
+    let highest = wide_offset_from(low, high);
+    if highest >= WORD {
+        return None;
+    }
+    let highest = highest as u64;
     let set = NumberSet {
         low: 0,
         high: highest,
         excluded: None,
     };
-    let offset = try_number(width(u128::from(highest) + 1), set, bits)?;
+    let offset = try_number(width_up_to(highest), set, bits)?;
     Some(at_offset(low, offset))
 }
 

@@ -102,6 +102,19 @@ impl ReadLeaves for Per {
         true
     }
 
+    #[inline(always)]
+    fn try_simple(_alloc: Global, ty: &AsnType, units: &mut BitCursor<'_>) -> Option<Value> {
+        let AsnType::Int(bounds) = ty else {
+            return None;
+        };
+        match (bounds.low, bounds.high) {
+            (Some(low), Some(high)) if !bounds.ext => {
+                Some(Value::Int(try_constrained(low, high, units)?))
+            }
+            _ => None,
+        }
+    }
+
     fn read_other(ty: &AsnType, default: &Value, units: &mut BitCursor<'_>) -> Result<Value, Stop> {
         match (ty, default) {
             (AsnType::Bool, Value::Bool(truth)) => {

@@ -27,6 +27,6 @@ pub use crate::short_octets::try_short_octets;
 pub use crate::signed_reader::{OffsetSet, read_signed, read_wide_unconstrained};
 pub use crate::stop::Stop;
 pub use crate::whole_number_reader::{
-    greatest_of_width, power_of_two, read_constrained, read_semi_constrained,
+    greatest_of_width, narrow, power_of_two, read_constrained, read_semi_constrained,
     read_wide_constrained, read_wide_semi_constrained,
 };

@@ -10,7 +10,7 @@ use crate::fault::Why;
 use crate::number_reader::{NumberSet, intervals_between, read_number, read_number_among};
 use crate::stop::Stop;
 use asn_bits::BitCursor;
-use asn_bits::internal::{octet_count, wide_octet_count, width};
+use asn_bits::internal::{octet_count, wide_octet_count, width, width_up_to};
 
 /// One more than the highest number of 64 bits.
 const WORD: u128 = 1 << 64;
@@ -38,7 +38,7 @@ pub fn read_constrained(
         excluded,
     };
     let why = Why::in_number(excluded.is_some());
-    read_number(width(u128::from(high) + 1), set, why, bits)
+    read_number(width_up_to(high), set, why, bits)
 }
 
 /// Reads a number from 0 to `high`, but for `excluded`, in the fewest octets after their count in an octet (X.691,
@@ -148,6 +148,8 @@ fn read_wide_counted(
 ///
 /// # Errors
 /// As `read_number`.
+#[cold]
+#[inline(never)]
 fn read_wide_number(
     k: u32,
     low: u128,
@@ -165,8 +167,8 @@ fn read_wide_number(
     read_number_among(k, intervals_between(low, high, excluded), why, bits)
 }
 
-/// A number of 64 bits, where there is one.
-fn narrow(number: Option<u128>) -> Option<u64>
+/// The same number, of 64 bits, where there is one.
+pub fn narrow(number: Option<u128>) -> Option<u64>
     requires { IfSome number (λ n. n < 2 ^ 64) }
     ensures { result ≡ number }
 {

@@ -12,8 +12,19 @@ use Rattle.asn_per.specs.Per.{constrained}
 use Rattle.asn_per.proofs.Write.BetweenBounds.{bounds_within, below_by_offset, bits_between, between_fits}
 use Rattle.asn_per.proofs.integers.write_integer.Goals as goal
 
-pub near_offset-requires-clause-within_low : goal.near_offset-requires-clause-within_low
-near_offset-requires-clause-within_low g c =
+pub wide_offset_from-highest-requires-clause-ordered : goal.wide_offset_from-highest-requires-clause-ordered
+wide_offset_from-highest-requires-clause-ordered g c =
+    let low = c.in-Some-Some.low in
+    let high = c.in-Some-Some.high in
+    let ext = c.args.bounds.now.ext in
+    let good : InProfile (integer (between low high ext)) = rw (c.in-Some-Some.is-0, c.in-Some-Some.is-1) at c.requires.of_profile in
+    let w = bounds_within low high ext good in
+    let low_stays : to_z w128 (of_z w128 low) ≡ low = kept low w.0 (omega (arith, ints, w.1, w.2)) in
+    let high_stays : to_z w128 (of_z w128 high) ≡ high = kept high (omega (arith, ints, w.0, w.1)) w.2 in
+    rw (low_stays, high_stays) w.1
+
+pub wide_offset_from-highest-requires-clause-within_low : goal.wide_offset_from-highest-requires-clause-within_low
+wide_offset_from-highest-requires-clause-within_low g c =
     let low = c.in-Some-Some.low in
     let high = c.in-Some-Some.high in
     let ext = c.args.bounds.now.ext in
@@ -22,18 +33,18 @@ near_offset-requires-clause-within_low g c =
     let low_stays : to_z w128 (of_z w128 low) ≡ low = kept low w.0 (omega (arith, ints, w.1, w.2)) in
     rw low_stays w.0
 
-pub near_offset-requires-clause-within_high : goal.near_offset-requires-clause-within_high
-near_offset-requires-clause-within_high g c =
+pub wide_offset_from-highest-requires-clause-within_high : goal.wide_offset_from-highest-requires-clause-within_high
+wide_offset_from-highest-requires-clause-within_high g c =
     let low = c.in-Some-Some.low in
     let high = c.in-Some-Some.high in
     let ext = c.args.bounds.now.ext in
     let good : InProfile (integer (between low high ext)) = rw (c.in-Some-Some.is-0, c.in-Some-Some.is-1) at c.requires.of_profile in
     let w = bounds_within low high ext good in
-    let low_stays : to_z w128 (of_z w128 low) ≡ low = kept low w.0 (omega (arith, ints, w.1, w.2)) in
-    rw low_stays (omega (arith, ints, w.1, w.2))
+    let high_stays : to_z w128 (of_z w128 high) ≡ high = kept high (omega (arith, ints, w.0, w.1)) w.2 in
+    rw high_stays w.2
 
-pub near_offset-requires-2-clause-within_low : goal.near_offset-requires-2-clause-within_low
-near_offset-requires-2-clause-within_low g c =
+pub offset_or_more-offset-requires-clause-within_low : goal.offset_or_more-offset-requires-clause-within_low
+offset_or_more-offset-requires-clause-within_low g c =
     let low = c.in-Some-Some.low in
     let high = c.in-Some-Some.high in
     let ext = c.args.bounds.now.ext in
@@ -42,8 +53,8 @@ near_offset-requires-2-clause-within_low g c =
     let low_stays : to_z w128 (of_z w128 low) ≡ low = kept low w.0 (omega (arith, ints, w.1, w.2)) in
     rw low_stays w.0
 
-pub near_offset-requires-2-clause-within_high : goal.near_offset-requires-2-clause-within_high
-near_offset-requires-2-clause-within_high g c =
+pub offset_or_more-offset-requires-clause-within_high : goal.offset_or_more-offset-requires-clause-within_high
+offset_or_more-offset-requires-clause-within_high g c =
     let low = c.in-Some-Some.low in
     let high = c.in-Some-Some.high in
     let ext = c.args.bounds.now.ext in
@@ -57,33 +68,35 @@ returns-clause-of_type g c =
     let low = c.in-Some-Some.low in
     let high = c.in-Some-Some.high in
     let ext = c.args.bounds.now.ext in
-    let z = c.args.value in
     let good : InProfile (integer (between low high ext)) = rw (c.in-Some-Some.is-0, c.in-Some-Some.is-1) at c.requires.of_profile in
+    let z = c.args.value in
     let w = bounds_within low high ext good in
     let low_stays : to_z w128 (of_z w128 low) ≡ low = kept low w.0 (omega (arith, ints, w.1, w.2)) in
     let high_stays : to_z w128 (of_z w128 high) ≡ high = kept high (omega (arith, ints, w.0, w.1)) w.2 in
     let same : to_z w128 (of_z w128 z) ≡ z = search rules in
-    let near : (low ≤ℤ z) × (c.in-Some.offset ≡ above low z) = rw (low_stays, same) at c.in-Some.ensures in
-    let top : (low ≤ℤ high) × (c.in-Some-near_offset.highest ≡ above low high) = rw (low_stays, high_stays) at c.in-Some-near_offset.ensures in
-    let most : z ≤ℤ high = below_by_offset low high z w.1 near.0 (omega (arith, near.1, top.1, c.if-offset-highest.true)) in
-    rw (c.in-Some-Some.is-0, c.in-Some-Some.is-1) (between_fits low high z ext good near.0 most)
+    let top : c.wide_offset_from-highest.result ≡ above low high = rw (low_stays, high_stays) at c.wide_offset_from-highest.ensures.is in
+    let least : low ≤ℤ z = rw (low_stays, same) at (c.offset_or_more-offset.ensures.below (omega arith)) in
+    let near : c.offset_or_more-offset.result ≡ above low z = rw (low_stays, same) at (c.offset_or_more-offset.ensures.above (rw (low_stays, same) least)) in
+    let most : z ≤ℤ high = below_by_offset low high z w.1 least (omega (arith, near, top)) in
+    rw (c.in-Some-Some.is-0, c.in-Some-Some.is-1) (between_fits low high z ext good least most)
 
 pub returns-clause-written : goal.returns-clause-written
 returns-clause-written g c =
     let low = c.in-Some-Some.low in
     let high = c.in-Some-Some.high in
     let ext = c.args.bounds.now.ext in
-    let z = c.args.value in
     let good : InProfile (integer (between low high ext)) = rw (c.in-Some-Some.is-0, c.in-Some-Some.is-1) at c.requires.of_profile in
+    let z = c.args.value in
     let w = bounds_within low high ext good in
     let low_stays : to_z w128 (of_z w128 low) ≡ low = kept low w.0 (omega (arith, ints, w.1, w.2)) in
     let high_stays : to_z w128 (of_z w128 high) ≡ high = kept high (omega (arith, ints, w.0, w.1)) w.2 in
     let same : to_z w128 (of_z w128 z) ≡ z = search rules in
-    let near : (low ≤ℤ z) × (c.in-Some.offset ≡ above low z) = rw (low_stays, same) at c.in-Some.ensures in
-    let top : (low ≤ℤ high) × (c.in-Some-near_offset.highest ≡ above low high) = rw (low_stays, high_stays) at c.in-Some-near_offset.ensures in
-    let most : z ≤ℤ high = below_by_offset low high z w.1 near.0 (omega (arith, near.1, top.1, c.if-offset-highest.true)) in
+    let top : c.wide_offset_from-highest.result ≡ above low high = rw (low_stays, high_stays) at c.wide_offset_from-highest.ensures.is in
+    let least : low ≤ℤ z = rw (low_stays, same) at (c.offset_or_more-offset.ensures.below (omega arith)) in
+    let near : c.offset_or_more-offset.result ≡ above low z = rw (low_stays, same) at (c.offset_or_more-offset.ensures.above (rw (low_stays, same) least)) in
+    let most : z ≤ℤ high = below_by_offset low high z w.1 least (omega (arith, near, top)) in
     let bits =
-    ap (λ (h : ℕ). extension_bit ext false ++ constrained (suc h) c.in-Some.offset) top.1
-    ∙ ap (λ (o : ℕ). extension_bit ext false ++ constrained (suc (above low high)) o) near.1
-    ∙ bits_between low high z ext good near.0 most in
+    ap (λ (h : ℕ). extension_bit ext false ++ constrained (suc h) c.offset_or_more-offset.result) top
+    ∙ ap (λ (o : ℕ). extension_bit ext false ++ constrained (suc (above low high)) o) near
+    ∙ bits_between low high z ext good least most in
     rw (c.in-Some-Some.is-0, c.in-Some-Some.is-1) (pushed_same g.S.Sink.pushes c.args.sink.now c.write_near.new.sink bits c.in_ok-write_near.ensures)

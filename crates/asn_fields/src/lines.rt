@@ -103,6 +103,7 @@ fn said(alloc: Global, field: &MessageField) -> Result<String, AllocError> {
 }
 
 /// A text, its control characters as a backslash, an x and their numbers in hexadecimal, so that it stays on its line.
+#[derive(Clone, Copy)]
 struct Visible<'t>(&'t str);
 
 impl fmt::Display for Visible<'_> {

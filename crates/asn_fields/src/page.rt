@@ -235,6 +235,7 @@ fn push_paragraph(page: &mut String, words: &str) -> Result<(), AllocError> {
 }
 
 /// A text as HTML has it: `&`, `<`, `>` and `"` by their names.
+#[derive(Clone, Copy)]
 struct Escaped<'t>(&'t str);
 
 impl fmt::Display for Escaped<'_> {

@@ -32,7 +32,7 @@ impl MessageFields {
             columns.push(&mut text, cells.row(field).as_slice())?;
         }
         if let Err(fault) = &self.answer {
-            write!(text, "{}\n", fault.counted_in(self.unit))?;
+            writeln!(text, "{}", fault.counted_in(self.unit))?;
         }
         Ok(text)
     }

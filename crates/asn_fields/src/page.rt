@@ -226,12 +226,12 @@ fn push_heading(page: &mut String, heading: &str) -> Result<(), AllocError> {
     if heading.is_empty() {
         return Ok(());
     }
-    write!(page, "<h2>{}</h2>\n", Escaped(heading))
+    writeln!(page, "<h2>{}</h2>", Escaped(heading))
 }
 
 /// Adds a paragraph on what is refused.
 fn push_paragraph(page: &mut String, words: &str) -> Result<(), AllocError> {
-    write!(page, "<p class=\"fault\">{}</p>\n", Escaped(words))
+    writeln!(page, "<p class=\"fault\">{}</p>", Escaped(words))
 }
 
 /// A text as HTML has it: `&`, `<`, `>` and `"` by their names.

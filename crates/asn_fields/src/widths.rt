@@ -43,7 +43,7 @@ pub fn outline(alloc: Global, name: &str, ty: &Checked) -> Result<String, AllocE
     push_type(alloc, &mut lines, 0, name, "", ty.get())?;
     let mut text = lines_of(alloc, lines.as_slice())?;
     let octets = sizes(ty).per_bits.in_octets();
-    write!(text, "a message in PER has {octets} octets\n")?;
+    writeln!(text, "a message in PER has {octets} octets")?;
     Ok(text)
 }
 

@@ -1,6 +1,7 @@
 //! How many units the encodings of the values of a type have, least and most.
 
 use asn_values::profile::{HIGHEST_INTEGER, LOWEST_INTEGER};
+use std::fmt;
 
 /// A least and a greatest number of units.
 #[derive(Clone, Copy, Debug, PartialEq, Eq)]
@@ -77,6 +78,18 @@ impl Extent {
                 Some(bits) => Some(filled(bits)),
                 None => None,
             },
+        }
+    }
+}
+
+/// From the least to the greatest number; one number where they are the same.
+impl fmt::Display for Extent {
+    fn fmt<W: fmt::Write>(&self, f: &mut fmt::Formatter<W>) -> fmt::Result {
+        let least = self.least;
+        match self.greatest {
+            Some(greatest) if greatest == least => write!(f, "{least}"),
+            Some(greatest) => write!(f, "{least}..{greatest}"),
+            None => write!(f, "{least}.."),
         }
     }
 }

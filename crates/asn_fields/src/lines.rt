@@ -3,9 +3,11 @@
 use crate::field::{FieldKind, MessageField};
 use crate::message::MessageFields;
 use crate::table::Columns;
-use crate::units_text::{marked_octets, push_hex};
-use asn_rules::{DecodeFault, Unit};
+use crate::units_text::marked_octets;
+use asn_rules::Unit;
 use std::alloc::{AllocError, Global};
+use std::fmt;
+use std::fmt::Write;
 
 /// How wide the columns are at least, in characters: the units, the octets, the path and the type.
 const WIDTHS: [usize; 4] = [11, 24, 28, 28];
@@ -20,42 +22,62 @@ impl MessageFields {
     pub fn lines(&self, alloc: Global, octets: &[u8]) -> Result<String, AllocError> {
         let mut columns = Columns::new(alloc, WIDTHS.as_slice())?;
         for field in &self.fields {
-            let row = row_of_field(alloc, self.unit, field, octets)?;
-            columns.fit(row.as_slice());
+            let cells = Cells::of(alloc, self.unit, field, octets)?;
+            columns.fit(cells.row(field).as_slice());
         }
         // (a line is made twice, since the fields may be many)
         let mut text = String::new(alloc);
         for field in &self.fields {
-            let row = row_of_field(alloc, self.unit, field, octets)?;
-            columns.push(&mut text, row.as_slice())?;
+            let cells = Cells::of(alloc, self.unit, field, octets)?;
+            columns.push(&mut text, cells.row(field).as_slice())?;
         }
         if let Err(fault) = &self.answer {
-            push_fault(alloc, &mut text, self.unit, fault)?;
+            writeln!(text, "{}", fault.counted_in(self.unit))?;
         }
         Ok(text)
     }
 }
 
-/// The cells of the line of a field.
-fn row_of_field(
-    alloc: Global,
-    unit: Unit,
-    field: &MessageField,
-    octets: &[u8],
-) -> Result<Vec<String>, AllocError> {
-    let mut said = String::new(alloc);
-    push_said(&mut said, field)?;
-    let mut row = Vec::new(alloc);
-    row.push(units_text(alloc, field)?)?;
-    row.push(marked_octets(alloc, unit, field, octets)?)?;
-    row.push(String::from_str(alloc, field.path.as_str())?)?;
-    row.push(String::from_str(alloc, field.ty.as_str())?)?;
-    row.push(said)?;
-    Ok(row)
+/// The cells of the line of a field that are no texts of the field itself.
+#[derive(Drop)]
+pub(crate) struct Cells {
+    units: String,
+    marked: String,
+    said: String,
+}
+
+impl Cells {
+    /// The cells of this field. The octets are those of the fields.
+    ///
+    /// # Errors
+    /// `AllocError` where an allocation failed.
+    pub(crate) fn of(
+        alloc: Global,
+        unit: Unit,
+        field: &MessageField,
+        octets: &[u8],
+    ) -> Result<Cells, AllocError> {
+        Ok(Cells {
+            units: units_text(alloc, field)?,
+            marked: marked_octets(alloc, unit, field, octets)?,
+            said: said(alloc, field)?,
+        })
+    }
+
+    /// All cells of the line: the units, the octets, the path, the type, and what it is and says.
+    pub(crate) fn row<'c>(&'c self, field: &'c MessageField) -> [&'c str; 5] {
+        [
+            self.units.as_str(),
+            self.marked.as_str(),
+            field.path.as_str(),
+            field.ty.as_str(),
+            self.said.as_str(),
+        ]
+    }
 }
 
 /// The first and the last unit of a field: one number where it has one unit, a hyphen where it has none.
-pub(crate) fn units_text(alloc: Global, field: &MessageField) -> Result<String, AllocError> {
+fn units_text(alloc: Global, field: &MessageField) -> Result<String, AllocError> {
     if field.is_empty() {
         return String::from_str(alloc, "-");
     }
@@ -67,41 +89,31 @@ pub(crate) fn units_text(alloc: Global, field: &MessageField) -> Result<String, 
     format!(in alloc; "{first}-{last}")
 }
 
-/// Adds what a field is, and what it says: of contents the value alone.
-pub(crate) fn push_said(text: &mut String, field: &MessageField) -> Result<(), AllocError> {
+/// What a field is, and what it says: of contents the value alone.
+fn said(alloc: Global, field: &MessageField) -> Result<String, AllocError> {
+    let name = field.kind.name();
+    let text = Visible(field.text.as_str());
     if field.kind == FieldKind::Contents {
-        return push_visible(text, field.text.as_str());
+        format!(in alloc; "{text}")
+    } else if field.text.is_empty() {
+        String::from_str(alloc, name)
+    } else {
+        format!(in alloc; "{name} {text}")
     }
-    text.push_str(field.kind.name())?;
-    if !field.text.is_empty() {
-        text.push_str(" ")?;
-        push_visible(text, field.text.as_str())?;
-    }
-    Ok(())
 }
 
-/// Adds a text, its control characters as a backslash, an x and their numbers in hexadecimal, so that it stays on its line.
-fn push_visible(text: &mut String, said: &str) -> Result<(), AllocError> {
-    for character in said.chars() {
-        match character {
-            '\0'..='\x1F' | '\x7F'..='\u{9F}' => {
-                text.push_str("\\x")?;
-                push_hex(text, u8::try_from(u32::from(character)).unwrap_or(0))?;
+/// A text, its control characters as a backslash, an x and their numbers in hexadecimal, so that it stays on its line.
+#[derive(Clone, Copy)]
+struct Visible<'t>(&'t str);
+
+impl fmt::Display for Visible<'_> {
+    fn fmt<W: fmt::Write>(&self, f: &mut fmt::Formatter<W>) -> fmt::Result {
+        for character in self.0.chars() {
+            match character {
+                '\0'..='\x1F' | '\x7F'..='\u{9F}' => write!(f, "\\x{:02X}", u32::from(character))?,
+                other => f.write_char(other)?,
             }
-            other => text.push(other)?,
         }
+        Ok(())
     }
-    Ok(())
-}
-
-/// Adds why the octets are no message.
-pub(crate) fn push_fault(
-    alloc: Global,
-    text: &mut String,
-    unit: Unit,
-    fault: &DecodeFault,
-) -> Result<(), AllocError> {
-    let told = format!(in alloc; "{}", fault.counted_in(unit))?;
-    text.push_str(told.as_str())?;
-    text.push_str("\n")
 }

@@ -1,11 +1,13 @@
 //! Fields as HTML, without a script: all units in colours, and a line for each field in the colour of its units.
 
 use crate::field::MessageField;
-use crate::lines::{push_fault, push_said, units_text};
+use crate::lines::Cells;
 use crate::message::MessageFields;
-use crate::units_text::{bit_text, marked_octets, octet_at, push_hex};
+use crate::units_text::{bit_text, octet_at};
 use asn_rules::Unit;
 use std::alloc::{AllocError, Global};
+use std::fmt;
+use std::fmt::Write;
 
 /// What stands before the title.
 const HEAD: &str = "<!DOCTYPE html>\n<html lang=\"en\">\n<head>\n<meta charset=\"utf-8\">\n<title>";
@@ -38,20 +40,13 @@ const ROW_BITS: u64 = 64;
 
 const ROW_OCTETS: u64 = 16;
 
-/// How wide the number in front of a row is.
-const NUMBER_WIDTH: usize = 6;
-
 /// The beginning of a page with this title: what stands before its sections.
 ///
 /// # Errors
 /// `AllocError` where an allocation failed.
 pub fn page_head(alloc: Global, title: &str) -> Result<String, AllocError> {
-    let mut page = String::from_str(alloc, HEAD)?;
-    push_escaped(&mut page, title)?;
-    page.push_str(STYLE)?;
-    push_escaped(&mut page, title)?;
-    page.push_str("</h1>\n")?;
-    Ok(page)
+    let title = Escaped(title);
+    format!(in alloc; "{HEAD}{title}{STYLE}{title}</h1>\n")
 }
 
 /// A section of a page that says this alone, under a heading, which may be empty.
@@ -72,7 +67,7 @@ impl MessageFields {
     /// `AllocError` where an allocation failed.
     pub fn html(&self, alloc: Global, title: &str, octets: &[u8]) -> Result<String, AllocError> {
         let mut page = page_head(alloc, title)?;
-        page.push_str(self.section(alloc, "", octets)?.as_str())?;
+        self.push_section(alloc, &mut page, octets)?;
         page.push_str(PAGE_END)?;
         Ok(page)
     }
@@ -90,26 +85,54 @@ impl MessageFields {
     ) -> Result<String, AllocError> {
         let mut page = String::new(alloc);
         push_heading(&mut page, heading)?;
+        self.push_section(alloc, &mut page, octets)?;
+        Ok(page)
+    }
+
+    /// Adds a section without its heading.
+    fn push_section(
+        &self,
+        alloc: Global,
+        page: &mut String,
+        octets: &[u8],
+    ) -> Result<(), AllocError> {
+        self.push_colours(page, octets)?;
+        self.push_table(alloc, page, octets)?;
+        match &self.answer {
+            Ok(_) => Ok(()),
+            Err(fault) => {
+                let words = format!(in alloc; "{}", fault.counted_in(self.unit))?;
+                push_paragraph(page, words.as_str())
+            }
+        }
+    }
+
+    /// Adds all units, those of a field in its colour.
+    fn push_colours(&self, page: &mut String, octets: &[u8]) -> Result<(), AllocError> {
         page.push_str("<pre>")?;
         let mut shade = 0usize;
         for field in &self.fields {
-            push_units(alloc, &mut page, self.unit, shade, field, octets)?;
+            push_units(page, self.unit, shade, field, octets)?;
             shade = next_shade(shade, field);
         }
-        page.push_str("\n</pre>\n")?;
+        page.push_str("\n</pre>\n")
+    }
+
+    /// Adds a line for each field, in its colour.
+    fn push_table(
+        &self,
+        alloc: Global,
+        page: &mut String,
+        octets: &[u8],
+    ) -> Result<(), AllocError> {
         page.push_str(TABLE)?;
-        shade = 0;
+        let mut shade = 0usize;
         for field in &self.fields {
-            push_row(alloc, &mut page, self.unit, shade, field, octets)?;
+            let cells = Cells::of(alloc, self.unit, field, octets)?;
+            push_row(page, class_of(shade, field), cells.row(field).as_slice())?;
             shade = next_shade(shade, field);
         }
-        page.push_str("</table>\n")?;
-        if let Err(fault) = &self.answer {
-            let mut words = String::new(alloc);
-            push_fault(alloc, &mut words, self.unit, fault)?;
-            push_paragraph(&mut page, words.as_str().trim_end())?;
-        }
-        Ok(page)
+        page.push_str("</table>\n")
     }
 }
 
@@ -133,7 +156,6 @@ fn class_of(shade: usize, field: &MessageField) -> &'static str {
 
 /// Adds the units of a field in its colour, in as many pieces as rows have some of them.
 fn push_units(
-    alloc: Global,
     page: &mut String,
     unit: Unit,
     shade: usize,
@@ -151,7 +173,7 @@ fn push_units(
         }
         let in_row = at % row;
         if in_row == 0 {
-            push_number(alloc, page, at.saturating_add(1))?;
+            write!(page, "\n<i>{:>6}  </i>", at.saturating_add(1))?;
         }
         let end = at.saturating_add(row - in_row).min(field.end);
         push_piece(page, unit, class_of(shade, field), (at, end), octets)?;
@@ -160,19 +182,7 @@ fn push_units(
     Ok(())
 }
 
-/// Begins a row with the number of its first unit.
-fn push_number(alloc: Global, page: &mut String, number: u64) -> Result<(), AllocError> {
-    let text = format!(in alloc; "{number}")?;
-    page.push_str("\n<i>")?;
-    for _ in text.len()..NUMBER_WIDTH {
-        page.push_str(" ")?;
-    }
-    page.push_str(text.as_str())?;
-    page.push_str("  </i>")
-}
-
-/// Adds the units of a row from one number to another, in PER as bits, with a space after each octet, and in OER as
-/// octets.
+/// Adds the units of a row from one number to another.
 fn push_piece(
     page: &mut String,
     unit: Unit,
@@ -180,63 +190,35 @@ fn push_piece(
     units: (u64, u64),
     octets: &[u8],
 ) -> Result<(), AllocError> {
-    page.push_str("<span class=\"")?;
-    page.push_str(class)?;
-    page.push_str("\">")?;
+    write!(page, "<span class=\"{class}\">")?;
     for at in units.0..units.1 {
-        match unit {
-            Unit::Bit => {
-                let octet = octet_at(octets, usize::try_from(at / 8).unwrap_or(usize::MAX));
-                page.push_str(bit_text(octet, at % 8))?;
-                if at % 8 == 7 {
-                    page.push_str(" ")?;
-                }
-            }
-            Unit::Octet => {
-                push_hex(
-                    page,
-                    octet_at(octets, usize::try_from(at).unwrap_or(usize::MAX)),
-                )?;
-                page.push_str(" ")?;
-            }
-        }
+        push_unit(page, unit, at, octets)?;
     }
     page.push_str("</span>")
 }
 
-/// Adds the line of a field.
-fn push_row(
-    alloc: Global,
-    page: &mut String,
-    unit: Unit,
-    shade: usize,
-    field: &MessageField,
-    octets: &[u8],
-) -> Result<(), AllocError> {
-    let units = units_text(alloc, field)?;
-    let marked = marked_octets(alloc, unit, field, octets)?;
-    let mut said = String::new(alloc);
-    push_said(&mut said, field)?;
-    page.push_str("<tr class=\"")?;
-    page.push_str(class_of(shade, field))?;
-    page.push_str("\">")?;
-    for cell in [
-        units.as_str(),
-        marked.as_str(),
-        field.path.as_str(),
-        field.ty.as_str(),
-        said.as_str(),
-    ] {
-        push_cell(page, cell)?;
+/// Adds the unit with this number: in PER a bit, with a space after the last one of an octet, and in OER an octet.
+fn push_unit(page: &mut String, unit: Unit, number: u64, octets: &[u8]) -> Result<(), AllocError> {
+    match unit {
+        Unit::Bit => {
+            let octet = octet_at(octets, usize::try_from(number / 8).unwrap_or(usize::MAX));
+            page.push_str(bit_text(octet, number % 8))?;
+            page.push_str(if number % 8 == 7 { " " } else { "" })
+        }
+        Unit::Octet => {
+            let octet = octet_at(octets, usize::try_from(number).unwrap_or(usize::MAX));
+            write!(page, "{octet:02X} ")
+        }
     }
-    page.push_str("</tr>\n")
 }
 
-/// Adds a cell of a line.
-fn push_cell(page: &mut String, text: &str) -> Result<(), AllocError> {
-    page.push_str("<td>")?;
-    push_escaped(page, text)?;
-    page.push_str("</td>")
+/// Adds a line of these cells.
+fn push_row(page: &mut String, class: &str, cells: &[&str]) -> Result<(), AllocError> {
+    write!(page, "<tr class=\"{class}\">")?;
+    for cell in cells {
+        write!(page, "<td>{}</td>", Escaped(cell))?;
+    }
+    page.push_str("</tr>\n")
 }
 
 /// Adds a heading, if there is one.
@@ -244,28 +226,35 @@ fn push_heading(page: &mut String, heading: &str) -> Result<(), AllocError> {
     if heading.is_empty() {
         return Ok(());
     }
-    page.push_str("<h2>")?;
-    push_escaped(page, heading)?;
-    page.push_str("</h2>\n")
+    writeln!(page, "<h2>{}</h2>", Escaped(heading))
 }
 
 /// Adds a paragraph on what is refused.
 fn push_paragraph(page: &mut String, words: &str) -> Result<(), AllocError> {
-    page.push_str("<p class=\"fault\">")?;
-    push_escaped(page, words)?;
-    page.push_str("</p>\n")
+    writeln!(page, "<p class=\"fault\">{}</p>", Escaped(words))
 }
 
-/// Adds a text as HTML has it: `&`, `<`, `>` and `"` by their names.
-fn push_escaped(page: &mut String, text: &str) -> Result<(), AllocError> {
-    for character in text.chars() {
-        match character {
-            '&' => page.push_str("&amp;")?,
-            '<' => page.push_str("&lt;")?,
-            '>' => page.push_str("&gt;")?,
-            '"' => page.push_str("&quot;")?,
-            other => page.push(other)?,
+/// A text as HTML has it: `&`, `<`, `>` and `"` by their names.
+#[derive(Clone, Copy)]
+struct Escaped<'t>(&'t str);
+
+impl fmt::Display for Escaped<'_> {
+    fn fmt<W: fmt::Write>(&self, f: &mut fmt::Formatter<W>) -> fmt::Result {
+        for character in self.0.chars() {
+            write_escaped(f, character)?;
         }
+        Ok(())
     }
-    Ok(())
+}
+
+/// Writes a character as HTML has it.
+fn write_escaped<W: fmt::Write>(f: &mut fmt::Formatter<W>, character: char) -> fmt::Result {
+    let name = match character {
+        '&' => "&amp;",
+        '<' => "&lt;",
+        '>' => "&gt;",
+        '"' => "&quot;",
+        other => return f.write_char(other),
+    };
+    f.write_str(name)
 }

@@ -21,7 +21,7 @@ impl Columns {
     }
 
     /// Makes the columns wide enough for a line.
-    pub(crate) fn fit(&mut self, row: &[String]) {
+    pub(crate) fn fit(&mut self, row: &[&str]) {
         let before = row.len().saturating_sub(1);
         for (index, cell) in row.iter().enumerate() {
             if index < before {
@@ -33,10 +33,10 @@ impl Columns {
     }
 
     /// Adds a line to a text.
-    pub(crate) fn push(&self, text: &mut String, row: &[String]) -> Result<(), AllocError> {
+    pub(crate) fn push(&self, text: &mut String, row: &[&str]) -> Result<(), AllocError> {
         let before = row.len().saturating_sub(1);
         for (index, cell) in row.iter().enumerate() {
-            text.push_str(cell.as_str())?;
+            text.push_str(cell)?;
             if index < before {
                 let width = self.widths.get(index).copied().unwrap_or(0);
                 push_spaces(text, width.saturating_sub(cell.len()))?;
@@ -45,15 +45,6 @@ impl Columns {
         }
         text.push_str("\n")
     }
-}
-
-/// A line of these cells.
-pub(crate) fn row_of(alloc: Global, cells: &[&str]) -> Result<Vec<String>, AllocError> {
-    let mut row = Vec::new(alloc);
-    for cell in cells {
-        row.push(String::from_str(alloc, *cell)?)?;
-    }
-    Ok(row)
 }
 
 /// Adds this many spaces.

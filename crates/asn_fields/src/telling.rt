@@ -9,6 +9,7 @@ use asn_values::internal::is_in_size;
 use asn_values::{AsnType, Field, Need, Size, Value};
 use asn_walk::{PresenceBits, ReadLeaves};
 use std::alloc::{AllocError, Global};
+use std::fmt::Write;
 
 /// What stands for the type of the length determinant of an open type field.
 const OPEN_TYPE: &str = "open type field";
@@ -126,7 +127,7 @@ impl<'t> Walk<'t> {
     fn path(&self) -> Result<String, AllocError> {
         let mut path = String::from_str(self.alloc, "$")?;
         for step in &self.steps {
-            push_step(self.alloc, &mut path, *step)?;
+            push_step(&mut path, *step)?;
         }
         Ok(path)
     }
@@ -330,16 +331,10 @@ impl<'t> Walk<'t> {
 }
 
 /// Adds a step to a path.
-fn push_step(alloc: Global, path: &mut String, step: Step<'_>) -> Result<(), AllocError> {
+fn push_step(path: &mut String, step: Step<'_>) -> Result<(), AllocError> {
     match step {
-        Step::Name(name) => {
-            path.push_str(".")?;
-            path.push_str(name)
-        }
-        Step::Element(index) => {
-            let text = format!(in alloc; "[{index}]")?;
-            path.push_str(text.as_str())
-        }
+        Step::Name(name) => write!(path, ".{name}"),
+        Step::Element(index) => write!(path, "[{index}]"),
     }
 }
 

@@ -3,17 +3,13 @@
 use crate::field::MessageField;
 use asn_rules::Unit;
 use std::alloc::{AllocError, Global};
+use std::fmt::Write;
 
 /// The most octets of a field that a line shows.
 const MOST_OCTETS: usize = 8;
 
 /// The most octets of a field whose bits a line marks.
 const MOST_MARKED: usize = 2;
-
-/// The digits of hexadecimal.
-const DIGITS: [&str; 16] = [
-    "0", "1", "2", "3", "4", "5", "6", "7", "8", "9", "A", "B", "C", "D", "E", "F",
-];
 
 /// The octets in which the units of the field lie: the index of the first, and of the one after the last.
 pub(crate) fn octets_of(unit: Unit, field: &MessageField) -> (usize, usize) {
@@ -43,32 +39,33 @@ pub(crate) fn marked_octets(
     let mut text = String::new(alloc);
     let (from, to) = octets_of(unit, field);
     let to = to.min(octets.len());
-    for index in from..to.min(from.saturating_add(MOST_OCTETS)) {
-        if index > from {
-            text.push_str(" ")?;
-        }
-        push_hex(&mut text, octet_at(octets, index))?;
-    }
-    let count = to.saturating_sub(from);
-    if count > MOST_OCTETS {
-        text.push_str(" ..")?;
-    }
-    if matches!(unit, Unit::Bit) && count <= MOST_MARKED {
+    push_octets(&mut text, from, to, octets)?;
+    if matches!(unit, Unit::Bit) && to.saturating_sub(from) <= MOST_MARKED {
         for index in from..to {
-            text.push_str(" ")?;
             push_marked(&mut text, field, index, octet_at(octets, index))?;
         }
     }
     Ok(text)
 }
 
-/// Adds the bits of an octet, those that are none of the field as dots.
+/// Adds the octets from an index to before another in hexadecimal, as many as a line shows.
+fn push_octets(text: &mut String, from: usize, to: usize, octets: &[u8]) -> Result<(), AllocError> {
+    let shown = to.min(from.saturating_add(MOST_OCTETS));
+    for index in from..shown {
+        let blank = if index > from { " " } else { "" };
+        write!(text, "{blank}{:02X}", octet_at(octets, index))?;
+    }
+    text.push_str(if shown < to { " .." } else { "" })
+}
+
+/// Adds the bits of an octet after a space, those that are none of the field as dots.
 fn push_marked(
     text: &mut String,
     field: &MessageField,
     index: usize,
     octet: u8,
 ) -> Result<(), AllocError> {
+    text.push_str(" ")?;
     let before = (index as u64).saturating_mul(8);
     for place in 0..8u64 {
         let unit = before.saturating_add(place);
@@ -89,12 +86,6 @@ pub(crate) fn bit_text(octet: u8, place: u64) -> &'static str {
     } else {
         "0"
     }
-}
-
-/// Adds an octet in hexadecimal.
-pub(crate) fn push_hex(text: &mut String, octet: u8) -> Result<(), AllocError> {
-    text.push_str(DIGITS[(octet / 16) as usize])?;
-    text.push_str(DIGITS[(octet % 16) as usize])
 }
 
 /// The octet with this index; 0 where there is none.

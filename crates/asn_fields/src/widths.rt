@@ -3,16 +3,20 @@
 use crate::extent::Extent;
 use crate::oer_widths::octets_of;
 use crate::per_widths::bits_of;
-use crate::table::{Columns, push_spaces, row_of};
+use crate::table::{Columns, push_spaces};
 use crate::type_text::type_text;
 use asn_values::{Alt, AsnType, Checked, Field, Need};
 use std::alloc::{AllocError, Global};
+use std::fmt::Write;
 
 /// How many spaces a line stands further in for each level.
 const INDENT: usize = 2;
 
 /// How wide the columns are at least, in characters: the name, the type and the bits.
 const WIDTHS: [usize; 3] = [30, 32, 14];
+
+/// What stands above the lines.
+const HEADING: [&str; 4] = ["", "", "PER bits", "OER octets"];
 
 /// The least and the greatest size of encodings.
 #[derive(Clone, Copy, Debug, PartialEq, Eq)]
@@ -35,27 +39,56 @@ pub fn sizes(ty: &Checked) -> TypeSizes {
 /// # Errors
 /// `AllocError` where an allocation failed.
 pub fn outline(alloc: Global, name: &str, ty: &Checked) -> Result<String, AllocError> {
-    let mut rows = Vec::new(alloc);
-    rows.push(row_of(alloc, ["", "", "PER bits", "OER octets"].as_slice())?)?;
-    push_type(alloc, &mut rows, 0, name, "", ty.get())?;
-    let mut text = lines_of(alloc, rows.as_slice())?;
+    let mut lines = Vec::new(alloc);
+    push_type(alloc, &mut lines, 0, name, "", ty.get())?;
+    let mut text = lines_of(alloc, lines.as_slice())?;
     let octets = sizes(ty).per_bits.in_octets();
-    let message = extent_text(alloc, octets)?;
-    text.push_str("a message in PER has ")?;
-    text.push_str(message.as_str())?;
-    text.push_str(" octets\n")?;
+    writeln!(text, "a message in PER has {octets} octets")?;
     Ok(text)
 }
 
-/// Lines of these cells, in columns.
-fn lines_of(alloc: Global, rows: &[Vec<String>]) -> Result<String, AllocError> {
+/// The line of a part, or of an extension marker, which has a name alone.
+#[derive(Drop)]
+struct Line {
+    name: String,
+    notation: String,
+    bits: String,
+    octets: String,
+}
+
+impl Line {
+    fn is_mark(&self) -> bool {
+        self.notation.is_empty()
+    }
+
+    /// The cells of the line of a part.
+    fn row(&self) -> [&str; 4] {
+        [
+            self.name.as_str(),
+            self.notation.as_str(),
+            self.bits.as_str(),
+            self.octets.as_str(),
+        ]
+    }
+}
+
+/// These lines, in columns, under a heading.
+fn lines_of(alloc: Global, lines: &[Line]) -> Result<String, AllocError> {
     let mut columns = Columns::new(alloc, WIDTHS.as_slice())?;
-    for row in rows {
-        columns.fit(row.as_slice());
+    columns.fit(HEADING.as_slice());
+    for line in lines {
+        if !line.is_mark() {
+            columns.fit(line.row().as_slice());
+        }
     }
     let mut text = String::new(alloc);
-    for row in rows {
-        columns.push(&mut text, row.as_slice())?;
+    columns.push(&mut text, HEADING.as_slice())?;
+    for line in lines {
+        if line.is_mark() {
+            columns.push(&mut text, [line.name.as_str()].as_slice())?;
+        } else {
+            columns.push(&mut text, line.row().as_slice())?;
+        }
     }
     Ok(text)
 }
@@ -71,29 +104,29 @@ fn sizes_of(ty: &AsnType) -> TypeSizes {
 #[cycle(outline)]
 fn push_type(
     alloc: Global,
-    rows: &mut Vec<Vec<String>>,
+    lines: &mut Vec<Line>,
     level: usize,
     name: &str,
     need: &str,
     ty: &AsnType,
 ) -> Result<(), AllocError> {
-    push_part(alloc, rows, level, name, need, ty)?;
+    push_part(alloc, lines, level, name, need, ty)?;
     let inner = level.saturating_add(1);
     match ty {
         AsnType::Seq { root, ext } => {
-            push_fields(alloc, rows, inner, root)?;
+            push_fields(alloc, lines, inner, root)?;
             if let Some(additions) = ext {
-                push_mark(alloc, rows, inner)?;
-                push_fields(alloc, rows, inner, additions)?;
+                push_mark(alloc, lines, inner)?;
+                push_fields(alloc, lines, inner, additions)?;
             }
             Ok(())
         }
-        AsnType::SeqOf(element, _) => push_type(alloc, rows, inner, "[]", "", element),
+        AsnType::SeqOf(element, _) => push_type(alloc, lines, inner, "[]", "", element),
         AsnType::Choice { root, ext } => {
-            push_alternatives(alloc, rows, inner, root)?;
+            push_alternatives(alloc, lines, inner, root)?;
             if let Some(additions) = ext {
-                push_mark(alloc, rows, inner)?;
-                push_alternatives(alloc, rows, inner, additions)?;
+                push_mark(alloc, lines, inner)?;
+                push_alternatives(alloc, lines, inner, additions)?;
             }
             Ok(())
         }
@@ -112,7 +145,7 @@ fn push_type(
 #[cycle(outline)]
 fn push_fields(
     alloc: Global,
-    rows: &mut Vec<Vec<String>>,
+    lines: &mut Vec<Line>,
     level: usize,
     fields: &[Field],
 ) -> Result<(), AllocError> {
@@ -120,7 +153,7 @@ fn push_fields(
         let need = need_text(alloc, field)?;
         push_type(
             alloc,
-            rows,
+            lines,
             level,
             field.name.as_str(),
             need.as_str(),
@@ -143,14 +176,14 @@ fn need_text(alloc: Global, field: &Field) -> Result<String, AllocError> {
 #[cycle(outline)]
 fn push_alternatives(
     alloc: Global,
-    rows: &mut Vec<Vec<String>>,
+    lines: &mut Vec<Line>,
     level: usize,
     alternatives: &[Alt],
 ) -> Result<(), AllocError> {
     for alternative in alternatives {
         push_type(
             alloc,
-            rows,
+            lines,
             level,
             alternative.name.as_str(),
             "",
@@ -161,9 +194,13 @@ fn push_alternatives(
 }
 
 /// Adds the line of an extension marker.
-fn push_mark(alloc: Global, rows: &mut Vec<Vec<String>>, level: usize) -> Result<(), AllocError> {
-    let mark = indented(alloc, level, "...")?;
-    rows.push(row_of(alloc, [mark.as_str()].as_slice())?)?;
+fn push_mark(alloc: Global, lines: &mut Vec<Line>, level: usize) -> Result<(), AllocError> {
+    lines.push(Line {
+        name: indented(alloc, level, "...")?,
+        notation: String::new(alloc),
+        bits: String::new(alloc),
+        octets: String::new(alloc),
+    })?;
     Ok(())
 }
 
@@ -178,31 +215,30 @@ fn indented(alloc: Global, level: usize, name: &str) -> Result<String, AllocErro
 /// Adds the line of a part.
 fn push_part(
     alloc: Global,
-    rows: &mut Vec<Vec<String>>,
+    lines: &mut Vec<Line>,
     level: usize,
     name: &str,
     need: &str,
     ty: &AsnType,
 ) -> Result<(), AllocError> {
-    let sizes = sizes_of(ty);
-    let name = indented(alloc, level, name)?;
-    let mut notation = type_text(alloc, ty)?;
-    notation.push_str(need)?;
-    let mut row = Vec::new(alloc);
-    row.push(name)?;
-    row.push(notation)?;
-    row.push(extent_text(alloc, sizes.per_bits)?)?;
-    row.push(extent_text(alloc, sizes.oer_octets)?)?;
-    rows.push(row)?;
+    lines.push(line_of(alloc, level, name, need, ty)?)?;
     Ok(())
 }
 
-/// From the least to the greatest number; one number where they are the same.
-fn extent_text(alloc: Global, extent: Extent) -> Result<String, AllocError> {
-    let least = extent.least;
-    match extent.greatest {
-        Some(greatest) if greatest == least => format!(in alloc; "{least}"),
-        Some(greatest) => format!(in alloc; "{least}..{greatest}"),
-        None => format!(in alloc; "{least}.."),
-    }
+/// The line of a part.
+fn line_of(
+    alloc: Global,
+    level: usize,
+    name: &str,
+    need: &str,
+    ty: &AsnType,
+) -> Result<Line, AllocError> {
+    let sizes = sizes_of(ty);
+    let ty = type_text(alloc, ty)?;
+    Ok(Line {
+        name: indented(alloc, level, name)?,
+        notation: format!(in alloc; "{ty}{need}")?,
+        bits: format!(in alloc; "{}", sizes.per_bits)?,
+        octets: format!(in alloc; "{}", sizes.oer_octets)?,
+    })
 }

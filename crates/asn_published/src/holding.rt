@@ -2,7 +2,7 @@
 use crate::writer::{Known, Task, Writer};
 use crate::writing::is_extensible;
 use asn_published_read::extents::after_tags;
-use asn_published_read::nodes::{Holder, MemberKind, Need, Node, Shape};
+use asn_published_read::nodes::{Holder, Member, MemberKind, Need, Node, Shape};
 use asn_published_read::refusal::{Refusal, Why, refused};
 use asn_published_types::layout::{Layout, Placed, TagOrder, layout_of, sort_by_tags};
 use asn_published_types::limits::{MOST_ADDITIONS, MOST_COMPONENTS};
@@ -118,71 +118,47 @@ impl<'t> Writer<'t> {
         marked: bool,
         depth: usize,
     ) -> Result<(), Refusal> {
-        tasks.push(Task::Text(if holder == Holder::Choice {
+        let is_choice = holder == Holder::Choice;
+        tasks.push(Task::Text(if is_choice {
             " CHOICE {"
         } else {
             " SEQUENCE {"
         }))?;
-        let mut comma = false;
-        for placed in &layout.root {
-            self.push_member(alloc, known, tasks, (*placed, false), comma, depth)?;
-            comma = true;
-        }
+        push_root(known, tasks, layout.root.as_slice(), depth)?;
         if marked {
-            tasks.push(Task::Text(if comma { ", ..." } else { " ..." }))?;
-            self.push_additions(alloc, known, tasks, holder, layout, depth)?;
+            let is_first = layout.root.is_empty();
+            tasks.push(Task::Text(if is_first { " ..." } else { ", ..." }))?;
+            let need = if is_choice { "" } else { " OPTIONAL" };
+            self.push_additions(
+                alloc,
+                known,
+                tasks,
+                need,
+                layout.additions.as_slice(),
+                depth,
+            )?;
         }
-        tasks.push(Task::Text(" }"))?;
-        Ok(tasks.push(Task::Members)?)
+        Ok(tasks.extend_from_slice(&[Task::Text(" }"), Task::Members])?)
     }
 
-    /// What is to be written of additions, in order.
+    /// What is to be written of additions, in order, with `need` after each.
     fn push_additions(
         &mut self,
         alloc: Global,
         known: &Known<'_, 't>,
         tasks: &mut Vec<Task<'t>>,
-        holder: Holder,
-        layout: &Layout,
+        need: &'static str,
+        additions: &[Placed],
         depth: usize,
     ) -> Result<(), Refusal> {
-        for placed in &layout.additions {
-            self.push_member(alloc, known, tasks, (*placed, true), true, depth)?;
-            if holder != Holder::Choice {
-                tasks.push(Task::Text(" OPTIONAL"))?;
+        for placed in additions {
+            if let Some(member) = known.forest.member(placed.member) {
+                push_member(tasks, &member, ",", depth)?;
+                self.remark_default(alloc, known, member.node, member.need)?;
+                tasks.push(Task::Text(need))?;
             }
         }
         Ok(())
-    }
-
-    /// What is to be written of one member, which is an addition or none.
-    fn push_member(
-        &mut self,
-        alloc: Global,
-        known: &Known<'_, 't>,
-        tasks: &mut Vec<Task<'t>>,
-        one: (Placed, bool),
-        comma: bool,
-        depth: usize,
-    ) -> Result<(), Refusal> {
-        let (placed, is_addition) = one;
-        let Some(member) = known.forest.member(placed.member) else {
-            return Ok(());
-        };
-        if comma {
-            tasks.push(Task::Text(","))?;
-        }
-        if let MemberKind::Group(number) = member.kind {
-            tasks.push(Task::Group(number))?;
-        } else {
-            tasks.push(Task::Text(" "))?;
-            tasks.push(Task::Text(member.name))?;
-        }
-        tasks.push(Task::Node(member.node, depth))?;
-        if !is_addition {
-            return Ok(tasks.push(Task::Need(member.node, member.need))?);
-        }
-        self.remark_default(alloc, known, member.node, member.need)
     }
 
     /// A remark on the DEFAULT of an extension addition, which is not written.
@@ -200,12 +176,44 @@ impl<'t> Writer<'t> {
     }
 }
 
+/// What is to be written of the members of a root, in order.
+fn push_root<'t>(
+    known: &Known<'_, 't>,
+    tasks: &mut Vec<Task<'t>>,
+    root: &[Placed],
+    depth: usize,
+) -> Result<(), Refusal> {
+    let mut comma = "";
+    for placed in root {
+        if let Some(member) = known.forest.member(placed.member) {
+            push_member(tasks, &member, comma, depth)?;
+            tasks.push(Task::Need(member.node, member.need))?;
+        }
+        comma = ",";
+    }
+    Ok(())
+}
+
+/// What is to be written of one member, but for its need.
+fn push_member<'t>(
+    tasks: &mut Vec<Task<'t>>,
+    member: &Member<'t>,
+    comma: &'static str,
+    depth: usize,
+) -> Result<(), Refusal> {
+    let name = match member.kind {
+        MemberKind::Group(number) => Task::Group(number),
+        _ => Task::Name(member.name),
+    };
+    Ok(tasks.extend_from_slice(&[Task::Text(comma), name, Task::Node(member.node, depth)])?)
+}
+
 /// Whether the members of a node are an addition group.
 fn is_group(known: &Known<'_, '_>, node: &Node<'_>) -> bool {
     match known.values.world.tokens_of(node.module) {
         Some(tokens) => {
             let at = after_tags(tokens, node.at);
-            !matches!(tokens.text(at), "SEQUENCE" | "SET" | "CHOICE")
+            !tokens.is_one_of(at, &["SEQUENCE", "SET", "CHOICE"])
         }
         None => false,
     }

@@ -15,6 +15,7 @@ use asn_published_types::report::{Note, Remark, Status};
 use asn_published_types::seen::Seen;
 use asn_published_types::tags::Tagging;
 use std::alloc::{AllocError, Global};
+use std::fmt::Write;
 
 /// What is known when a type is written.
 #[derive(Clone, Copy)]
@@ -46,6 +47,8 @@ pub(crate) enum Task<'t> {
     /// A node, and how many levels down it is.
     Node(usize, usize),
     Text(&'t str),
+    /// The name of a component or an alternative.
+    Name(&'t str),
     /// The name of an addition group.
     Group(u32),
     /// The need of a component of the root, whose type was written last.
@@ -314,10 +317,8 @@ impl<'t> Writer<'t> {
                 self.write_node(alloc, known, index, depth)
             }
             Task::Text(text) => Ok(self.out.push_str(text)?),
-            Task::Group(number) => {
-                let name = format!(in alloc; " ext{number}")?;
-                Ok(self.out.push_str(name.as_str())?)
-            }
+            Task::Name(name) => Ok(push_pieces(&mut self.out, &[" ", name])?),
+            Task::Group(number) => Ok(write!(self.out, " ext{number}")?),
             Task::Need(index, need) => {
                 self.take_member_bits(need);
                 self.write_need(alloc, known, index, need)
@@ -362,10 +363,7 @@ impl<'t> Writer<'t> {
             Need::Default { start, end } => (start, end),
         };
         match self.default_text(alloc, known, index, start, end)? {
-            Some(text) => {
-                self.out.push_str(" DEFAULT ")?;
-                Ok(self.out.push_str(text.as_str())?)
-            }
+            Some(text) => Ok(write!(self.out, " DEFAULT {text}")?),
             None => {
                 self.out.push_str(" OPTIONAL")?;
                 self.remark(alloc, known, index, Remark::Default)

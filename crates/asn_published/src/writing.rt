@@ -4,8 +4,10 @@ use asn_published_read::nodes::{Node, Shape};
 use asn_published_read::refusal::{Refusal, Why, refused};
 use asn_published_types::info::{Base, Info};
 use asn_published_types::items::{Item, Items, items_of};
+use asn_published_types::pieces::push_pieces;
 use asn_published_types::report::Remark;
 use std::alloc::Global;
+use std::fmt::Write;
 
 impl<'t> Writer<'t> {
     /// Writes a node that is `depth` levels down.
@@ -84,8 +86,7 @@ impl<'t> Writer<'t> {
         if node.constraints < node.end {
             self.remark(alloc, known, index, Remark::Dropped)?;
         }
-        self.out.push_str(" ")?;
-        self.out.push_str(name)?;
+        push_pieces(&mut self.out, &[" ", name])?;
         self.last = Info::of(base);
         Ok(())
     }
@@ -143,7 +144,7 @@ impl<'t> Writer<'t> {
             self.remark(alloc, known, index, Remark::OerItems)?;
         }
         let marked = items.marked || is_extensible(known, node);
-        self.put_item_lists(alloc, &items, marked)?;
+        self.put_item_lists(&items, marked)?;
         let mut info = Info::of(Base::Enumerated);
         info.marked = marked;
         info.named = Some((node.module, braces));
@@ -153,36 +154,23 @@ impl<'t> Writer<'t> {
     }
 
     /// Writes the word ENUMERATED, and the items in their braces.
-    fn put_item_lists(
-        &mut self,
-        alloc: Global,
-        items: &Items<'t>,
-        marked: bool,
-    ) -> Result<(), Refusal> {
+    fn put_item_lists(&mut self, items: &Items<'t>, marked: bool) -> Result<(), Refusal> {
         self.out.push_str(" ENUMERATED {")?;
-        self.put_items(alloc, items.root.as_slice(), false)?;
+        self.put_items(items.root.as_slice(), false)?;
         if marked {
             self.out.push_str(", ...")?;
-            self.put_items(alloc, items.additions.as_slice(), true)?;
+            self.put_items(items.additions.as_slice(), true)?;
         }
         Ok(self.out.push_str(" }")?)
     }
 
     /// Writes items with their numbers, with commas between them, and one before the first where something stands
     /// before it.
-    fn put_items(
-        &mut self,
-        alloc: Global,
-        items: &[Item<'t>],
-        behind: bool,
-    ) -> Result<(), Refusal> {
+    fn put_items(&mut self, items: &[Item<'t>], behind: bool) -> Result<(), Refusal> {
         let mut comma = behind;
         for item in items {
-            let name = item.name;
-            let number = item.number;
             let separator = if comma { "," } else { "" };
-            let text = format!(in alloc; "{separator} {name} ({number})")?;
-            self.out.push_str(text.as_str())?;
+            write!(self.out, "{separator} {} ({})", item.name, item.number)?;
             comma = true;
         }
         Ok(())

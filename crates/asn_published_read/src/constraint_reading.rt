@@ -1,6 +1,6 @@
 //! Reads constraints and sets of values (X.680, "constrained types"; X.682), what stands in brackets apart.
-use crate::extents::type_end;
-use crate::places::{is_and, is_contained, is_or};
+use crate::extents::{after_braces, type_end};
+use crate::places::{Unseen, is_and, is_contained, is_or, unseen_at};
 use crate::reading::{Reading, Work, before};
 use crate::token::Sign;
 use crate::tokens::{Tokens, next};
@@ -69,7 +69,7 @@ fn read_relations(tokens: &Tokens<'_>, braces: usize) -> Result<(), TextFault> {
 
 /// The index after PRESENT, ABSENT or OPTIONAL, where it stands at `at`.
 fn after_presence(tokens: &Tokens<'_>, at: usize) -> usize {
-    if matches!(tokens.text(at), "PRESENT" | "ABSENT" | "OPTIONAL") {
+    if tokens.is_one_of(at, &["PRESENT", "ABSENT", "OPTIONAL"]) {
         next(at)
     } else {
         at
@@ -144,8 +144,8 @@ impl<'a, 't> Reading<'a, 't> {
             self.push(todo, Work::Elements { open })?;
             return Ok(tokens.after(open));
         }
-        if let Some(start) = after_unseen_words(tokens, at) {
-            return self.read_unseen(alloc, todo, at, start);
+        if let Some((unseen, start)) = unseen_at(tokens, at) {
+            return self.read_unseen(alloc, todo, unseen, start);
         }
         if is_type(tokens, at) {
             if let Ok(end) = type_end(tokens, at) {
@@ -198,38 +198,44 @@ impl<'a, 't> Reading<'a, 't> {
         }
     }
 
-    /// Reads the constraint whose words stand at `at`, of which what they say begins at `start`, and gives the index
-    /// after it.
+    /// Reads the constraint after whose words `start` is, and gives the index after it.
     fn read_unseen(
         self,
         alloc: Global,
         todo: &mut Vec<Work>,
-        at: usize,
+        unseen: Unseen,
         start: usize,
     ) -> Result<usize, TextFault> {
-        let tokens = self.tokens;
-        let has_braces = tokens.is(start, Sign::LeftBrace);
-        match tokens.text(at) {
-            "WITH" if has_braces => {
+        match unseen {
+            Unseen::Inner => {
+                let behind = after_braces(self.tokens, start)?;
                 self.push(todo, Work::Inner { braces: start })?;
-                Ok(tokens.after(start))
-            }
-            "CONSTRAINED" if has_braces => {
-                self.read_user_defined(alloc, todo, start)?;
-                Ok(tokens.after(start))
-            }
-            "WITH" | "CONSTRAINED" => Err(tokens.expected(start, "{")),
-            "PATTERN" => self.read_value(alloc, todo, start, Values::Letters),
-            "SETTINGS" => self.read_value(alloc, todo, start, Values::Text),
-            "ENCODED" => self.read_value(alloc, todo, start, Values::Identifier),
-            "INCLUDES" => self.push_type(todo, start),
-            _ => {
-                let behind = self.push_type(todo, start)?;
-                if tokens.is_word(behind, "ENCODED") && tokens.is_word(next(behind), "BY") {
-                    return self.read_value(alloc, todo, next(next(behind)), Values::Identifier);
-                }
                 Ok(behind)
             }
+            Unseen::UserDefined => {
+                let behind = after_braces(self.tokens, start)?;
+                self.read_user_defined(alloc, todo, start)?;
+                Ok(behind)
+            }
+            Unseen::Value(values) => self.read_value(alloc, todo, start, values),
+            Unseen::Type => self.push_type(todo, start),
+            Unseen::Contents => self.read_contents(alloc, todo, start),
+        }
+    }
+
+    /// Reads the type of contents at `at`, and how they are encoded, and gives the index after that.
+    fn read_contents(
+        self,
+        alloc: Global,
+        todo: &mut Vec<Work>,
+        at: usize,
+    ) -> Result<usize, TextFault> {
+        let behind = self.push_type(todo, at)?;
+        let by = next(behind);
+        if self.tokens.is_word(behind, "ENCODED") && self.tokens.is_word(by, "BY") {
+            self.read_value(alloc, todo, next(by), Values::Identifier)
+        } else {
+            Ok(behind)
         }
     }
 
@@ -307,33 +313,6 @@ impl<'a, 't> Reading<'a, 't> {
         read_relations(self.tokens, behind)?;
         Ok(self.tokens.after(behind))
     }
-}
-
-/// The words with which constraints begin that no encoding rule sees: the first, and the second where there is one.
-const UNSEEN: [(&str, &str); 7] = [
-    ("WITH", "COMPONENTS"),
-    ("CONSTRAINED", "BY"),
-    ("ENCODED", "BY"),
-    ("PATTERN", ""),
-    ("SETTINGS", ""),
-    ("CONTAINING", ""),
-    ("INCLUDES", ""),
-];
-
-/// The index after the words of such a constraint at `at`; `None` where there are none.
-fn after_unseen_words(tokens: &Tokens<'_>, at: usize) -> Option<usize> {
-    for (first, second) in &UNSEEN {
-        if tokens.is_word(at, *first) {
-            let behind = next(at);
-            if second.is_empty() {
-                return Some(behind);
-            }
-            if tokens.is_word(behind, *second) {
-                return Some(next(behind));
-            }
-        }
-    }
-    None
 }
 
 /// The opening parenthesis of the constraint inside of SIZE, FROM or WITH COMPONENT at `at`.

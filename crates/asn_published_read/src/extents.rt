@@ -32,7 +32,7 @@ pub fn after_constraints(tokens: &Tokens<'_>, from: usize) -> usize {
 }
 
 /// The index after a group in braces, which must stand at `from`.
-fn after_braces(tokens: &Tokens<'_>, from: usize) -> Result<usize, TextFault> {
+pub(crate) fn after_braces(tokens: &Tokens<'_>, from: usize) -> Result<usize, TextFault> {
     if tokens.is(from, Sign::LeftBrace) {
         Ok(tokens.after(from))
     } else {
@@ -109,24 +109,41 @@ pub fn rest_of(tokens: &Tokens<'_>, from: usize) -> Result<Rest, TextFault> {
     if !tokens.is_capital(from) {
         return Err(tokens.expected(from, "a type"));
     }
-    match tokens.text(from) {
-        "SEQUENCE" | "SET" => rest_of_sequence(tokens, second),
-        "CHOICE" | "ENUMERATED" => Ok(Rest::Constraints(after_braces(tokens, second)?)),
-        "INTEGER" if tokens.is(second, Sign::LeftBrace) => {
-            Ok(Rest::Constraints(tokens.after(second)))
-        }
-        "BIT" if tokens.is(next(second), Sign::LeftBrace) => {
-            Ok(Rest::Constraints(tokens.after(next(second))))
-        }
-        "BIT" | "OCTET" | "CHARACTER" | "OBJECT" | "EMBEDDED" => {
-            Ok(Rest::Constraints(next(second)))
-        }
-        "INSTANCE" => rest_of_name(tokens, next(next(second))),
-        "ANY" if tokens.is_word(second, "DEFINED") => {
-            Ok(Rest::Constraints(next(next(next(second)))))
-        }
-        _ => rest_of_name(tokens, second),
+    if tokens.is_one_of(from, &["SEQUENCE", "SET"]) {
+        return rest_of_sequence(tokens, second);
     }
+    if tokens.is_one_of(from, &["CHOICE", "ENUMERATED"]) {
+        return Ok(Rest::Constraints(after_braces(tokens, second)?));
+    }
+    if tokens.is_word(from, "INSTANCE") {
+        return rest_of_name(tokens, next(next(second)));
+    }
+    match after_words(tokens, from) {
+        Some(behind) => Ok(Rest::Constraints(behind)),
+        None => rest_of_name(tokens, second),
+    }
+}
+
+/// The index after the words of a type that begins at `from`, and after the names in braces that may follow them; `None`
+/// where it is not one of two words, INTEGER with names, or ANY DEFINED BY a name.
+fn after_words(tokens: &Tokens<'_>, from: usize) -> Option<usize> {
+    let second = next(from);
+    let third = next(second);
+    if tokens.is_one_of(from, &["BIT", "OCTET", "CHARACTER", "OBJECT", "EMBEDDED"]) {
+        let has_names = tokens.is_word(from, "BIT") && tokens.is(third, Sign::LeftBrace);
+        return Some(if has_names {
+            tokens.after(third)
+        } else {
+            third
+        });
+    }
+    if tokens.is_word(from, "INTEGER") && tokens.is(second, Sign::LeftBrace) {
+        return Some(tokens.after(second));
+    }
+    if tokens.is_word(from, "ANY") && tokens.is_word(second, "DEFINED") {
+        return Some(next(next(third)));
+    }
+    None
 }
 
 /// The index after a type that begins at `from`, with its tags and constraints.

@@ -61,11 +61,8 @@ impl<'t> World<'t> {
         Ok((found, next(at)))
     }
 
-    pub fn assignment(&self, index: usize) -> Option<Assignment<'t>> {
-        match self.assignments.get(index) {
-            Some(assignment) => Some(*assignment),
-            None => None,
-        }
+    pub fn assignment(&self, index: usize) -> Option<&Assignment<'t>> {
+        self.assignments.get(index)
     }
 
     /// Whether the assignment assigns this kind of thing.

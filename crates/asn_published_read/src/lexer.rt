@@ -227,10 +227,12 @@ fn is_digit_of(kind: u8, octet: u8) -> bool {
 
 /// Whether the octets between two quotes are bits, or hexadecimal digits.
 fn are_digits_of(kind: u8, octets: &[u8], first_quote: usize, last_quote: usize) -> bool {
-    match octets.get(on(first_quote, 1)..last_quote) {
-        Some(digits) => digits.iter().all(|digit| is_digit_of(kind, *digit)),
-        None => false,
+    for at in on(first_quote, 1)..last_quote {
+        if !is_digit_of(kind, octet_at(octets, at)) {
+            return false;
+        }
     }
+    true
 }
 
 /// The place after bits or octets whose first quote is at a place, with the B or H after them.

@@ -186,7 +186,7 @@ fn after_source(tokens: &Tokens<'_>, from: usize) -> Result<usize, TextFault> {
     if !tokens.is_word(at, "WITH") {
         return Ok(at);
     }
-    if matches!(tokens.text(next(at)), "SUCCESSORS" | "DESCENDANTS") {
+    if tokens.is_one_of(next(at), &["SUCCESSORS", "DESCENDANTS"]) {
         Ok(next(next(at)))
     } else {
         Err(tokens.expected(next(at), "SUCCESSORS or DESCENDANTS"))

@@ -41,23 +41,27 @@ impl Given {
     }
 }
 
+/// Reserved words with which types begin that go on after them.
+const WORDS_THAT_GO_ON: [&str; 11] = [
+    "SEQUENCE",
+    "SET",
+    "CHOICE",
+    "ENUMERATED",
+    "BIT",
+    "OCTET",
+    "OBJECT",
+    "CHARACTER",
+    "EMBEDDED",
+    "INSTANCE",
+    "ANY",
+];
+
 /// Whether a reserved word at `at` begins a type that goes on after it.
 fn is_type_of_words(tokens: &Tokens<'_>, at: usize) -> bool {
     let behind = next(at);
-    match tokens.text(at) {
-        "SEQUENCE"
-        | "SET"
-        | "CHOICE"
-        | "ENUMERATED"
-        | "BIT"
-        | "OCTET"
-        | "OBJECT"
-        | "CHARACTER"
-        | "EMBEDDED"
-        | "INSTANCE"
-        | "ANY" => true,
-        _ => tokens.is(behind, Sign::Dot) || tokens.is(behind, Sign::Colon),
-    }
+    tokens.is_one_of(at, &WORDS_THAT_GO_ON)
+        || tokens.is(behind, Sign::Dot)
+        || tokens.is(behind, Sign::Colon)
 }
 
 /// Whether an element of a set of objects may follow the item at `at`: an operator, or a comma beside an extension mark.

@@ -3,6 +3,7 @@ use crate::extents::type_end;
 use crate::refusal::{Refusal, Why, refused};
 use crate::token::{Kind, Sign};
 use crate::tokens::{Tokens, next};
+use crate::value_kinds::Values;
 use crate::value_steps::value_end;
 
 /// The index of what ends the first constraint of a group, or `end`: a comma or `!` outside brackets.
@@ -45,29 +46,69 @@ pub fn is_and(tokens: &Tokens<'_>, at: usize) -> bool {
 /// The index after a constraint that no encoding rule sees, which begins with a word at `at`; `None` where it is
 /// not understood.
 pub fn after_unseen(tokens: &Tokens<'_>, at: usize) -> Option<usize> {
+    if tokens.is_word(at, "WITH") && tokens.is_word(next(at), "COMPONENT") {
+        return group_end(tokens, next(next(at)), Sign::LeftParen);
+    }
+    let (unseen, start) = unseen_at(tokens, at)?;
+    match unseen {
+        Unseen::Inner | Unseen::UserDefined => group_end(tokens, start, Sign::LeftBrace),
+        Unseen::Value(_) => value_end(tokens, start).ok(),
+        Unseen::Contents => after_contents(tokens, start),
+        Unseen::Type => None,
+    }
+}
+
+/// The index after the type at `at`, and after ENCODED BY and a value.
+fn after_contents(tokens: &Tokens<'_>, at: usize) -> Option<usize> {
+    let behind = type_end(tokens, at).ok()?;
+    if tokens.is_word(behind, "ENCODED") && tokens.is_word(next(behind), "BY") {
+        value_end(tokens, next(next(behind))).ok()
+    } else {
+        Some(behind)
+    }
+}
+
+/// A constraint that no encoding rule sees.
+#[derive(Clone, Copy)]
+pub(crate) enum Unseen {
+    /// WITH COMPONENTS, and braces.
+    Inner,
+    /// CONSTRAINED BY, and braces.
+    UserDefined,
+    /// A word or two, and a value of a type that has these.
+    Value(Values),
+    /// CONTAINING, and a type.
+    Contents,
+    /// INCLUDES, and a type.
+    Type,
+}
+
+/// The words with which such constraints begin: the first, and the second where there is one.
+const UNSEEN: [(&str, &str, Unseen); 7] = [
+    ("WITH", "COMPONENTS", Unseen::Inner),
+    ("CONSTRAINED", "BY", Unseen::UserDefined),
+    ("ENCODED", "BY", Unseen::Value(Values::Identifier)),
+    ("PATTERN", "", Unseen::Value(Values::Letters)),
+    ("SETTINGS", "", Unseen::Value(Values::Text)),
+    ("CONTAINING", "", Unseen::Contents),
+    ("INCLUDES", "", Unseen::Type),
+];
+
+/// The constraint that no encoding rule sees, of which the words stand at `at`, and the index after these words; `None`
+/// where there is none.
+pub(crate) fn unseen_at(tokens: &Tokens<'_>, at: usize) -> Option<(Unseen, usize)> {
     let second = next(at);
-    match tokens.text(at) {
-        "WITH" if tokens.is_word(second, "COMPONENT") => {
-            group_end(tokens, next(second), Sign::LeftParen)
-        }
-        "WITH" if tokens.is_word(second, "COMPONENTS") => {
-            group_end(tokens, next(second), Sign::LeftBrace)
-        }
-        "CONSTRAINED" if tokens.is_word(second, "BY") => {
-            group_end(tokens, next(second), Sign::LeftBrace)
-        }
-        "PATTERN" | "SETTINGS" => value_end(tokens, second).ok(),
-        "ENCODED" if tokens.is_word(second, "BY") => value_end(tokens, next(second)).ok(),
-        "CONTAINING" => {
-            let behind = type_end(tokens, second).ok()?;
-            if tokens.is_word(behind, "ENCODED") && tokens.is_word(next(behind), "BY") {
-                value_end(tokens, next(next(behind))).ok()
-            } else {
-                Some(behind)
+    for (one, other, unseen) in &UNSEEN {
+        if tokens.is_word(at, *one) {
+            if other.is_empty() {
+                return Some((*unseen, second));
+            }
+            if tokens.is_word(second, *other) {
+                return Some((*unseen, next(second)));
             }
         }
-        _ => None,
     }
+    None
 }
 
 /// The index after a group that this bracket opens.
@@ -151,6 +192,18 @@ pub fn after_value(tokens: &Tokens<'_>, at: usize) -> Result<usize, Refusal> {
     }
 }
 
+/// The words in capitals that are values or ends of ranges.
+const WORDS_OF_VALUES: [&str; 8] = [
+    "TRUE",
+    "FALSE",
+    "NULL",
+    "MIN",
+    "MAX",
+    "PLUS-INFINITY",
+    "MINUS-INFINITY",
+    "NOT-A-NUMBER",
+];
+
 /// Whether a type stands at `at`, and no value.
 pub fn is_contained(tokens: &Tokens<'_>, at: usize) -> bool {
     if !tokens.is_capital(at) || tokens.is(next(at), Sign::Colon) {
@@ -159,15 +212,5 @@ pub fn is_contained(tokens: &Tokens<'_>, at: usize) -> bool {
     if tokens.is(next(at), Sign::Dot) {
         return tokens.is_capital(next(next(at)));
     }
-    !matches!(
-        tokens.text(at),
-        "TRUE"
-            | "FALSE"
-            | "NULL"
-            | "MIN"
-            | "MAX"
-            | "PLUS-INFINITY"
-            | "MINUS-INFINITY"
-            | "NOT-A-NUMBER"
-    )
+    !tokens.is_one_of(at, &WORDS_OF_VALUES)
 }

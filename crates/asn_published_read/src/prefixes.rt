@@ -32,7 +32,7 @@ fn is_prefix(items: &[Token<'_>], at: usize, is_default: bool) -> bool {
         return is_capital(word) && word != "TAG";
     }
     // a tag has a class, a number or the name of one
-    is_default && is_capital(word) && !matches!(word, "UNIVERSAL" | "APPLICATION" | "PRIVATE")
+    is_default && is_capital(word) && !["UNIVERSAL", "APPLICATION", "PRIVATE"].contains(&word)
 }
 
 /// Whether a word begins with a capital.

@@ -82,7 +82,7 @@ pub fn read_assignment<'t>(
         is_plain: it.parameters.is_none(),
     };
     let mut todo = Vec::new(alloc);
-    reading.read_parts(alloc, &mut todo, &it, index)?;
+    reading.read_parts(alloc, &mut todo, it, index)?;
     reading.read_all(alloc, &mut todo)
 }
 

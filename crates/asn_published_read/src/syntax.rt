@@ -42,11 +42,12 @@ pub struct Syntax<'t> {
 
 /// Whether all of a word is capitals and hyphens, as of those in a syntax.
 pub(crate) fn is_literal(tokens: &Tokens<'_>, at: usize) -> bool {
+    for one in tokens.text(at).as_bytes() {
+        if !one.is_ascii_uppercase() && *one != b'-' {
+            return false;
+        }
+    }
     tokens.is_capital(at)
-        && tokens
-            .text(at)
-            .bytes()
-            .all(|one| one.is_ascii_uppercase() || one == b'-')
 }
 
 impl<'t> Syntax<'t> {

@@ -150,6 +150,11 @@ impl<'t> Tokens<'t> {
         }
     }
 
+    /// Whether the item is one of these words.
+    pub fn is_one_of(&self, index: usize, words: &[&str]) -> bool {
+        words.contains(&self.text(index))
+    }
+
     /// Whether the item is of a kind that is no sign.
     pub fn is_kind(&self, index: usize, kind: Kind) -> bool {
         self.kind(index) == Some(kind)

@@ -38,20 +38,30 @@ fn read_names(tokens: &Tokens<'_>, at: usize) -> Result<(), TextFault> {
     }
 }
 
-/// Reads ANY, with DEFINED BY and a name where they stand after it, or INSTANCE OF and the name of a class.
-fn read_old(tokens: &Tokens<'_>, at: usize) -> Result<(), TextFault> {
+/// Reads STRING at `second`, after BIT, and named bits.
+fn read_bits(tokens: &Tokens<'_>, second: usize) -> Result<(), TextFault> {
+    if tokens.is_word(second, "STRING") {
+        read_names(tokens, next(second))
+    } else {
+        Err(tokens.expected(second, "STRING"))
+    }
+}
+
+/// Reads OF at `second`, after INSTANCE, and the name of a class.
+fn read_instance(tokens: &Tokens<'_>, second: usize) -> Result<(), TextFault> {
+    if !tokens.is_word(second, "OF") {
+        Err(tokens.expected(second, "OF"))
+    } else if tokens.is_capital(next(second)) {
+        Ok(())
+    } else {
+        Err(tokens.expected(next(second), "the name of a class"))
+    }
+}
+
+/// Reads ANY, with DEFINED BY and a name where they stand after it.
+fn read_any_type(tokens: &Tokens<'_>, at: usize) -> Result<(), TextFault> {
     let second = next(at);
     let third = next(second);
-    if tokens.is_word(at, "INSTANCE") {
-        if !tokens.is_word(second, "OF") {
-            return Err(tokens.expected(second, "OF"));
-        }
-        return if tokens.is_capital(third) {
-            Ok(())
-        } else {
-            Err(tokens.expected(third, "the name of a class"))
-        };
-    }
     if !tokens.is_word(second, "DEFINED") {
         return Ok(());
     }
@@ -160,22 +170,21 @@ impl<'a, 't> Reading<'a, 't> {
     fn read_words(self, alloc: Global, todo: &mut Vec<Work>, at: usize) -> Result<(), TextFault> {
         let tokens = self.tokens;
         let second = next(at);
-        let word = tokens.text(at);
-        match word {
-            "SEQUENCE" | "SET" | "CHOICE" => self.push(
-                todo,
-                Work::Members {
-                    from: next(second),
-                    end: tokens.other(second),
-                    is_choice: word == "CHOICE",
-                    marks: 0,
-                },
-            ),
+        if tokens.is_one_of(at, &["SEQUENCE", "SET", "CHOICE"]) {
+            let members = Work::Members {
+                from: next(second),
+                end: tokens.other(second),
+                is_choice: tokens.is_word(at, "CHOICE"),
+                marks: 0,
+            };
+            return self.push(todo, members);
+        }
+        match tokens.text(at) {
             "ENUMERATED" => self.read_items(alloc, todo, second),
             "INTEGER" => read_names(tokens, second),
-            "BIT" if tokens.is_word(second, "STRING") => read_names(tokens, next(second)),
-            "BIT" => Err(tokens.expected(second, "STRING")),
-            "ANY" | "INSTANCE" => read_old(tokens, at),
+            "BIT" => read_bits(tokens, second),
+            "ANY" => read_any_type(tokens, at),
+            "INSTANCE" => read_instance(tokens, second),
             _ => self.read_name(todo, at),
         }
     }

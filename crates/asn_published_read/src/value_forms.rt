@@ -215,7 +215,7 @@ pub(crate) fn has_tag(tokens: &Tokens<'_>, at: usize) -> bool {
     if tokens.is_word(start, "TAG") && tokens.is(next(start), Sign::Colon) {
         start = next(next(start));
     }
-    if matches!(tokens.text(start), "UNIVERSAL" | "APPLICATION" | "PRIVATE") {
+    if tokens.is_one_of(start, &["UNIVERSAL", "APPLICATION", "PRIVATE"]) {
         start = next(start);
     }
     after_number(tokens, start) == Some(tokens.other(at))

@@ -135,7 +135,7 @@ const VALUES_OF_WORDS: [(&str, Values); 22] = [
 /// The values of the type that begins with a word at `at`, after its tags: of any other word than those above, letters.
 fn values_of(tokens: &Tokens<'_>, at: usize) -> Values {
     let begins = tokens.text(at);
-    if matches!(begins, "SEQUENCE" | "SET") {
+    if tokens.is_one_of(at, &["SEQUENCE", "SET"]) {
         return values_of_sequence(tokens, next(at));
     }
     for (word, values) in &VALUES_OF_WORDS {

@@ -103,10 +103,11 @@ impl<'t> World<'t> {
             let Some(set) = self.assignment(index) else {
                 break;
             };
-            if set.what == What::Set && self.has_values(set.module, set.governor) {
+            let governor = set.governor;
+            if set.what == What::Set && self.has_values(set.module, governor) {
                 if let Some(it) = self.assignments.get_mut(index) {
                     it.what = What::Type;
-                    it.start = set.governor;
+                    it.start = governor;
                 }
             }
         }

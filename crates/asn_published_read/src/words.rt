@@ -155,10 +155,7 @@ pub fn holder_named(word: &str) -> Option<Holder> {
 
 /// Whether a type of the profile begins with a word.
 fn is_plain(word: &str) -> bool {
-    PLAIN
-        .iter()
-        .any(|plain| *plain.as_bytes() == *word.as_bytes())
-        || letters_named(word).is_some()
+    PLAIN.contains(&word) || letters_named(word).is_some()
 }
 
 /// Whether a reserved word begins a type.
@@ -168,10 +165,7 @@ pub(crate) fn is_type_word(word: &str) -> bool {
 
 /// Whether a word is reserved, so that it names no type and no module.
 pub(crate) fn is_reserved(word: &str) -> bool {
-    RESERVED
-        .iter()
-        .any(|other| *other.as_bytes() == *word.as_bytes())
-        || is_plain(word)
+    RESERVED.contains(&word) || is_plain(word)
 }
 
 /// A type of two words: the second, and what the type is.

@@ -88,7 +88,7 @@ fn lead_of(world: &World<'_>, index: usize) -> Lead {
     if assignment.what != What::Value || assignment.parameters.is_some() {
         return Lead::None;
     }
-    if let Some((module, at)) = named_number_of(world, &assignment) {
+    if let Some((module, at)) = named_number_of(world, assignment) {
         return match lead_at(world, module, at) {
             Some((lead, _)) => lead,
             None => Lead::None,

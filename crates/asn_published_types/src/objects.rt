@@ -54,7 +54,7 @@ fn object_named<'t>(world: &World<'t>, module: usize, name: &str) -> Result<Assi
             return Err(Why::ClassField);
         };
         if tokens.is(object.start, Sign::LeftBrace) {
-            return Ok(object);
+            return Ok(*object);
         }
         match world.reference_at(object.module, object.start)? {
             (next_one, end) if end == object.end => to = next_one,

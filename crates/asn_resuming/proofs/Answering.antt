@@ -223,7 +223,7 @@ module _ {F : Type 0} (c : Coding) (laws : Laws c) (feeds : FeedLaws c) (fc : Fi
   waiting_keeps e is (stopped s fault) k = absurd (let clash : state.Waiting ≡ state.Stopped fault = sym e ∙ k.goes_on.0 in cc)
   waiting_keeps e is (over s) k = absurd (let clash : state.Waiting ≡ state.Over = sym e ∙ k.goes_on.0 in cc)
 
--- it holds no more than the octets so far allow, and gives no larger value
+-- it holds no more than the octets so far allow
 module _ {F : Type 0} (c : Coding) (laws : Laws c) (fc : FieldCoding) (keep : KeepLaws c fc) (hold : HoldLaws c fc) (ahead : F → Ahead) (between : F → Type 0) (t : Shape) where
   -- nothing is held where no node has begun
   none_holds : (fs : List (Frame F)) (n : ℕ) → fs ≡ [] → n ≡ counted (held_in fs) → n ≡ 0
@@ -237,9 +237,10 @@ module _ {F : Type 0} (c : Coding) (laws : Laws c) (fc : FieldCoding) (keep : Ke
   holds_few q n e (stopped s fault) k = none_holds (nodes q.frames) n k.goes_on.1 e
   holds_few q n e (over s) k = none_holds (nodes q.frames) n k.goes_on.1 e
 
-  pub done_few : (v : Datum) (all : List ℕ) (n : ℕ) → InProfile t → Answer c.ruling t all (done v n) → cells v ≤ room t n
-  done_few v all n good h =
-      let few = cells_within c laws fc hold t v (take n all) good h.1 in
-      let short = (take_few n all).0 in
-      let most : places t * max 1 (8 * length (take n all)) ≤ places t * max 1 (8 * n) = mul-le-mul_left (places t) (omega (arith, short)) in
-      omega (arith, few, most)
+-- a value is no larger than the octets up to its end allow
+pub done_few : (c : Coding) (laws : Laws c) (fc : FieldCoding) (hold : HoldLaws c fc) (t : Shape) (v : Datum) (all : List ℕ) (n : ℕ) → InProfile t → Answer c.ruling t all (done v n) → cells v ≤ room t n
+done_few c laws fc hold t v all n good h =
+    let few = cells_within c laws fc hold t v (take n all) good h.1 in
+    let short = (take_few n all).0 in
+    let most : places t * max 1 (8 * length (take n all)) ≤ places t * max 1 (8 * n) = mul-le-mul_left (places t) (omega (arith, short)) in
+    omega (arith, few, most)

@@ -59,7 +59,7 @@ returns-then-octets-eq-MAX_OCTETS-clause-answered g c = λ t past k.
     let at = w.goes_on.2 in
     let count : q.units + c.units_of.result ≡ length (r.ruling.units (s ++ m)) = omega (arith, units_joined r laws s m, at.units_are, c.units_of.ensures) in
     let all : length (s ++ m) ≡ max_octets = omega (arith, length-append s m, at.octets_are, c.if-octets-eq-MAX_OCTETS.true) in
-    too_long_feeds r laws fc ah bt t q _ refl s p m w (so_far r laws fc ah bt t q s p c.saturating_sub-room.result c.min.result w c.saturating_sub-room.ensures c.min.ensures) (nodes c.read_next.new.frames) (record { taken = q.units + c.units_of.result }) refl c.none-in-Ok-More.ensures refl count all (of_its_type r laws fc ah bt t q s (λ (u : Shape). GoesOn r fc ah bt (nodes c.read_next.new.frames) u (s ++ m)) w (told s (reached_of r laws fc ah bt t q s w))) (of_its_type r laws fc ah bt t q s (λ (u : Shape). Going r fc ah bt (nodes c.read_next.new.frames) u (length (r.ruling.units (s ++ m))) c.read_next.new.ticks) w (going s (reached_of r laws fc ah bt t q s w) (going_at r laws fc ah bt t q s w)))) past k
+    too_long_feeds r laws fc ah bt t q _ refl s p m w (so_far r laws fc ah bt t q s p c.saturating_sub-room.result c.min.result w c.saturating_sub-room.ensures c.min.ensures) (nodes c.read_next.new.frames) (record { taken = q.units + c.units_of.result }) refl c.none-then-octets-eq-MAX_OCTETS.ensures refl count all (of_its_type r laws fc ah bt t q s (λ (u : Shape). GoesOn r fc ah bt (nodes c.read_next.new.frames) u (s ++ m)) w (told s (reached_of r laws fc ah bt t q s w))) (of_its_type r laws fc ah bt t q s (λ (u : Shape). Going r fc ah bt (nodes c.read_next.new.frames) u (length (r.ruling.units (s ++ m))) c.read_next.new.ticks) w (going s (reached_of r laws fc ah bt t q s w) (going_at r laws fc ah bt t q s w)))) past k
 
 pub returns-else-octets-eq-MAX_OCTETS-clause-answered : goal.returns-else-octets-eq-MAX_OCTETS-clause-answered
 returns-else-octets-eq-MAX_OCTETS-clause-answered g c = λ t past k.

@@ -4,6 +4,7 @@ pub mod Brief
 pub mod Coarser
 pub mod Counts
 pub mod FeedLaws
+pub mod Hold
 pub mod Kept
 pub mod PackedAgain
 pub mod PackedItems

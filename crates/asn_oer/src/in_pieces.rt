@@ -177,6 +177,8 @@ impl FeedLeaves for OerInPieces {
     fn keep_string_laws() {}
 
     fn keep_kept_laws() {}
+
+    fn keep_hold_laws() {}
 }
 
 #[tactic(auto, unfolding(crate::specs::Walk::oer_coding))]

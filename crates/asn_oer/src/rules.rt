@@ -1,7 +1,7 @@
 //! Canonical OER as encoding rules: the encoder, the decoder and sessions.
 ghost use Rattle.std.specs.Prelude.{[]};
 ghost use Rattle.asn_oer.specs.Words.{oer_ruling};
-ghost use Rattle.asn_oer.specs.Sessions.{OerTook, oer_ticked};
+ghost use Rattle.asn_oer.specs.Sessions.{OerTook, oer_ticked, oer_holds};
 
 use crate::session::OerSession;
 use asn_rules::internal::{self, Reads, is_value_of_none};
@@ -47,6 +47,8 @@ impl Rules for Oer {
     ghost took = { OerTook };
 
     ghost ticked = { oer_ticked };
+
+    ghost holds = { oer_holds };
 
     #[tactic(auto, unfolding(crate::specs::Walk::oer_coding))]
     fn encode(alloc: Global, ty: &Checked, value: &Value) -> Result<Vec<u8>, EncodeFault> {
@@ -115,6 +117,10 @@ impl Rules for Oer {
 
     fn kept(session: &OerSession) -> &[u8] {
         session.kept()
+    }
+
+    fn held(session: &OerSession) -> u64 {
+        session.held()
     }
 
     fn finish(session: OerSession) -> Result<(), Truncated> {

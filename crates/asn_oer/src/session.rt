@@ -5,12 +5,13 @@ ghost use Rattle.asn_values.specs.Shape.{Shape};
 ghost use Rattle.asn_values.specs.View.{shape_of};
 ghost use Rattle.asn_values.specs.contracts.checked.Checked as types;
 ghost use Rattle.asn_values.specs.contracts.value.Value as values;
+ghost use Rattle.asn_rules.specs.Holding.{HoldsFew, GivesFewOf};
 ghost use Rattle.asn_rules.specs.Kept.{Keeps};
 ghost use Rattle.asn_rules.specs.Sessions.{Past, waiting, Feeds, Finished};
 ghost use Rattle.asn_rules.specs.Ticks.{Counts, TicksOn};
 ghost use Rattle.asn_resuming.specs.declared.session.Resuming.{Resuming as TheResuming};
 ghost use Rattle.asn_oer.specs.Rules.{oer_ruling};
-ghost use Rattle.asn_oer.specs.Sessions.{OerTook, oer_ticked};
+ghost use Rattle.asn_oer.specs.Sessions.{OerTook, oer_ticked, oer_holds};
 
 use crate::in_pieces::OerInPieces;
 use asn_resuming::Resuming;
@@ -56,6 +57,7 @@ impl OerSession {
     pub(crate) fn feed(&mut self, piece: &[u8]) -> Result<Step, FeedFault>
         ensures answered { Feeds oer_ruling OerTook self.old self.new piece.now result }
         ensures ticked { TicksOn oer_ruling OerTook oer_ticked self.old self.new piece.now result }
+        ensures few { GivesFewOf OerTook self.old result }
     {
         asn_resuming::feed::<OerInPieces>(&mut self.inner, piece)
     }
@@ -73,6 +75,14 @@ impl OerSession {
         ensures { Keeps oer_ruling OerTook self.now result.now }
     {
         asn_resuming::kept::<OerInPieces>(&self.inner)
+    }
+
+    /// How much of a message it holds. Takes no memory.
+    pub(crate) fn held(&self) -> u64
+        ensures count { result ≡ oer_holds self.now }
+        ensures few { HoldsFew OerTook self.now result }
+    {
+        asn_resuming::held::<OerInPieces>(&self.inner)
     }
 
     /// Ends the session. Takes no memory.

@@ -1,6 +1,7 @@
 pub mod Brief
 pub mod Counts
 pub mod Few
+pub mod Hold
 pub mod Kept
 pub mod Fields
 pub mod Numbers

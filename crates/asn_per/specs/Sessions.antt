@@ -3,6 +3,8 @@ use Rattle.std.specs.Prelude.{ℕ}
 use Rattle.asn_values.specs.Shape.{Shape}
 use Rattle.asn_rules.specs.Sessions.{Past}
 use Rattle.asn_walk_feed.specs.Counts.{count_of}
+use Rattle.asn_walk_feed.specs.Holding.{held_in, counted}
+use Rattle.asn_walk_feed.specs.Nodes.{nodes}
 use Rattle.asn_resuming.specs.Resumed.{Resumes}
 use Rattle.asn_resuming.specs.declared.session.Resuming.{Resuming}
 use Rattle.asn_per.specs.FragmentsAhead.{ahead_of, IsBetween}
@@ -17,3 +19,7 @@ PerTook q t past = Resumes per_coding per_field_coding ahead_of IsBetween q t pa
 -- it has ticked so often
 abbrev pub per_ticked : Resuming Fragments → ℕ
 per_ticked q = count_of q.ticks
+
+-- it holds so much
+abbrev pub per_holds : Resuming Fragments → ℕ
+per_holds q = counted (held_in (nodes q.frames))

@@ -107,6 +107,8 @@ impl FeedLeaves for PerInPieces {
     fn keep_string_laws() {}
 
     fn keep_kept_laws() {}
+
+    fn keep_hold_laws() {}
 }
 
 /// Reads what stands before the items of a string or an open type field under the size. No item stands there.

@@ -1,6 +1,6 @@
 //! PER as encoding rules: the encoder, the decoder and sessions.
 ghost use Rattle.asn_per.specs.Rules.{per_ruling};
-ghost use Rattle.asn_per.specs.Sessions.{PerTook, per_ticked};
+ghost use Rattle.asn_per.specs.Sessions.{PerTook, per_ticked, per_holds};
 
 use crate::session::PerSession;
 use asn_rules::internal::{self, Reads};
@@ -46,6 +46,8 @@ impl Rules for Per {
     ghost took = { PerTook };
 
     ghost ticked = { per_ticked };
+
+    ghost holds = { per_holds };
 
     #[tactic(auto, unfolding(crate::specs::Walk::per_coding))]
     fn encode(alloc: Global, ty: &Checked, value: &Value) -> Result<Vec<u8>, EncodeFault> {
@@ -114,6 +116,10 @@ impl Rules for Per {
 
     fn kept(session: &PerSession) -> &[u8] {
         session.kept()
+    }
+
+    fn held(session: &PerSession) -> u64 {
+        session.held()
     }
 
     fn finish(session: PerSession) -> Result<(), Truncated> {

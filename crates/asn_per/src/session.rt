@@ -5,12 +5,13 @@ ghost use Rattle.asn_values.specs.Shape.{Shape};
 ghost use Rattle.asn_values.specs.View.{shape_of};
 ghost use Rattle.asn_values.specs.contracts.checked.Checked as types;
 ghost use Rattle.asn_values.specs.contracts.value.Value as values;
+ghost use Rattle.asn_rules.specs.Holding.{HoldsFew, GivesFewOf};
 ghost use Rattle.asn_rules.specs.Kept.{Keeps};
 ghost use Rattle.asn_rules.specs.Sessions.{Past, waiting, Feeds, Finished};
 ghost use Rattle.asn_rules.specs.Ticks.{Counts, TicksOn};
 ghost use Rattle.asn_resuming.specs.declared.session.Resuming.{Resuming as TheResuming};
 ghost use Rattle.asn_per.specs.Rules.{per_ruling};
-ghost use Rattle.asn_per.specs.Sessions.{PerTook, per_ticked};
+ghost use Rattle.asn_per.specs.Sessions.{PerTook, per_ticked, per_holds};
 ghost use Rattle.asn_per.specs.declared.fragments.Fragments.{Fragments as TheFragments};
 
 use crate::fragments::Fragments;
@@ -58,6 +59,7 @@ impl PerSession {
     pub(crate) fn feed(&mut self, piece: &[u8]) -> Result<Step, FeedFault>
         ensures answered { Feeds per_ruling PerTook self.old self.new piece.now result }
         ensures ticked { TicksOn per_ruling PerTook per_ticked self.old self.new piece.now result }
+        ensures few { GivesFewOf PerTook self.old result }
     {
         asn_resuming::feed::<PerInPieces>(&mut self.inner, piece)
     }
@@ -75,6 +77,14 @@ impl PerSession {
         ensures { Keeps per_ruling PerTook self.now result.now }
     {
         asn_resuming::kept::<PerInPieces>(&self.inner)
+    }
+
+    /// How much of a message it holds. Takes no memory.
+    pub(crate) fn held(&self) -> u64
+        ensures count { result ≡ per_holds self.now }
+        ensures few { HoldsFew PerTook self.now result }
+    {
+        asn_resuming::held::<PerInPieces>(&self.inner)
     }
 
     /// Ends the session. Takes no memory.

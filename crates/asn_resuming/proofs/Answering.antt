@@ -1,6 +1,9 @@
 -- The session that goes on where the last piece ended: what each answer of the reader makes of it.
-use Rattle.std.proofs.Common.{◌≡◌, ◌≤◌, ◌<◌, ◌+◌, ◌-◌, ℕ, min, true, false, Result, Ok, Err, List, [], ◌++◌, length, take, refl, sym, ap, subst, ◌∙◌, arith}
+use Rattle.std.proofs.Common.{◌≡◌, ◌≤◌, ◌<◌, ◌+◌, ◌-◌, ◌*◌, ℕ, min, max, true, false, Result, Ok, Err, List, [], ◌++◌, length, take, refl, sym, ap, subst, ◌∙◌, arith}
 use Rattle.std.proofs.lemmas.List.{take-take}
+use Rattle.std.proofs.Math.Nat.{mul-le-mul_left}
+use Rattle.asn_values.specs.Datum.{Datum}
+use Rattle.asn_values.specs.Measures.{cells, places}
 use Rattle.asn_values.specs.Profile.{InProfile}
 use Rattle.asn_values.specs.Shape.{Shape}
 use Rattle.asn_values.specs.View.{shape_of, datum_of}
@@ -28,13 +31,17 @@ use Rattle.asn_resuming.specs.Reached.{Reached, GoesOn}
 use Rattle.asn_resuming.specs.Resumed.{Resumes}
 use Rattle.asn_resuming.specs.declared.session.Resuming.{Resuming}
 use Rattle.asn_resuming.specs.declared.session.State.TheVariants as state
+use Rattle.asn_rules.specs.Holding.{room, Holds}
 use Rattle.asn_rules.specs.Kept.{KeptOf, Kept}
 use Rattle.asn_rules.specs.Ticks.{Counted}
 use Rattle.asn_walk_feed.specs.declared.frame.Frame.{Frame}
 use Rattle.asn_walk_feed.specs.Feeding.{FeedLaws}
+use Rattle.asn_walk_feed.specs.Holding.{held_in, counted, unit_bits, HoldLaws}
 use Rattle.asn_walk_feed.specs.Keeping.{kept_in, KeepLaws}
 use Rattle.asn_walk_feed.specs.OpenFields.{FieldLaws}
 use Rattle.asn_walk_feed.specs.Strings.{StringLaws}
+use Rattle.asn_walk_feed.proofs.Cells.{bits_of_octets, cells_within}
+use Rattle.asn_walk_feed.proofs.HeldRead.{held_within}
 use Rattle.asn_walk_feed.proofs.KeptRead.{kept_of}
 use Rattle.asn_resuming.proofs.Counts.{count_of_seen}
 use Rattle.asn_resuming.proofs.NextOctets.{reached_none}
@@ -74,8 +81,8 @@ module _ {F : Type 0} (c : Coding) (laws : Laws c) (fc : FieldCoding) (ahead : F
   -- some octets brought one that waits to its nodes
   known_at : (q : Resuming F) → q.state ≡ state.Waiting → (past : Past) → R q t past → (s : List ℕ) × (length s < max_octets) × Reached c fc ahead between (nodes q.frames) t q.units q.octets s
   known_at q e (waiting s) k = (s, k.goes_on.1, k.goes_on.2)
-  known_at q e (stopped s fault) k = absurd (let clash : state.Waiting ≡ state.Stopped fault = sym e ∙ k.goes_on in cc)
-  known_at q e (over s) k = absurd (let clash : state.Waiting ≡ state.Over = sym e ∙ k.goes_on in cc)
+  known_at q e (stopped s fault) k = absurd (let clash : state.Waiting ≡ state.Stopped fault = sym e ∙ k.goes_on.0 in cc)
+  known_at q e (over s) k = absurd (let clash : state.Waiting ≡ state.Over = sym e ∙ k.goes_on.0 in cc)
 
   pub octets_known : (q : Resuming F) → q.state ≡ state.Waiting → (past : Past) → R q t past → (s : List ℕ) × (length s < max_octets) × Reached c fc ahead between (nodes q.frames) (shape_of q.ty) q.units q.octets s
   octets_known q e past k =
@@ -85,8 +92,8 @@ module _ {F : Type 0} (c : Coding) (laws : Laws c) (fc : FieldCoding) (ahead : F
   -- a session that waits
   pub when_waiting : (q : Resuming F) (P : Past → Type 0) → q.state ≡ state.Waiting → ((s : List ℕ) → R q t (waiting s) → P (waiting s)) → (past : Past) → R q t past → P past
   when_waiting q P e f (waiting s) k = f s k
-  when_waiting q P e f (stopped s fault) k = absurd (let clash : state.Waiting ≡ state.Stopped fault = sym e ∙ k.goes_on in cc)
-  when_waiting q P e f (over s) k = absurd (let clash : state.Waiting ≡ state.Over = sym e ∙ k.goes_on in cc)
+  when_waiting q P e f (stopped s fault) k = absurd (let clash : state.Waiting ≡ state.Stopped fault = sym e ∙ k.goes_on.0 in cc)
+  when_waiting q P e f (over s) k = absurd (let clash : state.Waiting ≡ state.Over = sym e ∙ k.goes_on.0 in cc)
 
   pub feeds : (q new : Resuming F) (piece : List ℕ) (answer : Result Step FeedFault) → q.state ≡ state.Waiting → ((s : List ℕ) → R q t (waiting s) → FeedsTo c.ruling R q new t (waiting s) piece answer) → (past : Past) → R q t past → FeedsTo c.ruling R q new t past piece answer
   feeds q new piece answer e f past k = when_waiting q (λ (u : Past). FeedsTo c.ruling R q new t u piece answer) e f past k
@@ -111,8 +118,8 @@ module _ {F : Type 0} (c : Coding) (laws : Laws c) (fc : FieldCoding) (ahead : F
     ends : (past : Past) (end : Result (Unit {0}) Truncated) → new.end ≡ end → Finished c.ruling t past end → Finished c.ruling t past new.end
     ends past end g h = subst (λ (z : Result (Unit {0}) Truncated). Finished c.ruling t past z) (sym g) h
 
-    pub done_feeds : (v : Value) (used : ℕ) → new.state ≡ state.Over → new.end ≡ Ok tt → Answer c.ruling t (s ++ m) (done (datum_of v) (length s + used)) → Goes (Ok (step.Done v used))
-    done_feeds v used over_is end_is told =
+    pub done_feeds : (v : Value) (used : ℕ) → new.state ≡ state.Over → nodes new.frames ≡ [] → new.end ≡ Ok tt → Answer c.ruling t (s ++ m) (done (datum_of v) (length s + used)) → Goes (Ok (step.Done v used))
+    done_feeds v used over_is none end_is told =
         let all = s ++ piece in
         let n = length s + used in
         let h : Answer c.ruling t (all_so_far s piece) (done (datum_of v) n) = subst (λ (l : List ℕ). Answer c.ruling t l (done (datum_of v) n)) e told in
@@ -123,7 +130,7 @@ module _ {F : Type 0} (c : Coding) (laws : Laws c) (fc : FieldCoding) (ahead : F
           taken = record {
             of_type = same ∙ k.of_type;
             of_profile = k.of_profile;
-            goes_on = over_is;
+            goes_on = (over_is, none);
             end = ends (over (take n all)) (Ok tt) end_is (datum_of v, whole);
             counts = tt;
           };
@@ -146,14 +153,14 @@ module _ {F : Type 0} (c : Coding) (laws : Laws c) (fc : FieldCoding) (ahead : F
           taken = subst (λ (l : List ℕ). R new t (waiting l)) e here;
         }
 
-    pub too_long_feeds : (fs : List (Frame F)) (cut : Truncated) → new.state ≡ state.Stopped feed.TooLong → new.end ≡ Err cut → cut.taken ≡ length (c.ruling.units (s ++ m)) → length (s ++ m) ≡ max_octets
+    pub too_long_feeds : (fs : List (Frame F)) (cut : Truncated) → new.state ≡ state.Stopped feed.TooLong → nodes new.frames ≡ [] → new.end ≡ Err cut → cut.taken ≡ length (c.ruling.units (s ++ m)) → length (s ++ m) ≡ max_octets
         → GoesOn c fc ahead between fs t (s ++ m) → Going c fc ahead between fs t (length (c.ruling.units (s ++ m))) new.ticks → Goes (Err feed.TooLong)
-    too_long_feeds fs cut state_is end_is count all h going =
+    too_long_feeds fs cut state_is none end_is count all h going =
         let told : Answer c.ruling t (s ++ m) too_long = long_read c laws t k.of_profile (s ++ m) all h.short in
         let here : R new t (stopped (s ++ m) feed.TooLong) = record {
           of_type = same ∙ k.of_type;
           of_profile = k.of_profile;
-          goes_on = state_is;
+          goes_on = (state_is, none);
           end = ends (stopped (s ++ m) feed.TooLong) (Err cut) end_is (cut_short c.ruling t (s ++ m) cut (sym count) told.0 told.1);
           counts = record { taken = going.taken; inside = omega (arith, going.inside) };
         } in
@@ -162,25 +169,25 @@ module _ {F : Type 0} (c : Coding) (laws : Laws c) (fc : FieldCoding) (ahead : F
           taken = subst (λ (l : List ℕ). R new t (stopped l feed.TooLong)) e here;
         }
 
-    pub refused_feeds : (at : ℕ) (why : Why) (cut : Truncated) → new.state ≡ state.Stopped (feed.Refused at why) → new.end ≡ Err cut → cut.taken ≡ at - 1
+    pub refused_feeds : (at : ℕ) (why : Why) (cut : Truncated) → new.state ≡ state.Stopped (feed.Refused at why) → nodes new.frames ≡ [] → new.end ≡ Err cut → cut.taken ≡ at - 1
         → Answer c.ruling t (s ++ m) (refused at) → Seen t at new.ticks → Goes (Err (feed.Refused at why))
-    refused_feeds at why cut state_is end_is count told seen =
+    refused_feeds at why cut state_is none end_is count told seen =
         let h : Answer c.ruling t (all_so_far s piece) (refused at) = subst (λ (l : List ℕ). Answer c.ruling t l (refused at)) e told in
         record {
           answered = h;
           taken = record {
             of_type = same ∙ k.of_type;
             of_profile = k.of_profile;
-            goes_on = state_is;
+            goes_on = (state_is, none);
             end = ends (stopped (all_so_far s piece) (feed.Refused at why)) (Err cut) end_is (not_whole c.ruling t (all_so_far s piece) h.0, subst (λ (n : ℕ). LiveUnits c.ruling t (c.ruling.units (all_so_far s piece)) n) (sym count) (live_before c.ruling t (c.ruling.units (all_so_far s piece)) at k.of_profile h.1));
             counts = seen;
           };
         }
 
-    pub memory_feeds : new.state ≡ state.Over → new.end ≡ q.end → Goes (Err feed.Memory)
-    memory_feeds state_is end_is = record {
+    pub memory_feeds : new.state ≡ state.Over → nodes new.frames ≡ [] → new.end ≡ q.end → Goes (Err feed.Memory)
+    memory_feeds state_is none end_is = record {
       answered = tt;
-      taken = record { of_type = same ∙ k.of_type; of_profile = k.of_profile; goes_on = state_is; end = ends (over s) q.end end_is k.end; counts = tt };
+      taken = record { of_type = same ∙ k.of_type; of_profile = k.of_profile; goes_on = (state_is, none); end = ends (over s) q.end end_is k.end; counts = tt };
     }
 
   -- ---- what was counted
@@ -213,5 +220,27 @@ module _ {F : Type 0} (c : Coding) (laws : Laws c) (feeds : FeedLaws c) (fc : Fi
       let here : KeptOf c.ruling t (c.ruling.units s) (kept_in (nodes q.frames) t) = kept_of c laws feeds fc fields strings keep ahead between (nodes q.frames) t (c.ruling.units s) k.of_profile k.goes_on.2.took in
       let same : kept_in (nodes q.frames) t ≡ os = ap (λ (u : Shape). kept_in (nodes q.frames) u) (sym k.of_type) ∙ sym is in
       subst (λ (l : List ℕ). KeptOf c.ruling t (c.ruling.units s) l) same here
-  waiting_keeps e is (stopped s fault) k = absurd (let clash : state.Waiting ≡ state.Stopped fault = sym e ∙ k.goes_on in cc)
-  waiting_keeps e is (over s) k = absurd (let clash : state.Waiting ≡ state.Over = sym e ∙ k.goes_on in cc)
+  waiting_keeps e is (stopped s fault) k = absurd (let clash : state.Waiting ≡ state.Stopped fault = sym e ∙ k.goes_on.0 in cc)
+  waiting_keeps e is (over s) k = absurd (let clash : state.Waiting ≡ state.Over = sym e ∙ k.goes_on.0 in cc)
+
+-- it holds no more than the octets so far allow
+module _ {F : Type 0} (c : Coding) (laws : Laws c) (fc : FieldCoding) (keep : KeepLaws c fc) (hold : HoldLaws c fc) (ahead : F → Ahead) (between : F → Type 0) (t : Shape) where
+  -- nothing is held where no node has begun
+  none_holds : (fs : List (Frame F)) (n : ℕ) → fs ≡ [] → n ≡ counted (held_in fs) → n ≡ 0
+  none_holds fs n e h = (let z : held_in fs ≡ 0 = ap held_in e in omega (arith, h, z))
+
+  pub holds_few : (q : Resuming F) (n : ℕ) → n ≡ counted (held_in (nodes q.frames)) → (past : Past) → Resumes c fc ahead between q t past → Holds t past n
+  holds_few q n e (waiting s) k =
+      let h = held_within c laws fc keep hold ahead between (nodes q.frames) t (c.ruling.units s) k.of_profile k.goes_on.2.took in
+      let same : places t * max 1 (unit_bits c * length (c.ruling.units s)) ≡ places t * max 1 (8 * length s) = ap (λ (b : ℕ). places t * max 1 b) (bits_of_octets c laws fc hold s) in
+      omega (arith, e, h, same)
+  holds_few q n e (stopped s fault) k = none_holds (nodes q.frames) n k.goes_on.1 e
+  holds_few q n e (over s) k = none_holds (nodes q.frames) n k.goes_on.1 e
+
+-- a value is no larger than the octets up to its end allow
+pub done_few : (c : Coding) (laws : Laws c) (fc : FieldCoding) (hold : HoldLaws c fc) (t : Shape) (v : Datum) (all : List ℕ) (n : ℕ) → InProfile t → Answer c.ruling t all (done v n) → cells v ≤ room t n
+done_few c laws fc hold t v all n good h =
+    let few = cells_within c laws fc hold t v (take n all) good h.1 in
+    let short = (take_few n all).0 in
+    let most : places t * max 1 (8 * length (take n all)) ≤ places t * max 1 (8 * n) = mul-le-mul_left (places t) (omega (arith, short)) in
+    omega (arith, few, most)

@@ -6,4 +6,4 @@ mod reading;
 mod session;
 
 pub use reading::ReadsAtOnce;
-pub use session::{Resuming, feed, finish, kept, open, ticks};
+pub use session::{Resuming, feed, finish, held, kept, open, ticks};

@@ -2,10 +2,13 @@
 ghost use Rattle.std.specs.Prelude.{◌≡◌, [], ℕ, List, IfOk};
 ghost use Rattle.asn_values.specs.Shape.{Shape};
 ghost use Rattle.asn_values.specs.View.{shape_of};
+ghost use Rattle.asn_rules.specs.Holding.{HoldsFew, GivesFewOf};
 ghost use Rattle.asn_rules.specs.Kept.{Keeps};
 ghost use Rattle.asn_rules.specs.Sessions.{Past, waiting, Feeds, Finished};
 ghost use Rattle.asn_rules.specs.Ticks.{Counts, TicksOn};
 ghost use Rattle.asn_walk_feed.specs.Counts.{count_of};
+ghost use Rattle.asn_walk_feed.specs.Holding.{held_in, counted};
+ghost use Rattle.asn_walk_feed.specs.Nodes.{nodes};
 ghost use Rattle.asn_resuming.specs.Resumed.{Resumes};
 
 use crate::reading::{ReadsAtOnce, read_next, units_of};
@@ -80,6 +83,7 @@ pub fn feed<R: ReadsAtOnce>(
         session.new piece.now result }
     ensures ticked { TicksOn R.rules.ruling (λ q. Resumes R.rules R.fields R.ahead R.is_between q)
         (λ q. count_of q.ticks) session.old session.new piece.now result }
+    ensures few { GivesFewOf (λ q. Resumes R.rules R.fields R.ahead R.is_between q) session.old result }
 {
     match session.state {
         State::Waiting => {}
@@ -87,6 +91,7 @@ pub fn feed<R: ReadsAtOnce>(
         State::Over => return Err(FeedFault::Spent),
     }
     R::keep_laws();
+    R::keep_hold_laws();
     let room = MAX_OCTETS.saturating_sub(session.octets);
     let message = &piece[..piece.len().min(room)];
     let octets = session.octets + message.len();
@@ -101,6 +106,7 @@ pub fn feed<R: ReadsAtOnce>(
         message,
     ) {
         Ok(Step::Done { value, used }) => {
+            session.frames = Frames::none(session.alloc);
             session.state = State::Over;
             session.end = Ok(());
             Ok(Step::Done { value, used })
@@ -152,6 +158,17 @@ pub fn kept<R: FeedLeaves>(session: &Resuming<R::Fragments>) -> &[u8]
         State::Waiting => session.frames.kept(session.ty.get()),
         State::Stopped(_) | State::Over => &[],
     }
+}
+
+/// How much the session holds: see `asn_rules::Rules::held`. Takes no memory.
+pub fn held<R: FeedLeaves>(session: &Resuming<R::Fragments>) -> u64
+    ensures count { result ≡ counted (held_in (nodes session.now.frames)) }
+    ensures few { HoldsFew (λ q. Resumes R.rules R.fields R.ahead R.is_between q) session.now result }
+{
+    R::keep_laws();
+    R::keep_kept_laws();
+    R::keep_hold_laws();
+    session.frames.held()
 }
 
 /// Ends a session: see `asn_rules::Rules::finish`. Takes no memory.

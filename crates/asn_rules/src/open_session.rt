@@ -2,6 +2,7 @@
 ghost use Rattle.std.specs.Prelude.{◌≡◌, [], IfOk};
 ghost use Rattle.asn_values.specs.Shape.{Shape};
 ghost use Rattle.asn_values.specs.View.{shape_of};
+ghost use Rattle.asn_rules.specs.Holding.{HoldsFew, GivesFewOf};
 ghost use Rattle.asn_rules.specs.Kept.{Keeps};
 ghost use Rattle.asn_rules.specs.Sessions.{Past, waiting, Feeds, Finished};
 ghost use Rattle.asn_rules.specs.Ticks.{Counts, TicksOn};
@@ -38,6 +39,7 @@ impl<R: Rules> Session<R> {
         ensures answered { Feeds R.ruling (λ q. R.took q.inner) self.old self.new piece.now result }
         ensures ticked { TicksOn R.ruling (λ q. R.took q.inner) (λ q. R.ticked q.inner) self.old self.new
             piece.now result }
+        ensures few { GivesFewOf (λ q. R.took q.inner) self.old result }
     {
         R::feed(&mut self.inner, piece)
     }
@@ -55,6 +57,14 @@ impl<R: Rules> Session<R> {
         ensures { Keeps R.ruling (λ q. R.took q.inner) self.now result.now }
     {
         R::kept(&self.inner)
+    }
+
+    /// How much of a message it holds: see `Rules::held`. Takes no memory.
+    pub fn held(&self) -> u64
+        ensures count { result ≡ R.holds self.now.inner }
+        ensures few { HoldsFew (λ q. R.took q.inner) self.now result }
+    {
+        R::held(&self.inner)
     }
 
     /// Ends the session: whether the octets taken are a whole encoding. Takes no memory.

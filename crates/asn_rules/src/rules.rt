@@ -6,6 +6,7 @@ ghost use Rattle.asn_rules.specs.Answer.{Ruling, IsEncoding, max_octets};
 ghost use Rattle.asn_rules.specs.Codec.{NotEncoded, Decoded, DecodedFront};
 ghost use Rattle.asn_rules.specs.Delivered.{Encoded, NotDelivered};
 ghost use Rattle.asn_rules.specs.Held.{state_held};
+ghost use Rattle.asn_rules.specs.Holding.{CellsAreFew, HoldsFew, GivesFewOf};
 ghost use Rattle.asn_rules.specs.Kept.{Keeps};
 ghost use Rattle.asn_rules.specs.Laws.{RulesLaws};
 ghost use Rattle.asn_rules.specs.Measured.{IsLength, NotMeasured, Placed, NotPlaced};
@@ -36,6 +37,9 @@ pub trait Rules {
 
     /// The session has ticked so often.
     ghost ticked: { Self.Session → ℕ };
+
+    /// The session holds so much.
+    ghost holds: { Self.Session → ℕ };
 
     /// The encoding of a value of the type.
     ///
@@ -142,7 +146,8 @@ pub trait Rules {
     /// one that answered `Done` or `Memory` answers `Spent`.
     fn feed(session: &mut Self::Session, piece: &[u8]) -> Result<Step, FeedFault>
         ensures answered { Feeds ruling took session.old session.new piece.now result }
-        ensures ticked { TicksOn ruling took ticked session.old session.new piece.now result };
+        ensures ticked { TicksOn ruling took ticked session.old session.new piece.now result }
+        ensures few { GivesFewOf took session.old result };
 
     /// How many units the levels of the session took: the message is a level, and the content of each open type field is
     /// one, which is read when the last octet of it has come. As many as the units that are seen, at least, and at most
@@ -158,6 +163,14 @@ pub trait Rules {
     fn kept(session: &Self::Session) -> &[u8]
         ensures { Keeps ruling took session.now result.now };
 
+    /// How much of a message the session holds: one for each node of the value that has begun, one for each value that is
+    /// built in it, each absent entry and each item of a string, and each octet that it keeps. At most as many as the type
+    /// has places, a string counting two, for each bit of the octets so far, or once; none where the session does not go
+    /// on. Takes no memory.
+    fn held(session: &Self::Session) -> u64
+        ensures count { result ≡ holds session.now }
+        ensures few { HoldsFew took session.now result };
+
     /// Ends a session. Takes no memory.
     ///
     /// # Errors
@@ -167,11 +180,13 @@ pub trait Rules {
     fn finish(session: Self::Session) -> Result<(), Truncated>
         ensures { (t : Shape) (past : Past) → took session t past → Finished ruling t past result };
 
-    /// The rules keep the laws: an encoding has one value, a value that fits has one encoding, and no encoding begins
-    /// another. The call does nothing: its clauses are what proofs cite.
+    /// The rules keep the laws: an encoding has one value, a value that fits has one encoding, no encoding begins another,
+    /// and a value is no larger than the bits of its encoding allow. The call does nothing: its clauses are what proofs
+    /// cite.
     fn keep_laws()
         ensures laws { RulesLaws ruling }
-        ensures tells { RulesTell ruling };
+        ensures tells { RulesTell ruling }
+        ensures cells { CellsAreFew ruling };
 }
 
 /// The value of the type whose complete encoding the octets are. Only the first 268,435,455 octets are read.

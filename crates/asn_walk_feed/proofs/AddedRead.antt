@@ -1,7 +1,7 @@
 -- How the extension additions of a SEQUENCE that may be cut go on, as the program holds them.
 use Rattle.std.proofs.Common.{Vec, Global, ◌≡◌, ◌≤◌, ◌<◌, ◌+◌, ◌-◌, ◌/◌, ◌%◌, ◌^◌, inl, inr, get_or, ℕ, zero, suc, Bool, true, false, List, [], ◌∷◌, ◌++◌, length, map, drop, append-nil, append_assoc, Option, Some, None, refl, sym, ap, subst, ◌∙◌, arith}
 use Rattle.std.specs.Option.{option_map}
-use Rattle.std.proofs.lemmas.List.{map_push, length-drop}
+use Rattle.std.proofs.lemmas.List.{map_push, length-drop, length-append}
 use Rattle.asn_values.specs.declared.types.Field.{Field}
 use Rattle.asn_values.specs.declared.value.Value.{Value}
 use Rattle.asn_values.specs.Datum.{Datum, components, components_of}
@@ -37,11 +37,13 @@ use Rattle.asn_walk_feed.specs.Octets.{OctetsTook, KeepsOctets}
 use Rattle.asn_walk_feed.specs.OpenFields.{FieldCoding}
 use Rattle.asn_walk_feed.specs.Roots.{parts_in}
 use Rattle.asn_walk_feed.specs.Taken.{Took, with_node, RootReached}
+use Rattle.asn_walk_feed.specs.Weights.{total, allowed}
 use Rattle.asn_walk_feed.specs.declared.frame.AdditionBits.{AdditionBits}
 use Rattle.asn_walk_feed.specs.declared.frame.Components.{Components}
 use Rattle.asn_walk_feed.specs.declared.frame.Frame.{Frame}
 use Rattle.asn_walk_feed.specs.declared.frame.Frame.TheVariants as frame
 use Rattle.asn_walk_feed.proofs.ListsRead.{under}
+use Rattle.asn_walk_feed.proofs.Weights.{total-last, spells_fewer, chunks_fewer}
 use Rattle.asn_walk_feed.proofs.RootsRead.{fields_of-parts_in, others_left, one_bit, next_in, root_listed}
 
 -- ---- additions taken apart
@@ -164,6 +166,7 @@ module _ {F : Type 0} (c : Coding) (laws : Laws c) (feeds : FeedLaws c) (fc : Fi
         bitmap = rw (each, ← h.waits.come) sp;
         come = [];
         stands = λ further. rw (whole, ln, ee) (starts further);
+        light = λ w b f. rw (whole, ee) (omega arith);
         inner = rw ef (next_none q.presence.left bitmap);
       }
 
@@ -219,6 +222,22 @@ module _ {F : Type 0} (c : Coding) (laws : Laws c) (feeds : FeedLaws c) (fc : Fi
         let f : r ≡ h.come ++ units = sym (s.split ∙ ap (λ (cs : List Chunk). flat c.ruling.fielding.spelled cs ++ r) s.spelt.empty) in
         rw (f, s.spelt.same) (addition_absent c laws (stand further) after a b)
 
+    -- its entry weighs what its type allows
+    light_next : (w : Option Datum → ℕ) (b : Shape → ℕ) (x : Option Datum) → total w (entries_seen q.entries.items) + allowed b (drop (N - q.presence.left) (parts_in (fields_seen fields))) ≤ total w h.before + allowed b (parts_in (fields_seen fields))
+        → w x ≤ b p.shape → total w (entries_seen q.entries.items ++ x ∷ []) + allowed b ps ≤ total w h.before + allowed b (parts_in (fields_seen fields))
+    light_next w b x l m =
+        let sum = total-last w (entries_seen q.entries.items) x in
+        let first : allowed b (drop (N - q.presence.left) (parts_in (fields_seen fields))) ≡ b p.shape + allowed b ps = ap (allowed b) d in
+        omega (arith, sum, first, l, m)
+
+    -- its units are among all
+    within_all : (m : ℕ) → m ≤ length (h.come ++ units) → m ≤ length all
+    within_all m l =
+        let s = (stand []).stands in
+        let one = ap length s.split ∙ length-append (flat c.ruling.fielding.spelled s.front) ((h.come ++ units) ++ []) in
+        let r = h.root_read in
+        omega (arith, one, length-append h.between [], length-append (h.come ++ units) [], l, spells_fewer h.bitmap, spells_fewer r.components, spells_fewer r.preamble)
+
     addition_next : NextAddition q fs p.shape present after all units
     addition_next = record {
       good_shape = addition_good c laws (stand []);
@@ -233,6 +252,7 @@ module _ {F : Type 0} (c : Coding) (laws : Laws c) (feeds : FeedLaws c) (fc : Fi
         bitmap = h.bitmap;
         come = h.come ++ units;
         stands = λ further. rw (z, append-nil (h.come ++ units)) (h.stands further);
+        light = h.light;
         inner = subst (λ (n : ℕ). NextAdditionTook c fc ahead between gs n q.presence.bitmap (h.come ++ units)) (sym suc_after)
             (λ x t. subst (λ (b : Bool). AdditionTook c fc ahead between gs b (h.come ++ units)) (one_bit present x (told ∙ sym t)) k);
       };
@@ -249,6 +269,8 @@ module _ {F : Type 0} (c : Coding) (laws : Laws c) (feeds : FeedLaws c) (fc : Fi
             bitmap = rw eb h.bitmap;
             come = [];
             stands = λ further. rw (rest, eb, el, seen) (one_more present refl (option_map datum_of x) r k further);
+            light = λ w b f. rw (rest, seen) (light_next w b (option_map datum_of x) (h.light w b f)
+                (f p.shape present (option_map datum_of x) k.chunks (addition_good c laws (stand [])) k.spelt (within_all (length (flat c.ruling.fielding.spelled k.chunks)) (chunks_fewer k))));
             inner = rw eg (next_none q'.presence.left q'.presence.bitmap);
           });
     }
@@ -326,6 +348,7 @@ module _ {F : Type 0} (c : Coding) (laws : Laws c) (feeds : FeedLaws c) (fc : Fi
             (let one : AddedUpTo c h.before (fields_seen fields) (h.between ++ (units ++ further)) N bitmap rest left vs (h.come ++ (units ++ further)) = subst (λ (xs : List ℕ). AddedUpTo c h.before (fields_seen fields) (h.between ++ (units ++ further)) N bitmap rest left vs (xs ++ (units ++ further))) (append-nil h.come) (h.stands (units ++ further)) in
             let two : AddedUpTo c h.before (fields_seen fields) ((h.between ++ units) ++ further) N bitmap rest left vs (h.come ++ (units ++ further)) = subst (λ (xs : List ℕ). AddedUpTo c h.before (fields_seen fields) xs N bitmap rest left vs (h.come ++ (units ++ further))) (sym (append_assoc h.between units further)) one in
             subst (λ (xs : List ℕ). AddedUpTo c h.before (fields_seen fields) ((h.between ++ units) ++ further) N bitmap rest left vs xs) (sym (append_assoc h.come units further)) two);
+        light = λ w b f. h.light w b (λ t present e cs g s l. f t present e cs g s (omega (arith, l, length-append us units)));
         inner = h.inner;
       }
 

@@ -20,7 +20,8 @@ use Rattle.asn_walk.specs.Laws.{Laws}
 use Rattle.asn_walk.proofs.Listing.{steps_left, list_size}
 use Rattle.asn_walk_feed.specs.Feeding.{Waits, FeedLaws, NextOf, HasBegun}
 use Rattle.asn_walk_feed.specs.OpenFields.{FieldCoding}
-use Rattle.asn_walk_feed.specs.Taken.{Took, ListGoesOn, with_node}
+use Rattle.asn_walk_feed.specs.Taken.{Took, ElementTook, ListGoesOn, with_node}
+use Rattle.asn_walk_feed.specs.Weights.{NoItem}
 use Rattle.asn_walk_feed.specs.declared.frame.Frame.TheVariants as frame
 use Rattle.asn_walk_feed.specs.declared.frame.Frame.{Frame}
 use Rattle.asn_walk_feed.specs.declared.frame.Elements.{Elements}
@@ -40,10 +41,10 @@ module _ {F : Type 0} (c : Coding) (laws : Laws c) (feeds : FeedLaws c) (fc : Fi
 
   -- what has come of an element
   abbrev E : List ℕ → List (Frame F) → List ℕ → Type 0
-  E b fs come = (b ≡ []) × Took c fc ahead between fs t come
+  E b fs come = (b ≡ []) × ElementTook c fc ahead between fs t come
 
   pub none_took : (b : List ℕ) → b ≡ [] → E b [] []
-  none_took b e = (e, refl)
+  none_took b e = (e, (refl, λ x. refl))
 
   pub some : Inhabited L
   some = spelt_inhabited c.code t (element_of_profile t s good)
@@ -54,32 +55,32 @@ module _ {F : Type 0} (c : Coding) (laws : Laws c) (feeds : FeedLaws c) (fc : Fi
   -- ---- the next length
 
   pub length_ahead : (q : Elements F Value) (fs : List (Frame F)) (all units : List ℕ) → q.left ≡ 0 → R q fs all units
-      → LengthAhead c laws feeds ahead between L T datum_of some law E none_took q fs all units
-  length_ahead = items.length_ahead c laws feeds ahead between L T datum_of some law E none_took
+      → LengthAhead c laws feeds ahead between NoItem L T datum_of some law E none_took q fs all units
+  length_ahead = items.length_ahead c laws feeds ahead between NoItem L T datum_of some law E none_took
 
   pub length_stops : (q : Elements F Value) (fs : List (Frame F)) (all units : List ℕ) (why : Stop) → q.left ≡ 0 → R q fs all units
       → Stops c.ruling.fielding (NextOf (ahead q.fragments)) (c.to_units q.next_part ++ units) why → Stops c.ruling.fielding T all why
-  length_stops = items.length_stops c laws feeds ahead between L T datum_of some law E none_took
+  length_stops = items.length_stops c laws feeds ahead between NoItem L T datum_of some law E none_took
 
   pub length_ends : (q : Elements F Value) (fs : List (Frame F)) (all units r : List ℕ) (new : Ahead) → q.left ≡ 0 → R q fs all units
       → Spells c.ruling.fielding (NextOf (ahead q.fragments)) (None, new) (c.to_units q.next_part ++ units) r → Spells c.ruling.fielding T (map datum_of q.elements.items) all r
-  length_ends = items.length_ends c laws feeds ahead between L T datum_of some law E none_took
+  length_ends = items.length_ends c laws feeds ahead between NoItem L T datum_of some law E none_took
 
   pub length_kept : (q p : Elements F Value) (fs : List (Frame F)) (all units units' : List ℕ) → q.left ≡ 0 → R q fs all units
       → p.left ≡ q.left → p.fragments ≡ q.fragments → p.elements ≡ q.elements → c.at_unit p.next_part
       → c.to_units p.next_part ≡ c.to_units q.next_part ++ units → units' ≡ []
       → Stops c.ruling.fielding (NextOf (ahead q.fragments)) (c.to_units q.next_part ++ units) stop.Short → R p fs all units'
-  length_kept = items.length_kept c laws feeds ahead between L T datum_of some law E none_took
+  length_kept = items.length_kept c laws feeds ahead between NoItem L T datum_of some law E none_took
 
   pub length_more : (q p : Elements F Value) (fs : List (Frame F)) (all units r : List ℕ) (k : ℕ) → q.left ≡ 0 → R q fs all units
       → p.left ≡ k → p.elements ≡ q.elements → p.next_part ≡ [] → between p.fragments
       → Spells c.ruling.fielding (NextOf (ahead q.fragments)) (Some k, ahead p.fragments) (c.to_units q.next_part ++ units) r → R p fs all r
-  length_more = items.length_more c laws feeds ahead between L T datum_of some law E none_took
+  length_more = items.length_more c laws feeds ahead between NoItem L T datum_of some law E none_took
 
   pub length_nearer : (q : Elements F Value) (fs : List (Frame F)) (all units r : List ℕ) (k : ℕ) (new : Ahead) → q.left ≡ 0 → R q fs all units
       → Spells c.ruling.fielding (NextOf (ahead q.fragments)) (Some k, new) (c.to_units q.next_part ++ units) r
       → steps_left new + length r < steps_left (ahead q.fragments) + length units
-  length_nearer = items.length_nearer c laws feeds ahead between L T datum_of some law E none_took
+  length_nearer = items.length_nearer c laws feeds ahead between NoItem L T datum_of some law E none_took
 
   -- what has begun of the length
   pub length_begun : (q : Elements F Value) (fs : List (Frame F)) (all units : List ℕ) → q.left ≡ 0 → R q fs all units
@@ -90,15 +91,15 @@ module _ {F : Type 0} (c : Coding) (laws : Laws c) (feeds : FeedLaws c) (fc : Fi
 
   pub record ElementAhead (q : Elements F Value) (fs : List (Frame F)) (all units : List ℕ) : Type 0 where
     pub come : List ℕ
-    pub took : Took c fc ahead between fs t come
+    pub took : ElementTook c fc ahead between fs t come
     pub stops : (why : Stop) → Stops c.ruling.fielding L (come ++ units) why → Stops c.ruling.fielding T all why
-    pub kept : (gs : List (Frame F)) (units' : List ℕ) → units' ≡ [] → Took c fc ahead between gs t (come ++ units) → R q gs all units'
+    pub kept : (gs : List (Frame F)) (units' : List ℕ) → units' ≡ [] → ElementTook c fc ahead between gs t (come ++ units) → R q gs all units'
     pub more : (p : Elements F Value) (gs : List (Frame F)) (v : Value) (r : List ℕ) → p.left + 1 ≡ q.left → p.fragments ≡ q.fragments → p.next_part ≡ q.next_part
         → p.elements.items ≡ q.elements.items ++ v ∷ [] → gs ≡ [] → Spells c.ruling.fielding L (datum_of v) (come ++ units) r → R p gs all r
 
   pub element_ahead : (q : Elements F Value) (fs : List (Frame F)) (all units : List ℕ) → 0 < q.left → R q fs all units → ElementAhead q fs all units
   element_ahead q fs all units l h =
-      let x = items.element_ahead c laws feeds ahead between L T datum_of some law E none_took q fs all units l h in
+      let x = items.element_ahead c laws feeds ahead between NoItem L T datum_of some law E none_took q fs all units l h in
       record {
         come = x.come;
         took = x.took.1;
@@ -110,7 +111,7 @@ module _ {F : Type 0} (c : Coding) (laws : Laws c) (feeds : FeedLaws c) (fc : Fi
   -- ---- with the next piece
 
   pub list_goes_on : (q : Elements F Value) (fs : List (Frame F)) (us units : List ℕ) → R q fs us [] → R q fs (us ++ units) units
-  list_goes_on = items.items_go_on c laws feeds ahead between L T datum_of some law E none_took
+  list_goes_on = items.items_go_on c laws feeds ahead between NoItem L T datum_of some law E none_took
 
   pub took_elements : (r : Option (Frame F)) (f : Frame F) (q : Elements F Value) (fs : List (Frame F)) (us : List ℕ) → r ≡ Some f → f ≡ frame.Elements q
       → Took c fc ahead between (with_node r fs) (sequence_of t s) us → R q fs us []
@@ -129,8 +130,9 @@ module _ {F : Type 0} (c : Coding) (laws : Laws c) (feeds : FeedLaws c) (fc : Fi
   pub list_starts : (q : Elements F Value) (fs : List (Frame F)) (us r : List ℕ) → Spells c.ruling.fielding (c.list_start s) (ahead q.fragments) us r
       → q.left ≡ 0 → q.elements.items ≡ [] → q.next_part ≡ [] → between q.fragments → fs ≡ [] → R q fs us r
   list_starts q fs us r sp el ei eh b ef =
-      items.items_start c laws feeds ahead between L T datum_of some law E none_took q fs [] us r
-      (laws.list_ahead s (list_size t s good) (ahead q.fragments) sp.chunks sp.spelt) (λ more. list_begins c laws L s (ahead q.fragments) us r (list_size t s good) sp more) el (ap (map datum_of) ei) eh b ef
+      items.items_start c laws feeds ahead between NoItem L T datum_of some law E none_took q fs [] us r
+      (laws.list_ahead s (list_size t s good) (ahead q.fragments) sp.chunks sp.spelt) (λ more. list_begins c laws L s (ahead q.fragments) us r (list_size t s good) sp more)
+      (record { chunks = sp.chunks; spelt = refl; contents = sp.contents; split = sp.split }) el (ap (map datum_of) ei) eh b ef
 
 -- the outermost node was taken
 pub taken_is : {X : Type 0} (r : Option (Frame X)) (old new : List (Frame X)) → IfSome r (λ f. old ≡ f ∷ new) → (IsNone r → old ≡ []) → (IsNone r → new ≡ []) → old ≡ with_node r new

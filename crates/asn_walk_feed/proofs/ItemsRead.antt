@@ -1,6 +1,7 @@
 -- How items that stand in fragments go on where they may be cut, whatever they are.
-use Rattle.std.proofs.Common.{◌≡◌, ◌<◌, ◌+◌, inl, inr, ℕ, zero, suc, List, [], ◌∷◌, ◌++◌, length, map, append-nil, append_assoc, Some, None, refl, sym, ap, subst, ◌∙◌, arith}
-use Rattle.std.proofs.lemmas.List.{map_push}
+use Rattle.std.proofs.Common.{◌≡◌, ◌≤◌, ◌<◌, ◌+◌, ◌*◌, inl, inr, ℕ, zero, suc, List, [], ◌∷◌, ◌++◌, length, map, append-nil, append_assoc, Some, None, refl, sym, ap, subst, ◌∙◌, arith}
+use Rattle.std.proofs.lemmas.List.{map_push, length-append}
+use Rattle.std.proofs.Math.Nat.{mul-add}
 use Rattle.asn_rules.specs.Chunks.{Chunk}
 use Rattle.asn_rules.specs.Languages.{Spells, Short, Inhabited, Lawful}
 use Rattle.asn_rules.specs.Stops.{Stops}
@@ -13,13 +14,23 @@ use Rattle.asn_walk.specs.Laws.{Laws}
 use Rattle.asn_walk.proofs.Listing.{Going, going_ends, steps_left}
 use Rattle.asn_walk_feed.specs.Feeding.{Waits, FeedLaws, NextOf, HasBegun}
 use Rattle.asn_walk_feed.specs.Items.{InFragment, Stands, NextPart, ItemsGoOn}
+use Rattle.asn_walk_feed.specs.Weights.{total, Weighs}
 use Rattle.asn_walk_feed.specs.declared.frame.Frame.{Frame}
 use Rattle.asn_walk_feed.specs.declared.frame.Elements.{Elements}
+use Rattle.asn_walk_feed.proofs.Weights.{total-last, spells_weigh, spells_fewer, still_light}
 use Rattle.asn_walk_feed.proofs.ListsRead.{next_is, next_some, next_nearer, list_next_stops, element_stops, element_done, fragment_begins}
 
-module _ {F A V : Type 0} (c : Coding) (laws : Laws c) (feeds : FeedLaws c) (ahead : F → Ahead) (between : F → Type 0) (L : A → List Chunk → Type 0) (T : List A → List Chunk → Type 0) (seen : V → A) (some : Inhabited L) (law : Lawful L) (Element : List ℕ → List (Frame F) → List ℕ → Type 0) (fresh : (b : List ℕ) → b ≡ [] → Element b [] []) where
+module _ {F A V : Type 0} (c : Coding) (laws : Laws c) (feeds : FeedLaws c) (ahead : F → Ahead) (between : F → Type 0) (S : List A → List Chunk → Type 0) (L : A → List Chunk → Type 0) (T : List A → List Chunk → Type 0) (seen : V → A) (some : Inhabited L) (law : Lawful L) (Element : List ℕ → List (Frame F) → List ℕ → Type 0) (fresh : (b : List ℕ) → b ≡ [] → Element b [] []) where
   abbrev R : Elements F V → List (Frame F) → List ℕ → List ℕ → Type 0
-  R q fs all units = ItemsGoOn c ahead between L T seen Element q fs all units
+  R q fs all units = ItemsGoOn c ahead between S L T seen Element q fs all units
+
+  -- the elements vs weigh no more than the units in front of the last ones allow
+  abbrev Light : List A → ℕ → ℕ → Type 0
+  Light vs left all = (w : A → ℕ) (k : ℕ) → Weighs c.ruling.fielding S (total w) k → Weighs c.ruling.fielding L w k → total w vs + k * left ≤ k * all
+
+  -- less is left
+  light_later : (vs : List A) (x y all : ℕ) → y ≤ x → Light vs x all → Light vs y all
+  light_later vs x y all l h w k f g = still_light k (total w vs) (total w vs) (k * all) x y (h w k f g) l (omega arith)
 
   -- ---- the next length
 
@@ -29,6 +40,7 @@ module _ {F A V : Type 0} (c : Coding) (laws : Laws c) (feeds : FeedLaws c) (ahe
     pub begun : HasBegun c (NextOf (ahead q.fragments)) q.next_part
     pub at_unit : c.at_unit q.next_part
     pub going : (more : List ℕ) → Going c L T (all ++ more) (ahead q.fragments) (map seen q.elements.items) ((c.to_units q.next_part ++ units) ++ more)
+    pub light : Light (map seen q.elements.items) (length (c.to_units q.next_part ++ units)) (length all)
 
   pub length_ahead : (q : Elements F V) (fs : List (Frame F)) (all units : List ℕ) → q.left ≡ 0 → R q fs all units → LengthAhead q fs all units
   length_ahead q fs all units e h =
@@ -40,6 +52,7 @@ module _ {F A V : Type 0} (c : Coding) (laws : Laws c) (feeds : FeedLaws c) (ahe
         going = λ more.
             (let g : Going c L T (all ++ more) (ahead q.fragments) (map seen q.elements.items) ((h.come ++ units) ++ more) = rw e at h.stands more in
             subst (λ (xs : List ℕ). Going c L T (all ++ more) (ahead q.fragments) (map seen q.elements.items) ((xs ++ units) ++ more)) (sym i.1.come) g);
+        light = subst (λ (xs : List ℕ). Light (map seen q.elements.items) (length (xs ++ units)) (length all)) (sym i.1.come) h.light;
       }
 
   -- with nothing after it
@@ -73,11 +86,13 @@ module _ {F A V : Type 0} (c : Coding) (laws : Laws c) (feeds : FeedLaws c) (ahe
       let short : Short c.ruling.fielding (NextOf (ahead q.fragments)) (c.to_units p.next_part) = rw eh k.told in
       let come : List ℕ = c.to_units p.next_part in
       let stands : (more : List ℕ) → Going c L T (all ++ more) (ahead q.fragments) (map seen q.elements.items) ((come ++ units') ++ more) = λ more. rw (eu, append-nil come, eh) (a.going more) in
+      let light : Light (map seen q.elements.items) (length (come ++ units')) (length all) = rw (eu, append-nil come, eh) a.light in
       record {
         come = come;
         between_is = subst between (sym ef) h.between_is;
         some = subst (λ (f : F). SomeAhead (ahead f)) (sym ef) h.some;
         stands = λ more. rw (z, ef, ee) (stands more);
+        light = rw ee light;
         inner = rw (z, ef) (a.none, record { come = refl; at_unit = at; begins = inr short });
       }
 
@@ -101,10 +116,19 @@ module _ {F A V : Type 0} (c : Coding) (laws : Laws c) (feeds : FeedLaws c) (ahe
         between_is = b;
         some = next_some c (ahead q.fragments) k (ahead p.fragments) (c.to_units q.next_part ++ units) r (next_is (ahead q.fragments) (Some k, ahead p.fragments) (c.to_units q.next_part ++ units) r sp);
         stands = λ more. rw (el, ee) (stands more);
+        light = rw ee (light_later vs (length (c.to_units q.next_part ++ units)) (length r) (length all) (spells_fewer sp) a.light);
         inner = rw (el, a.none) (part_begins k p.next_part (ahead p.fragments) eh);
       }
 
   -- ---- the next element
+
+  -- it weighs what its units allow
+  light_more : (vs : List A) (x : A) (us r all : List ℕ) → Spells c.ruling.fielding L x us r → Light vs (length us) (length all) → Light (vs ++ x ∷ []) (length r) (length all)
+  light_more vs x us r all sp h w k f g =
+      let sum = total-last w vs x in
+      let one = spells_weigh c.ruling.fielding L w k g x us r sp in
+      let before = h w k f g in
+      omega (arith, sum, one, before)
 
   pub record ElementAhead (q : Elements F V) (fs : List (Frame F)) (all units : List ℕ) : Type 0 where
     pub come : List ℕ
@@ -138,6 +162,7 @@ module _ {F A V : Type 0} (c : Coding) (laws : Laws c) (feeds : FeedLaws c) (ahe
                   between_is = subst between (sym ef) h.between_is;
                   some = subst (λ (f : F). SomeAhead (ahead f)) (sym ef) h.some;
                   stands = λ more. rw (pl, ef, ee, z, append-nil (h.come ++ units)) (st more);
+                  light = rw (ee, z, append-nil (h.come ++ units)) h.light;
                   inner = rw pl k;
                 });
             more = λ p gs v r el ef eh ei eg k.
@@ -149,6 +174,7 @@ module _ {F A V : Type 0} (c : Coding) (laws : Laws c) (feeds : FeedLaws c) (ahe
                   between_is = subst between (sym ef) h.between_is;
                   some = subst (λ (f : F). SomeAhead (ahead f)) (sym ef) h.some;
                   stands = λ more. rw (pl, ef, ei, map_push seen q.elements.items v) (next more);
+                  light = rw (ei, map_push seen q.elements.items v) (light_more vs (seen v) us r all k h.light);
                   inner = rw (pl, ef, eg) (part_begins n p.next_part (ahead q.fragments) eh);
                 });
           }
@@ -162,6 +188,14 @@ module _ {F A V : Type 0} (c : Coding) (laws : Laws c) (feeds : FeedLaws c) (ahe
 
   -- ---- with the next piece
 
+  longer : (k m : ℕ) (come us units : List ℕ) → m + k * length come ≤ k * length us → m + k * length (come ++ units) ≤ k * length (us ++ units)
+  longer k m come us units h =
+      let one : k * length (come ++ units) ≡ k * (length come + length units) = ap (λ (i : ℕ). k * i) (length-append come units) in
+      let two : k * length (us ++ units) ≡ k * (length us + length units) = ap (λ (i : ℕ). k * i) (length-append us units) in
+      let first = mul-add k (length come) (length units) in
+      let second = mul-add k (length us) (length units) in
+      omega (arith, h, one, two, first, second)
+
   pub items_go_on : (q : Elements F V) (fs : List (Frame F)) (us units : List ℕ) → R q fs us [] → R q fs (us ++ units) units
   items_go_on q fs us units h = record {
     come = h.come;
@@ -173,17 +207,21 @@ module _ {F A V : Type 0} (c : Coding) (laws : Laws c) (feeds : FeedLaws c) (ahe
         let one : Stands c L T q.left a es (us ++ (units ++ more)) (h.come ++ (units ++ more)) = subst (λ (xs : List ℕ). Stands c L T q.left a es (us ++ (units ++ more)) (xs ++ (units ++ more))) (append-nil h.come) (h.stands (units ++ more)) in
         let two : Stands c L T q.left a es ((us ++ units) ++ more) (h.come ++ (units ++ more)) = subst (λ (xs : List ℕ). Stands c L T q.left a es xs (h.come ++ (units ++ more))) (sym (append_assoc us units more)) one in
         subst (λ (xs : List ℕ). Stands c L T q.left a es ((us ++ units) ++ more) xs) (sym (append_assoc h.come units more)) two);
+    light = λ w k f g.
+        (let before : total w (map seen q.elements.items) + k * length h.come ≤ k * length us = subst (λ (xs : List ℕ). total w (map seen q.elements.items) + k * length xs ≤ k * length us) (append-nil h.come) (h.light w k f g) in
+        longer k (total w (map seen q.elements.items)) h.come us units before);
     inner = h.inner;
   }
 
   -- ---- what stands before them has been read
 
   pub items_start : (q : Elements F V) (fs : List (Frame F)) (vs : List A) (us r : List ℕ) → SomeAhead (ahead q.fragments) → ((more : List ℕ) → Going c L T (us ++ more) (ahead q.fragments) vs (r ++ more))
-      → q.left ≡ 0 → map seen q.elements.items ≡ vs → q.next_part ≡ [] → between q.fragments → fs ≡ [] → R q fs us r
-  items_start q fs vs us r some_ahead stands el ei eh b ef = record {
+      → Spells c.ruling.fielding S vs us r → q.left ≡ 0 → map seen q.elements.items ≡ vs → q.next_part ≡ [] → between q.fragments → fs ≡ [] → R q fs us r
+  items_start q fs vs us r some_ahead stands sp el ei eh b ef = record {
     come = [];
     between_is = b;
     some = some_ahead;
     stands = λ more. rw (el, ei) (stands more);
+    light = λ w k f g. rw ei (spells_weigh c.ruling.fielding S (total w) k f vs us r sp);
     inner = rw (el, ef) (part_begins 0 q.next_part (ahead q.fragments) eh);
   }

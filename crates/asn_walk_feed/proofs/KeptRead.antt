@@ -45,7 +45,7 @@ use Rattle.asn_walk_feed.specs.Octets.{OctetsOf, OctetsTook}
 use Rattle.asn_walk_feed.specs.OpenFields.{FieldCoding, FieldLaws}
 use Rattle.asn_walk_feed.specs.Roots.{parts_in, IsPresent, OtherTook, DemandTook, EntryTook}
 use Rattle.asn_walk_feed.specs.Strings.{IsString, StringLaws}
-use Rattle.asn_walk_feed.specs.Taken.{Took, ListGoesOn, RootReached, ChoiceReached, AdditionReached}
+use Rattle.asn_walk_feed.specs.Taken.{Took, ElementTook, ListGoesOn, RootReached, ChoiceReached, AdditionReached}
 use Rattle.asn_walk_feed.specs.declared.frame.AdditionBits.{AdditionBits}
 use Rattle.asn_walk_feed.specs.declared.frame.Components.{Components}
 use Rattle.asn_walk_feed.specs.declared.frame.Elements.{Elements}
@@ -171,12 +171,12 @@ module _ {F : Type 0} (c : Coding) (laws : Laws c) (feeds : FeedLaws c) (fc : Fi
             let two : StandsIn R (Remaining (V t) (ahead q.fragments)) h.come L us = subst (λ (l : List ℕ). StandsIn R (Remaining (V t) (ahead q.fragments)) l L us) (append-nil (h.come ++ []) ∙ append-nil h.come) one in
             rw inner.0 (in_list (opens_in ok two (length_kept (ahead q.fragments) h.come h.some come)))
         go (suc n) e =
-            let inner : (q.next_part ≡ []) × Took c fc ahead between fs t h.come = rw e at h.inner in
+            let inner : (q.next_part ≡ []) × ElementTook c fc ahead between fs t h.come = rw e at h.inner in
             let here : InFragment c (V t) L (suc n) (ahead q.fragments) (map datum_of q.elements.items) (us ++ []) ((h.come ++ []) ++ []) = rw e at h.stands [] in
             let first : StandsIn R (V t) ((h.come ++ []) ++ []) L (us ++ []) = going_next_stands c here.done here.count element (omega (arith, here.sum)) here.next here.so_far here.going in
             let one : StandsIn R (V t) ((h.come ++ []) ++ []) L us = subst (λ (l : List ℕ). StandsIn R (V t) ((h.come ++ []) ++ []) L l) (append-nil us) first in
             let two : StandsIn R (V t) h.come L us = subst (λ (l : List ℕ). StandsIn R (V t) l L us) (append-nil (h.come ++ []) ∙ append-nil h.come) one in
-            in_list (opens_in ok two (again t h.come (element_of_profile t s good) inner.1))
+            in_list (opens_in ok two (again t h.come (element_of_profile t s good) inner.1.0))
 
   -- ---- the root of a SEQUENCE
 

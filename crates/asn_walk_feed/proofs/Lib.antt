@@ -1,10 +1,14 @@
 pub mod AddedRead
 pub mod Bits
+pub mod Cells
 pub mod ChosenRead
 pub mod CompleteRead
+pub mod ElementsWait
 pub mod FieldsKept
 pub mod FieldsRead
 pub mod Goings
+pub mod HeldNodes
+pub mod HeldRead
 pub mod ItemsRead
 pub mod KeptNodes
 pub mod KeptRead
@@ -16,3 +20,4 @@ pub mod RootsRead
 pub mod Scalars
 pub mod Sizes
 pub mod StringsRead
+pub mod Weights

@@ -19,7 +19,7 @@ use Rattle.asn_walk.specs.Laws.{Laws}
 use Rattle.asn_walk.proofs.Listing.{Going, steps_left}
 use Rattle.asn_walk.proofs.Parts.{fields_part_of}
 use Rattle.asn_walk_feed.specs.Feeding.{Waits, FeedLaws, NextOf, HasBegun}
-use Rattle.asn_walk_feed.specs.Octets.{OctetCoding, all_octets, OctetsOf, OctetLaws, OctetTook, OctetsGoOn, OctetsTook}
+use Rattle.asn_walk_feed.specs.Octets.{OctetCoding, FirstOf, all_octets, OctetsOf, OctetLaws, OctetTook, OctetsGoOn, OctetsTook}
 use Rattle.asn_walk_feed.specs.Taken.{with_node}
 use Rattle.asn_walk_feed.specs.declared.frame.Frame.{Frame}
 use Rattle.asn_walk_feed.specs.declared.frame.Frame.TheVariants as frame
@@ -74,8 +74,9 @@ module _ {F : Type 0} (c : Coding) (laws : Laws c) (feeds : FeedLaws c) (f : Oct
   pub octets_start : (q : Elements F ℕ) (vs us r : List ℕ) → Spells c.ruling.fielding f.start (vs, ahead q.fragments) us r
       → q.left ≡ 0 → q.elements.items ≡ vs → q.next_part ≡ [] → between q.fragments → R q us r
   octets_start q vs us r sp el ei eh b =
-      listed.items_start c laws feeds ahead between f.octet Whole (λ o. o) parts.some parts.octet (OctetTook c f) none_came q [] vs us r
-      (parts.ahead (vs, ahead q.fragments) sp.chunks sp.spelt) (begins vs (ahead q.fragments) us r sp) el (map-id q.elements.items ∙ ei) eh b refl
+      listed.items_start c laws feeds ahead between (FirstOf f) f.octet Whole (λ o. o) parts.some parts.octet (OctetTook c f) none_came q [] vs us r
+      (parts.ahead (vs, ahead q.fragments) sp.chunks sp.spelt) (begins vs (ahead q.fragments) us r sp)
+      (record { chunks = sp.chunks; spelt = (ahead q.fragments, sp.spelt); contents = sp.contents; split = sp.split }) el (map-id q.elements.items ∙ ei) eh b refl
 
   -- ---- the next length
 
@@ -83,34 +84,34 @@ module _ {F : Type 0} (c : Coding) (laws : Laws c) (feeds : FeedLaws c) (f : Oct
   pub length_begun : (q : Elements F ℕ) (all units : List ℕ) → q.left ≡ 0 → R q all units
       → HasBegun c (NextOf (ahead q.fragments)) q.next_part × c.at_unit q.next_part
   length_begun q all units e h =
-      (let a = listed.length_ahead c laws feeds ahead between f.octet Whole (λ o. o) parts.some parts.octet (OctetTook c f) none_came q [] all units e h in
+      (let a = listed.length_ahead c laws feeds ahead between (FirstOf f) f.octet Whole (λ o. o) parts.some parts.octet (OctetTook c f) none_came q [] all units e h in
       (a.begun, a.at_unit))
 
   pub length_stops : (q : Elements F ℕ) (all units : List ℕ) (why : Stop) → q.left ≡ 0 → R q all units
       → Stops c.ruling.fielding (NextOf (ahead q.fragments)) (c.to_units q.next_part ++ units) why → Stops c.ruling.fielding Whole all why
-  length_stops q = listed.length_stops c laws feeds ahead between f.octet Whole (λ o. o) parts.some parts.octet (OctetTook c f) none_came q []
+  length_stops q = listed.length_stops c laws feeds ahead between (FirstOf f) f.octet Whole (λ o. o) parts.some parts.octet (OctetTook c f) none_came q []
 
   pub length_ends : (q : Elements F ℕ) (all units r : List ℕ) (new : Ahead) → q.left ≡ 0 → R q all units
       → Spells c.ruling.fielding (NextOf (ahead q.fragments)) (None, new) (c.to_units q.next_part ++ units) r → Spells c.ruling.fielding Whole q.elements.items all r
   length_ends q all units r new e h k =
       subst (λ (os : List ℕ). Spells c.ruling.fielding Whole os all r) (map-id q.elements.items)
-      (listed.length_ends c laws feeds ahead between f.octet Whole (λ o. o) parts.some parts.octet (OctetTook c f) none_came q [] all units r new e h k)
+      (listed.length_ends c laws feeds ahead between (FirstOf f) f.octet Whole (λ o. o) parts.some parts.octet (OctetTook c f) none_came q [] all units r new e h k)
 
   pub length_kept : (q p : Elements F ℕ) (all units units' : List ℕ) → q.left ≡ 0 → R q all units
       → p.left ≡ q.left → p.fragments ≡ q.fragments → p.elements ≡ q.elements → c.at_unit p.next_part
       → c.to_units p.next_part ≡ c.to_units q.next_part ++ units → units' ≡ []
       → Stops c.ruling.fielding (NextOf (ahead q.fragments)) (c.to_units q.next_part ++ units) stop.Short → R p all units'
-  length_kept q p = listed.length_kept c laws feeds ahead between f.octet Whole (λ o. o) parts.some parts.octet (OctetTook c f) none_came q p []
+  length_kept q p = listed.length_kept c laws feeds ahead between (FirstOf f) f.octet Whole (λ o. o) parts.some parts.octet (OctetTook c f) none_came q p []
 
   pub length_more : (q p : Elements F ℕ) (all units r : List ℕ) (k : ℕ) → q.left ≡ 0 → R q all units
       → p.left ≡ k → p.elements ≡ q.elements → p.next_part ≡ [] → between p.fragments
       → Spells c.ruling.fielding (NextOf (ahead q.fragments)) (Some k, ahead p.fragments) (c.to_units q.next_part ++ units) r → R p all r
-  length_more q p = listed.length_more c laws feeds ahead between f.octet Whole (λ o. o) parts.some parts.octet (OctetTook c f) none_came q p []
+  length_more q p = listed.length_more c laws feeds ahead between (FirstOf f) f.octet Whole (λ o. o) parts.some parts.octet (OctetTook c f) none_came q p []
 
   pub length_nearer : (q : Elements F ℕ) (all units r : List ℕ) (k : ℕ) (new : Ahead) → q.left ≡ 0 → R q all units
       → Spells c.ruling.fielding (NextOf (ahead q.fragments)) (Some k, new) (c.to_units q.next_part ++ units) r
       → steps_left new + length r < steps_left (ahead q.fragments) + length units
-  length_nearer q = listed.length_nearer c laws feeds ahead between f.octet Whole (λ o. o) parts.some parts.octet (OctetTook c f) none_came q []
+  length_nearer q = listed.length_nearer c laws feeds ahead between (FirstOf f) f.octet Whole (λ o. o) parts.some parts.octet (OctetTook c f) none_came q []
 
   -- ---- the next octet
 
@@ -126,7 +127,7 @@ module _ {F : Type 0} (c : Coding) (laws : Laws c) (feeds : FeedLaws c) (f : Oct
 
   pub octet_ahead : (q : Elements F ℕ) (all units : List ℕ) → 0 < q.left → R q all units → OctetAhead q all units
   octet_ahead q all units l h =
-      let x = listed.element_ahead c laws feeds ahead between f.octet Whole (λ o. o) parts.some parts.octet (OctetTook c f) none_came q [] all units l h in
+      let x = listed.element_ahead c laws feeds ahead between (FirstOf f) f.octet Whole (λ o. o) parts.some parts.octet (OctetTook c f) none_came q [] all units l h in
       let w : Waits c f.octet q.next_part x.come = x.took.1 in
       let same : c.to_units q.next_part ++ units ≡ x.come ++ units = ap (λ (us : List ℕ). us ++ units) w.come in
       record {
@@ -142,7 +143,7 @@ module _ {F : Type 0} (c : Coding) (laws : Laws c) (feeds : FeedLaws c) (f : Oct
   -- ---- with the next piece
 
   pub octets_go_on : (q : Elements F ℕ) (us units : List ℕ) → R q us [] → R q (us ++ units) units
-  octets_go_on q = listed.items_go_on c laws feeds ahead between f.octet Whole (λ o. o) parts.some parts.octet (OctetTook c f) none_came q []
+  octets_go_on q = listed.items_go_on c laws feeds ahead between (FirstOf f) f.octet Whole (λ o. o) parts.some parts.octet (OctetTook c f) none_came q []
 
   -- ---- the node
 

@@ -7,7 +7,7 @@ use Rattle.asn_values.specs.declared.types.Field.{Field}
 use Rattle.asn_values.specs.declared.types.Need.{Need}
 use Rattle.asn_values.specs.declared.types.Need.TheVariants as needs
 use Rattle.asn_values.specs.declared.value.Value.{Value}
-use Rattle.asn_values.specs.Datum.{components, components_of}
+use Rattle.asn_values.specs.Datum.{Datum, components, components_of}
 use Rattle.asn_values.specs.Shape.{Shape, Demand, must, optional, default, Fields, no_fields, field, MoreFields, more_fields, sequence}
 use Rattle.asn_values.specs.Parts.{AreOfProfile, IsGoodDemand}
 use Rattle.asn_values.specs.Profile.{InProfile}
@@ -16,6 +16,7 @@ use Rattle.asn_values.proofs.Components.{shape_of_part}
 use Rattle.asn_values.proofs.Parts.{components_of_profile}
 use Rattle.asn_bits.specs.Numbers.{bits}
 use Rattle.asn_bits.specs.Sink.{bit_of}
+use Rattle.asn_rules.specs.Chunks.{flat}
 use Rattle.asn_rules.specs.Components.{has_presence_bit}
 use Rattle.asn_rules.specs.Languages.{Spells}
 use Rattle.asn_rules.specs.Listed.{Spelt, Listed, Entry, default_of, bitmap_length}
@@ -36,10 +37,12 @@ use Rattle.asn_walk_feed.specs.Feeding.{Waits}
 use Rattle.asn_walk_feed.specs.OpenFields.{FieldCoding}
 use Rattle.asn_walk_feed.specs.Taken.{Took, with_node}
 use Rattle.asn_walk_feed.specs.Roots.{parts_in, IsPresent, OtherTook, DemandTook, NextTook}
+use Rattle.asn_walk_feed.specs.Weights.{total, EntriesWeigh, allowed}
 use Rattle.asn_walk_feed.specs.Taken.{RootReached, ComponentTook, KeepsOther, KeepsComponent, KeepsFrames}
 use Rattle.asn_walk_feed.specs.declared.frame.Frame.TheVariants as frame
 use Rattle.asn_walk_feed.specs.declared.frame.Frame.{Frame}
 use Rattle.asn_walk_feed.specs.declared.frame.Components.{Components}
+use Rattle.asn_walk_feed.proofs.Weights.{total-last, spells_fewer, chunks_fewer}
 
 -- ---- components taken apart
 
@@ -122,10 +125,28 @@ module _ {F : Type 0} (c : Coding) (laws : Laws c) (fc : FieldCoding) (ahead : F
         preamble = sp;
         come = [];
         stands = λ further. rw (el, ee) (starts further);
+        light = λ w b h. rw ee (omega arith);
         inner = rw (ef, ee) (next_took ps q.presence.left q.presence.bitmap);
       }
 
   -- ---- the next component
+
+  -- its entry weighs what its type allows
+  light_next : (w : Option Datum → ℕ) (b : Shape → ℕ) (rest : List Part) (p : Part) (ps : List Part) (vs : List (Option Datum)) (x : Option Datum) (parts : List Part)
+      → rest ≡ p ∷ ps → total w vs + allowed b rest ≤ allowed b parts → w x ≤ b p.shape
+      → total w (vs ++ x ∷ []) + allowed b ps ≤ allowed b parts
+  light_next w b rest p ps vs x parts e h l =
+      let sum = total-last w vs x in
+      let first : allowed b rest ≡ b p.shape + allowed b ps = ap (allowed b) e in
+      omega (arith, sum, first, h, l)
+
+  -- its units are among all
+  within_all : (all between come : List ℕ) (m bitmap : ℕ) {p : Part} {ps : List Part} {left : ℕ} {vs : List (Option Datum)} → length between ≤ length all
+      → ReadUpTo c [] (parts_in root) n bitmap (between ++ []) (p ∷ ps) left vs (come ++ []) → m ≤ length come → m ≤ length all
+  within_all all between come m bitmap l st k =
+      let s = st.stands in
+      let one = ap length s.split ∙ length-append (flat c.ruling.fielding.spelled s.front) (come ++ []) in
+      omega (arith, one, length-append between [], length-append come [], l, k)
 
   pub record ComponentAhead (q : Components) (fs : List (Frame F)) (p : Part) (present : Bool) (after : ℕ) (all units : List ℕ) : Type 0 where
     pub of_profile : InProfile p.shape
@@ -174,6 +195,7 @@ module _ {F : Type 0} (c : Coding) (laws : Laws c) (fc : FieldCoding) (ahead : F
               preamble = h.preamble;
               come = h.come ++ units;
               stands = λ further. rw (z, append-nil (h.come ++ units)) (h.stands further);
+              light = h.light;
               inner = rw e same;
             });
         further = λ q' gs x r ex eb el ei eg k.
@@ -186,6 +208,8 @@ module _ {F : Type 0} (c : Coding) (laws : Laws c) (fc : FieldCoding) (ahead : F
               preamble = rw (ex, eb) h.preamble;
               come = [];
               stands = λ further. rw (rest, eb, el, seen) (stands further);
+              light = λ w b f. rw (rest, seen) (light_next w b (drop (length q.entries.items) parts) p ps vs (option_map datum_of x) parts e (h.light w b f)
+                  (f p present (option_map datum_of x) k.chunks (next []).of_profile (next []).good k.spelt (within_all all h.between (h.come ++ units) (length (flat c.ruling.fielding.spelled k.chunks)) bitmap (spells_fewer h.preamble) (stand []) (chunks_fewer k))));
               inner = rw (rest, eg) (next_took ps q'.presence.left q'.presence.bitmap);
             });
       }
@@ -215,6 +239,7 @@ module _ {F : Type 0} (c : Coding) (laws : Laws c) (fc : FieldCoding) (ahead : F
             (let one : ReadUpTo c [] ps n bitmap (h.between ++ (units ++ further)) rest left vs (h.come ++ (units ++ further)) = subst (λ (xs : List ℕ). ReadUpTo c [] ps n bitmap (h.between ++ (units ++ further)) rest left vs (xs ++ (units ++ further))) (append-nil h.come) (h.stands (units ++ further)) in
             let two : ReadUpTo c [] ps n bitmap ((h.between ++ units) ++ further) rest left vs (h.come ++ (units ++ further)) = subst (λ (xs : List ℕ). ReadUpTo c [] ps n bitmap xs rest left vs (h.come ++ (units ++ further))) (sym (append_assoc h.between units further)) one in
             subst (λ (xs : List ℕ). ReadUpTo c [] ps n bitmap ((h.between ++ units) ++ further) rest left vs xs) (sym (append_assoc h.come units further)) two);
+        light = λ w b f. h.light w b (λ p present e cs g d s l. f p present e cs g d s (omega (arith, l, length-append us units)));
         inner = h.inner;
       }
 

@@ -1,15 +1,16 @@
 -- How the extension additions of a SEQUENCE go on where a reader of them was cut.
-use Rattle.std.specs.Prelude.{◌≡◌, ◌-◌, ◌/◌, ◌%◌, ◌^◌, ℕ, zero, suc, Bool, true, false, List, [], ◌++◌, length, drop, Option, Some, None}
+use Rattle.std.specs.Prelude.{◌≡◌, ◌≤◌, ◌+◌, ◌-◌, ◌/◌, ◌%◌, ◌^◌, ℕ, zero, suc, Bool, true, false, List, [], ◌++◌, length, drop, Option, Some, None}
 use Rattle.std.specs.Global.{Vec}
 use Rattle.asn_values.specs.declared.types.AsnType.{AsnType}
 use Rattle.asn_values.specs.declared.types.AsnType as asn_type
 use Rattle.asn_values.specs.declared.types.Field.{Field}
 use Rattle.asn_values.specs.Datum.{Datum}
+use Rattle.asn_values.specs.Profile.{InProfile}
 use Rattle.asn_values.specs.Shape.{Shape, Fields, MoreFields, marked, more_fields, demands}
 use Rattle.asn_values.specs.View.{fields_seen, entries_seen}
 use Rattle.asn_bits.specs.Numbers.{bits}
 use Rattle.asn_bits.specs.Sink.{bit_of}
-use Rattle.asn_rules.specs.Chunks.{Chunk}
+use Rattle.asn_rules.specs.Chunks.{Chunk, flat}
 use Rattle.asn_rules.specs.Languages.{Spells, Map, Nothing}
 use Rattle.asn_rules.specs.Listed.{Listed, bitmap_length}
 use Rattle.asn_walk.specs.Ahead.{Ahead}
@@ -19,6 +20,7 @@ use Rattle.asn_walk_feed.specs.Feeding.{Waits}
 use Rattle.asn_walk_feed.specs.Octets.{OctetsTook}
 use Rattle.asn_walk_feed.specs.OpenFields.{FieldCoding}
 use Rattle.asn_walk_feed.specs.Roots.{parts_in}
+use Rattle.asn_walk_feed.specs.Weights.{total, allowed}
 use Rattle.asn_walk_feed.specs.declared.frame.Components.{Components}
 use Rattle.asn_walk_feed.specs.declared.frame.Frame.{Frame}
 
@@ -65,8 +67,19 @@ NextAdditionTook c f ahead between fs zero bitmap us = (fs ≡ []) × (us ≡ []
 NextAdditionTook c f ahead between fs (suc n) bitmap us = (present : Bool) → bit_of present ≡ bitmap / 2 ^ n % 2
     → AdditionTook c f ahead between fs present us
 
+-- the entry of an addition of which it is known whether it is present
+abbrev pub AdditionOf : Coding → Shape → Bool → Option Datum → List Chunk → Type 0
+AdditionOf c t false = Nothing None
+AdditionOf c t true = Map Some (OpenOf c t)
+
+-- it weighs at most as much as its type allows, where it is spelt by at most n units
+abbrev pub AdditionsWeigh : Coding → (Option Datum → ℕ) → (Shape → ℕ) → ℕ → Type 0
+AdditionsWeigh c w b n = (t : Shape) (present : Bool) (e : Option Datum) (cs : List Chunk) → InProfile t
+    → AdditionOf c t present e cs → length (flat c.ruling.fielding.spelled cs) ≤ n → w e ≤ b t
+
 -- the additions go on: after their presence bits, whatever units follow, they stand in front of the units that have
--- come of the next one and of the units that are left; and P holds of those that have come
+-- come of the next one and of the units that are left; and P holds of those that have come. Their entries weigh no more
+-- than their types allow
 pub record AdditionsGoOn (c : Coding) (root : Fields) (more : MoreFields) (q : Components) (P : List ℕ → Type 0)
     (all units : List ℕ) : Type 0 where
   pub before : List (Option Datum)
@@ -78,9 +91,8 @@ pub record AdditionsGoOn (c : Coding) (root : Fields) (more : MoreFields) (q : C
   pub stands : (further : List ℕ) → AddedUpTo c before (more_fields more) (between ++ further) (addition_count more)
       q.presence.bitmap (drop (addition_count more - q.presence.left) (parts_in (more_fields more))) q.presence.left
       (entries_seen q.entries.items) ((come ++ units) ++ further)
+  pub light : (w : Option Datum → ℕ) (b : Shape → ℕ) → AdditionsWeigh c w b (length all)
+      → total w (entries_seen q.entries.items)
+      + allowed b (drop (addition_count more - q.presence.left) (parts_in (more_fields more)))
+      ≤ total w before + allowed b (parts_in (more_fields more))
   pub inner : P come
-
--- the entry of an addition of which it is known whether it is present
-abbrev pub AdditionOf : Coding → Shape → Bool → Option Datum → List Chunk → Type 0
-AdditionOf c t false = Nothing None
-AdditionOf c t true = Map Some (OpenOf c t)

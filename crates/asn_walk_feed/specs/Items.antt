@@ -1,11 +1,12 @@
 -- How items that stand in fragments go on where a reader of them was cut: those of a list, and the octets of an open
 -- type field.
-use Rattle.std.specs.Prelude.{◌≡◌, ◌+◌, ℕ, zero, suc, List, [], ◌++◌, map, Some}
+use Rattle.std.specs.Prelude.{◌≡◌, ◌≤◌, ◌+◌, ◌*◌, ℕ, zero, suc, List, [], ◌++◌, length, map, Some}
 use Rattle.asn_rules.specs.Chunks.{Chunk}
 use Rattle.asn_walk.specs.Ahead.{Ahead, SomeAhead, Next}
 use Rattle.asn_walk.specs.Coding.{Coding}
 use Rattle.asn_walk.proofs.Listing.{Appends, Going}
 use Rattle.asn_walk_feed.specs.Feeding.{NextOf, Waits}
+use Rattle.asn_walk_feed.specs.Weights.{total, Weighs}
 use Rattle.asn_walk_feed.specs.declared.frame.Elements.{Elements}
 use Rattle.asn_walk_feed.specs.declared.frame.Frame.{Frame}
 
@@ -31,16 +32,19 @@ Stands c L T zero ahead elements us come = Going c L T us ahead elements come
 Stands c L T (suc n) ahead elements us come = InFragment c L T (suc n) ahead elements us come
 
 -- the list goes on: whatever units follow, its elements stand, of all units, in front of those of the part that has
--- begun and of the units that are left, and some are ahead; and P holds of those of the part. What is seen of the elements is of the
--- language L, and of all of them of the language T
+-- begun and of the units that are left, and some are ahead; and P holds of those of the part. What is seen of the
+-- elements is of the language L, of all of them of the language T, and of those that stand before the first length of
+-- the language S. The elements weigh no more than the units in front of those of the part allow
 pub record GoesOn {F A V : Type 0} (c : Coding) (ahead : F → Ahead) (between : F → Type 0)
-    (L : A → List Chunk → Type 0) (T : List A → List Chunk → Type 0) (seen : V → A)
+    (S : List A → List Chunk → Type 0) (L : A → List Chunk → Type 0) (T : List A → List Chunk → Type 0) (seen : V → A)
     (q : Elements F V) (P : List ℕ → Type 0) (all units : List ℕ) : Type 0 where
   pub come : List ℕ
   pub between_is : between q.fragments
   pub some : SomeAhead (ahead q.fragments)
   pub stands : (more : List ℕ) → Stands c L T q.left (ahead q.fragments) (map seen q.elements.items) (all ++ more)
       ((come ++ units) ++ more)
+  pub light : (w : A → ℕ) (k : ℕ) → Weighs c.ruling.fielding S (total w) k → Weighs c.ruling.fielding L w k
+      → total w (map seen q.elements.items) + k * length (come ++ units) ≤ k * length all
   pub inner : P come
 
 -- the part of a list that has begun: between fragments the next length, within one the next element
@@ -49,9 +53,9 @@ NextPart zero fs Length Element come = (fs ≡ []) × Length come
 NextPart (suc n) fs Length Element come = Element come
 
 -- the same, where Element says it of the next element: of its bits that are kept, and of the nodes that have begun
-abbrev pub ItemsGoOn : {F A V : Type 0} → Coding → (F → Ahead) → (F → Type 0) → (A → List Chunk → Type 0)
-    → (List A → List Chunk → Type 0) → (V → A) → (List ℕ → List (Frame F) → List ℕ → Type 0) → Elements F V
+abbrev pub ItemsGoOn : {F A V : Type 0} → Coding → (F → Ahead) → (F → Type 0) → (List A → List Chunk → Type 0)
+    → (A → List Chunk → Type 0) → (List A → List Chunk → Type 0) → (V → A) → (List ℕ → List (Frame F) → List ℕ → Type 0) → Elements F V
     → List (Frame F) → List ℕ → List ℕ → Type 0
-ItemsGoOn c ahead between L T seen Element q fs all units =
-    GoesOn c ahead between L T seen q (NextPart q.left fs
+ItemsGoOn c ahead between S L T seen Element q fs all units =
+    GoesOn c ahead between S L T seen q (NextPart q.left fs
     (λ come. Waits c (NextOf (ahead q.fragments)) q.next_part come) (λ come. Element q.next_part fs come)) all units

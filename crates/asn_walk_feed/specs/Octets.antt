@@ -30,6 +30,10 @@ all_octets p = p.0.0 ++ p.1
 abbrev pub OctetsOf : OctetCoding → List ℕ → List Chunk → Type 0
 OctetsOf f = Map all_octets (Then f.start (λ p. Remaining f.octet p.1))
 
+-- those that stand before the first length
+abbrev pub FirstOf : OctetCoding → List ℕ → List Chunk → Type 0
+FirstOf f vs cs = (a : Ahead) × f.start (vs, a) cs
+
 -- none of them stands before the first length
 abbrev pub no_first : Ahead → List ℕ × Ahead
 no_first a = ([], a)
@@ -64,7 +68,7 @@ OctetTook c f b fs come = (fs ≡ []) × Waits c f.octet b come
 abbrev pub OctetsGoOn : {F : Type 0} → Coding → OctetCoding → (F → Ahead) → (F → Type 0) → Elements F ℕ → List ℕ
     → List ℕ → Type 0
 OctetsGoOn {F} c f ahead between q all units =
-    ItemsGoOn {F = F} c ahead between f.octet (OctetsOf f) (λ o. o) (OctetTook c f) q [] all
+    ItemsGoOn {F = F} c ahead between (FirstOf f) f.octet (OctetsOf f) (λ o. o) (OctetTook c f) q [] all
     units
 
 -- what is answered of octets, read so far: all of them

@@ -1,5 +1,5 @@
 -- How the root of a SEQUENCE goes on where a reader of it was cut.
-use Rattle.std.specs.Prelude.{◌≡◌, ◌-◌, ◌/◌, ◌%◌, ◌^◌, ℕ, Bool, true, false, List, [], ◌∷◌, ◌++◌, length, drop, Some}
+use Rattle.std.specs.Prelude.{◌≡◌, ◌≤◌, ◌+◌, ◌-◌, ◌/◌, ◌%◌, ◌^◌, ℕ, Bool, true, false, List, [], ◌∷◌, ◌++◌, length, drop, Option, Some}
 use Rattle.asn_values.specs.Datum.{Datum}
 use Rattle.asn_values.specs.Shape.{Shape, Demand, must, optional, default, Fields, no_fields, field, MoreFields}
 use Rattle.asn_values.specs.View.{Part, entries_seen}
@@ -10,6 +10,7 @@ use Rattle.asn_rules.specs.Listed.{Spelt, bitmap_length}
 use Rattle.asn_walk.specs.Coding.{Coding, PreambleOf, added}
 use Rattle.asn_walk.proofs.ComponentsRead.{ReadUpTo}
 use Rattle.asn_walk_feed.specs.Feeding.{Waits}
+use Rattle.asn_walk_feed.specs.Weights.{total, EntriesWeigh, allowed}
 use Rattle.asn_walk_feed.specs.declared.frame.Components.{Components}
 use Rattle.asn_walk_feed.specs.declared.frame.Frame.{Frame}
 use Rattle.asn_walk_feed.specs.declared.frame.Frame.TheVariants as frame
@@ -51,7 +52,8 @@ NextTook c fs Value (p ∷ ps) left bitmap us =
     (present : Bool) → IsPresent p left bitmap present → EntryTook c fs Value p present us
 
 -- the root goes on: after the preamble, whatever units follow, its components stand in front of the units that have
--- come of the next one and of the units that are left; and P holds of those that have come, of the components left
+-- come of the next one and of the units that are left; and P holds of those that have come, of the components left. The
+-- entries weigh no more than the types of their components allow
 pub record RootGoesOn (c : Coding) (root : Fields) (more : MoreFields) (q : Components)
     (P : List Part → List ℕ → Type 0) (all units : List ℕ) : Type 0 where
   pub between : List ℕ
@@ -61,4 +63,7 @@ pub record RootGoesOn (c : Coding) (root : Fields) (more : MoreFields) (q : Comp
   pub stands : (further : List ℕ) → ReadUpTo c [] (parts_in root) (bitmap_length root) q.presence.bitmap
       (between ++ further) (drop (length q.entries.items) (parts_in root)) q.presence.left
       (entries_seen q.entries.items) ((come ++ units) ++ further)
+  pub light : (w : Option Datum → ℕ) (b : Shape → ℕ) → EntriesWeigh c w b (length all)
+      → total w (entries_seen q.entries.items) + allowed b (drop (length q.entries.items) (parts_in root))
+      ≤ allowed b (parts_in root)
   pub inner : P (drop (length q.entries.items) (parts_in root)) come

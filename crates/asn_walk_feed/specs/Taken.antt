@@ -20,6 +20,7 @@ use Rattle.asn_walk_feed.specs.Items.{GoesOn, NextPart}
 use Rattle.asn_walk_feed.specs.Octets.{OctetsOf, OctetsTook, OctetsGoOn}
 use Rattle.asn_walk_feed.specs.OpenFields.{FieldCoding}
 use Rattle.asn_walk_feed.specs.Roots.{OtherTook, EntryTook, NextTook, RootGoesOn}
+use Rattle.asn_walk_feed.specs.Weights.{NoItem}
 use Rattle.asn_walk_feed.specs.declared.frame.Components.{Components}
 use Rattle.asn_walk_feed.specs.declared.frame.Elements.{Elements}
 use Rattle.asn_walk_feed.specs.declared.frame.Frame.{Frame}
@@ -43,9 +44,9 @@ Took c fc ahead between (frame.Start b ∷ []) utf8_string us = Waits c (fc.stri
 Took c fc ahead between (frame.Start b ∷ []) t us = Waits c (Spelt c.code None t) b us
 Took c fc ahead between (frame.Start b ∷ f ∷ fs) t us = ⊥
 Took c fc ahead between (frame.Elements q ∷ fs) (sequence_of t s) us =
-    GoesOn c ahead between (Spelt c.code None t) (ListingOf c s (Spelt c.code None t)) datum_of q (NextPart q.left fs
-    (λ come. Waits c (NextOf (ahead q.fragments)) q.next_part come)
-    (λ come. (q.next_part ≡ []) × Took c fc ahead between fs t come)) us []
+    GoesOn c ahead between NoItem (Spelt c.code None t) (ListingOf c s (Spelt c.code None t)) datum_of q
+    (NextPart q.left fs (λ come. Waits c (NextOf (ahead q.fragments)) q.next_part come)
+    (λ come. (q.next_part ≡ []) × (Took c fc ahead between fs t come × (come ≡ [] → fs ≡ [])))) us []
 Took c fc ahead between (frame.Elements q ∷ fs) t us = ⊥
 Took c fc ahead between (frame.Components q ∷ fs) (sequence root more) us =
     RootGoesOn c root more q
@@ -79,13 +80,18 @@ Took c fc ahead between (frame.Octets q ∷ fs) utf8_string us =
     × OctetsGoOn c (fc.string utf8_string) ahead between q us []
 Took c fc ahead between (frame.Octets q ∷ fs) t us = ⊥
 
+-- the units that have come of an element of a list: no node of it has begun before its first unit
+abbrev pub ElementTook : {F : Type 0} → Coding → FieldCoding → (F → Ahead) → (F → Type 0) → List (Frame F) → Shape
+    → List ℕ → Type 0
+ElementTook c fc ahead between fs t us = Took c fc ahead between fs t us × (us ≡ [] → fs ≡ [])
+
 -- a list of elements of the type, read so far, of whose next part these nodes have begun
 abbrev pub ListGoesOn : {F : Type 0} → Coding → FieldCoding → (F → Ahead) → (F → Type 0) → Shape → SizeRange
     → Elements F Value → List (Frame F) → List ℕ → List ℕ → Type 0
 ListGoesOn c fc ahead between t s q fs all units =
-    GoesOn c ahead between (Spelt c.code None t) (ListingOf c s (Spelt c.code None t)) datum_of q (NextPart q.left fs
-    (λ come. Waits c (NextOf (ahead q.fragments)) q.next_part come)
-    (λ come. (q.next_part ≡ []) × Took c fc ahead between fs t come)) all units
+    GoesOn c ahead between NoItem (Spelt c.code None t) (ListingOf c s (Spelt c.code None t)) datum_of q
+    (NextPart q.left fs (λ come. Waits c (NextOf (ahead q.fragments)) q.next_part come)
+    (λ come. (q.next_part ≡ []) × ElementTook c fc ahead between fs t come)) all units
 
 -- the root of a SEQUENCE, read so far, of whose next component these nodes have begun
 abbrev pub RootReached : {F : Type 0} → Coding → FieldCoding → (F → Ahead) → (F → Type 0) → Fields → MoreFields
@@ -139,6 +145,18 @@ abbrev pub KeepsOn : {F : Type 0} → Coding → FieldCoding → (F → Ahead) �
     → Shape → List ℕ → Stop → Type 0
 KeepsOn c fc ahead between fs gs t old why = (us : List ℕ) → Took c fc ahead between fs t us
     → KeepsFrames c fc ahead between gs t (us ++ c.to_units old) why
+
+-- the same of an element of a list
+abbrev pub KeepsElement : {F : Type 0} → Coding → FieldCoding → (F → Ahead) → (F → Type 0) → List (Frame F) → Shape
+    → List ℕ → Stop → Type 0
+KeepsElement c fc ahead between fs t us (stop.Refused left why) = ⊤
+KeepsElement c fc ahead between fs t us stop.Short = ElementTook c fc ahead between fs t us
+KeepsElement c fc ahead between fs t us stop.Memory = ⊤
+
+abbrev pub KeepsElementOn : {F : Type 0} → Coding → FieldCoding → (F → Ahead) → (F → Type 0) → List (Frame F)
+    → List (Frame F) → Shape → List ℕ → Stop → Type 0
+KeepsElementOn c fc ahead between fs gs t old why = (us : List ℕ) → ElementTook c fc ahead between fs t us
+    → KeepsElement c fc ahead between gs t (us ++ c.to_units old) why
 
 -- the same of a list of elements of the type t, read so far: a value of it
 abbrev pub ReadsListOn : {F : Type 0} → Coding → FieldCoding → (F → Ahead) → (F → Type 0) → Shape → SizeRange

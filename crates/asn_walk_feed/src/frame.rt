@@ -1,10 +1,12 @@
 //! How far a message is read where its pieces end: a stack of the nodes of its value that have begun.
 ghost use Rattle.std.specs.Prelude.{◌≡◌, ◌∷◌, ◌↔◌, List, [], OnOk, IfSome, IsNone, IsTrue};
 ghost use Rattle.asn_values.specs.View.{shape_of};
+ghost use Rattle.asn_walk_feed.specs.Holding.{held_in, counted};
 ghost use Rattle.asn_walk_feed.specs.Keeping.{kept_in};
 ghost use Rattle.asn_walk_feed.specs.Nodes.{nodes};
 
 use crate::begun::Begun;
+use crate::held::held_in;
 use crate::kept::kept_in;
 use asn_values::{AsnType, Value};
 use asn_walk::PresenceBits;
@@ -120,5 +122,13 @@ impl<F: Drop> Frames<F> {
         ensures { result.now ≡ kept_in (nodes self.now) (shape_of ty.now) }
     {
         kept_in(ty, self.stack.as_slice())
+    }
+
+    /// How much these nodes hold: one each, the cells of the parts of the value that they have, and the octets that they
+    /// keep; at most `u64::MAX`. Takes no memory.
+    pub fn held(&self) -> u64
+        ensures { result ≡ counted (held_in (nodes self.now)) }
+    {
+        held_in(self.stack.as_slice())
     }
 }

@@ -11,6 +11,7 @@ ghost use Rattle.asn_rules.specs.declared.stop.Stop.TheVariants.{Memory};
 ghost use Rattle.asn_walk.specs.Reading.{Reads, ReadsValue, StopsAt};
 ghost use Rattle.asn_walk_feed.specs.Octets.{OctetsOf, start_seen};
 ghost use Rattle.asn_walk_feed.specs.OpenFields.{FieldCoding, FieldLaws, StopsAfter};
+ghost use Rattle.asn_walk_feed.specs.Holding.{HoldLaws};
 ghost use Rattle.asn_walk_feed.specs.Keeping.{KeepLaws};
 ghost use Rattle.asn_walk_feed.specs.Strings.{IsString, StringLaws, IsStringOf, IsNoString};
 ghost use Rattle.asn_walk_feed.specs.Feeding.{FeedLaws, IsBrief, HasBegun, ExtendsBy, Passes, Ticked, StandsAfter, KeepsUnits};
@@ -139,6 +140,11 @@ pub trait FeedLeaves: ReadLeaves {
     /// call does nothing: its clause is what proofs cite.
     fn keep_kept_laws()
         ensures { KeepLaws Self.rules fields };
+
+    /// An element of a list has a unit, and items of strings have bits. The call does nothing: its clause is what proofs
+    /// cite.
+    fn keep_hold_laws()
+        ensures { HoldLaws Self.rules fields };
 }
 
 /// A part of few units.

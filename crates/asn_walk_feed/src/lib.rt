@@ -10,6 +10,7 @@ mod begun;
 mod choices;
 mod complete;
 mod frame;
+mod held;
 mod kept;
 mod leaf;
 mod lists;

@@ -4,7 +4,7 @@
 //! a list stands between two of these parts.
 ghost use Rattle.asn_values.specs.Measures.{sealed_depth};
 ghost use Rattle.asn_walk_feed.specs.Levels.{Costs, OpenUnits};
-ghost use Rattle.std.specs.Prelude.{◌≡◌, ◌≤◌, ◌<◌, ◌+◌, ◌^◌, ◌++◌, ℕ, List, [], length, zero, IfOk, IfErr, OnOk, OnErr, IsNone, Ok, Err, Some, None, true, false, ⊤};
+ghost use Rattle.std.specs.Prelude.{◌≡◌, ◌≤◌, ◌<◌, ◌+◌, ◌^◌, ◌++◌, ℕ, List, [], length, zero, IfOk, IfErr, OnOk, OnErr, IsNone, IsTrue, Ok, Err, Some, None, true, false, ⊤};
 ghost use Rattle.asn_values.specs.Profile.{InProfile};
 ghost use Rattle.asn_values.specs.Shape.{SizeRange, sequence_of};
 ghost use Rattle.asn_values.specs.View.{shape_of, datum_of, size_range_of};
@@ -14,7 +14,7 @@ ghost use Rattle.asn_rules.specs.declared.stop.Stop.TheVariants.{Short};
 ghost use Rattle.asn_walk.specs.Reading.{ValuesOf};
 ghost use Rattle.asn_walk_feed.specs.Feeding.{Waits, NextOf, HasBegun, Ticked, StandsAfter, KeepsUnits};
 ghost use Rattle.asn_walk_feed.specs.Nodes.{nodes};
-ghost use Rattle.asn_walk_feed.specs.Taken.{with_node, Took, ListGoesOn, KeepsFrames, ReadsOn, StopsOn, KeepsOn, ReadsListOn, StopsListOn, KeepsListOn, ReadsElementsOn, StopsElementsOn, UnderEachSize, GoesOnTo};
+ghost use Rattle.asn_walk_feed.specs.Taken.{with_node, Took, ElementTook, ListGoesOn, KeepsFrames, ReadsOn, StopsOn, KeepsOn, KeepsElementOn, ReadsListOn, StopsListOn, KeepsListOn, ReadsElementsOn, StopsElementsOn, UnderEachSize, GoesOnTo};
 
 use crate::begun::Begun;
 use crate::frame::{Elements, Frame, Frames};
@@ -275,7 +275,8 @@ fn feed_fragment<R: FeedLeaves>(
     Ok(())
 }
 
-/// Reads what is left of an element: at once, where none of it has come and the piece has it whole.
+/// Reads what is left of an element: at once, where none of it has come and the piece has it whole. No node of it begins
+/// before its first unit has come.
 #[cycle(feeder)]
 fn feed_element<R: FeedLeaves>(
     alloc: Global,
@@ -286,8 +287,9 @@ fn feed_element<R: FeedLeaves>(
 ) -> Result<Value, Stop>
     requires at_unit { R.rules.at_unit units.old }
     requires of_profile { InProfile (shape_of ty.now) }
+    requires listed { (s : SizeRange) × InProfile (sequence_of (shape_of ty.now) s) }
     requires reached { (us : List ℕ)
-        × Took R.rules R.fields R.ahead R.is_between (nodes frames.old) (shape_of ty.now) us }
+        × ElementTook R.rules R.fields R.ahead R.is_between (nodes frames.old) (shape_of ty.now) us }
     requires few { ticks.old.taken + length (R.rules.to_units units.old) < 2 ^ 64 }
     ensures at_unit { R.rules.at_unit units.new }
     ensures done { IfOk result (λ v. ReadsOn R.rules R.fields R.ahead R.is_between (nodes frames.old) (shape_of ty.now)
@@ -295,9 +297,8 @@ fn feed_element<R: FeedLeaves>(
     ensures emptied { OnOk result (nodes frames.new ≡ []) }
     ensures stop { IfErr result (λ why.
         StopsOn R.rules R.fields R.ahead R.is_between (nodes frames.old) (shape_of ty.now) units.old why) }
-    ensures kept { IfErr result (λ why. KeepsOn R.rules R.fields R.ahead R.is_between (nodes frames.old) (nodes
-        frames.new)
-        (shape_of ty.now) units.old why) }
+    ensures kept { IfErr result (λ why. KeepsElementOn R.rules R.fields R.ahead R.is_between (nodes frames.old)
+        (nodes frames.new) (shape_of ty.now) units.old why) }
     ensures after { IfErr result (λ why. StandsAfter R.rules units.new why) }
     ensures ticked { Ticked R.rules units.old ticks.old.taken units.new ticks.new.taken }
     ensures rising { ticks.old.taken ≤ ticks.new.taken }
@@ -306,10 +307,29 @@ fn feed_element<R: FeedLeaves>(
         (sealed_depth (shape_of ty.now)) ticks.old.inside units.old ticks.new.inside
         units.new }
 {
+    R::keep_laws();
+    R::keep_hold_laws();
     match whole_value::<R>(alloc, ty, frames, units, ticks) {
         Some(value) => Ok(value),
-        None => feed::<R>(alloc, ty, frames, units, ticks),
+        None => {
+            if is_to_come::<R>(frames, units) {
+                return Err(Stop::Short);
+            }
+            feed::<R>(alloc, ty, frames, units, ticks)
+        }
     }
+}
+
+/// Whether no node of an element has begun, and the piece has no unit of it.
+fn is_to_come<R: FeedLeaves>(frames: &Frames<R::Fragments>, units: &Units<'_>) -> bool
+    requires at_unit { R.rules.at_unit units.now }
+    ensures yes { IsTrue result → (nodes frames.now ≡ []) × (R.rules.to_units units.now ≡ []) }
+    ensures no { (nodes frames.now ≡ []) → (R.rules.to_units units.now ≡ []) → IsTrue result }
+{
+    if !frames.is_none() {
+        return false;
+    }
+    R::units_left(&units.ahead()) == 0
 }
 
 /// Reads what is left of the next length of a list, where one stands there. Whether a fragment follows it.

@@ -1,7 +1,7 @@
 //! Readers of numbers in a fixed count of bits, refused at the first bit after which no number of the set can follow.
 
 ghost use Rattle.std.specs.Prelude.{◌≡◌, ◌≤◌, ◌<◌, ◌*◌, ◌^◌, ◌++◌, ◌↔◌, ℕ, drop, IfOk, IfSome, IsNone, IsTrue, None, length, replicate};
-ghost use Rattle.asn_bits.specs.Begun.{StandsFirst};
+ghost use Rattle.asn_bits.specs.Begun.{Begins, StandsFirst};
 ghost use Rattle.asn_bits.specs.Numbers.{bits};
 ghost use Rattle.asn_bits.specs.Sets.{AreBits, Meets, Among};
 ghost use Rattle.asn_rules.specs.NumberSets.{Admits, AreAmong, NoneStandsFirst, NumberIn, NumberAmong, up_to, between_but};
@@ -229,6 +229,9 @@ fn read_number_by_bits(
     ensures fits { IfOk result (λ n. n < 2 ^ k) }
     ensures stop { StopsPlain (NumberAmong k numbers) result bits.old }
 {
+    if is_cut(k, &numbers, bits) {
+        return Err(Stop::Short);
+    }
     let mut field = NumberField::new(k, numbers);
     loop {
         let Some(bit) = bits.next() else {
@@ -245,6 +248,27 @@ fn read_number_by_bits(
             }
         }
     }
+}
+
+/// Whether fewer than `k` bits are left, and some number of the intervals begins with them. May be `false` where 64 bits
+/// or more are left.
+fn is_cut(k: u32, numbers: &Intervals, bits: &BitCursor<'_>) -> bool
+    requires few { k ≤ 72 }
+    ensures {
+        IsTrue result → (length bits.now < k) × Begins k (λ n. Among numbers.now n) bits.now }
+{
+    let octets = bits.octets_left();
+    if octets >= 8 {
+        return false;
+    }
+    let left = 8 * octets as u32 + bits.rest_of_octet();
+    if left >= k {
+        return false;
+    }
+    let Some(front) = bits.peek_number(left) else {
+        return false;
+    };
+    numbers.meets(u128::from(front), k - left)
 }
 
 /// Reads `zeros` zero bits, which fill up octets.

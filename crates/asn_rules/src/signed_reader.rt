@@ -52,25 +52,6 @@ pub fn read_wide_unconstrained(
     }
 }
 
-/// As `read_wide_unconstrained`, where offsets have 64 bits.
-#[inline(always)]
-pub fn read_unconstrained(
-    set: OffsetSet,
-    in_count: Why,
-    in_number: Why,
-    bits: &mut BitCursor<'_>,
-) -> Result<u64, Stop>
-    requires gap { IsOpen set }
-    requires some { (w : ℕ) × HasOffset set w }
-    ensures done { ReadsOffset (UnconstrainedIn set) result bits.old bits.new }
-    ensures stop { StopsPlain (UnconstrainedIn set) result bits.old }
-{
-    match read_wide_unconstrained(set, in_count, in_number, bits) {
-        Ok(offset) => Ok(offset as u64),
-        Err(stop) => Err(stop),
-    }
-}
-
 /// Fast path: an integer of the set, in the fewest octets of two's complement after their count in an octet, where the
 /// bits left begin with an octet, eight octets are left, and it needs fewer than eight; otherwise takes nothing. Returns
 /// its offset.

@@ -33,9 +33,9 @@ returns-in-1 g c =
     let all = all_octets c.args.z k n (rw z at h.octets) (omega (arith, c.if-count-gt8.false)) (rw z at e.count) in
     let fits : n < 2 ^ (8 * 1) = rw c.in-1.is at h.fits in
     let joined : bits (8 * 2) (256 + n) ≡ bits 8 1 ++ bits (8 * 1) n = after_octet 1 1 n (256 + n) fits (omega arith) in
-    on_ok_weaker c.push_low_octets-in-1.result
-    (pushed_same g.S.Sink.pushes c.args.sink.now c.push_low_octets-in-1.new.self (joined ∙ sym (rw c.in-1.is at all)))
-    c.push_low_octets-in-1.ensures
+    on_ok_weaker c.push_low_octets.result
+    (pushed_same g.S.Sink.pushes c.args.sink.now c.push_low_octets.new.self (joined ∙ sym (rw c.in-1.is at all)))
+    c.push_low_octets.ensures
 
 pub returns-in-2 : goal.returns-in-2
 returns-in-2 g c =

@@ -102,6 +102,9 @@ fn read_set_by_bits(k: u32, set: NumberSet, why: Why, bits: &mut BitCursor<'_>) 
     ensures member { IfOk result (λ n. Admits set n) }
     ensures stop { StopsPlain (NumberIn k set) result bits.old }
 {
+    if bits.is_empty() {
+        return Err(Stop::Short);
+    }
     match read_number_by_bits(k, intervals_of(set), why, bits) {
         Ok(number) => Ok(number as u64),
         Err(stop) => Err(stop),

@@ -62,14 +62,15 @@ impl Begun {
         let left = 8 * units.octets_left().min(16) as u32 + units.rest_of_octet();
         let count = left.min(ROOM - self.count);
         if count == 0 {
-            return 0;
+            return count;
         }
         let first = count.min(64);
         let mut units = units.copied();
         self.push_next(&mut units, first);
-        if first < count {
-            self.push_next(&mut units, count - first);
+        if first == count {
+            return count;
         }
+        self.push_next(&mut units, count - first);
         count
     }
 

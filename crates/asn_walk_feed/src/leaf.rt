@@ -271,8 +271,8 @@ fn read_at_once<R: FeedLeaves, L: Leaf<R>>(
         }
         Err(Stop::Memory) => Err(Stop::Memory),
         Err(Stop::Short) => {
-            let further = R::extend(begun, &units.ahead());
-            take_units::<R>(units, further, ticks);
+            let came = R::extend(begun, &units.ahead());
+            take_units::<R>(units, came, ticks);
             Err(Stop::Short)
         }
         Err(Stop::Refused { .. }) => Ok(None),

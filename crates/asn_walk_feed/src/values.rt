@@ -143,11 +143,15 @@ fn feed_scalar<R: FeedLeaves>(
     let mut begun = begun_of(node);
     match feed_leaf::<R, Scalar<'_>>(alloc, &Scalar { ty }, &mut begun, units, ticks) {
         Ok(value) => Ok(value),
-        Err(Stop::Short) if begun.is_none() => Err(Stop::Short),
-        Err(Stop::Short) => match frames.put(Frame::Start(begun)) {
-            Ok(()) => Err(Stop::Short),
-            Err(_) => Err(Stop::Memory),
-        },
+        Err(Stop::Short) => {
+            if begun.is_none() {
+                return Err(Stop::Short);
+            }
+            match frames.put(Frame::Start(begun)) {
+                Ok(()) => Err(Stop::Short),
+                Err(_) => Err(Stop::Memory),
+            }
+        }
         Err(stop) => Err(stop),
     }
 }

@@ -105,7 +105,7 @@ fn read_set_by_bits(k: u32, set: NumberSet, why: Why, bits: &mut BitCursor<'_>) 
     if bits.is_empty() {
         return Err(Stop::Short);
     }
-    match read_number_by_bits(k, intervals_of(set), why, bits) {
+    match read_slowly(k, intervals_of(set), why, bits) {
         Ok(number) => Ok(number as u64),
         Err(stop) => Err(stop),
     }
@@ -150,7 +150,7 @@ pub fn read_number_among(
 {
     match try_number_of(&numbers, k, bits) {
         Some(n) => Ok(n),
-        None => read_number_by_bits(k, numbers, why, bits),
+        None => read_slowly(k, numbers, why, bits),
     }
 }
 
@@ -216,9 +216,10 @@ fn try_short_number(k: u32, set: NumberSet, bits: &mut BitCursor<'_>) -> Option<
     None
 }
 
-/// Reads a number of the intervals in `k` bits, bit by bit.
+/// Reads a number of the intervals in `k` bits that could not be taken in one step: where they are cut, in one step too,
+/// else bit by bit.
 #[cold]
-fn read_number_by_bits(
+fn read_slowly(
     k: u32,
     numbers: Intervals,
     why: Why,
@@ -235,6 +236,26 @@ fn read_number_by_bits(
     if is_cut(k, &numbers, bits) {
         return Err(Stop::Short);
     }
+    read_number_by_bits(k, numbers, why, bits)
+}
+
+/// Reads a number of the intervals in `k` bits, bit by bit.
+#[cold]
+#[inline(never)]
+fn read_number_by_bits(
+    k: u32,
+    numbers: Intervals,
+    why: Why,
+    bits: &mut BitCursor<'_>,
+) -> Result<u128, Stop>
+    requires many { 1 ≤ k }
+    requires few { k ≤ 72 }
+    requires some { Meets (λ n. Among numbers n) 0 k }
+    ensures done { ReadsPlain (NumberAmong k numbers) result bits.old bits.new }
+    ensures member { IfOk result (λ n. Among numbers n) }
+    ensures fits { IfOk result (λ n. n < 2 ^ k) }
+    ensures stop { StopsPlain (NumberAmong k numbers) result bits.old }
+{
     let mut field = NumberField::new(k, numbers);
     loop {
         let Some(bit) = bits.next() else {

@@ -1,16 +1,8 @@
-use Rattle.std.proofs.Common.{[], refl, sym, append-nil}
+use Rattle.std.proofs.Common.{refl}
 use Rattle.asn_bits.proofs.Prefixes.{bit_again, in_bits}
 use Rattle.asn_rules.proofs.Plain.NumberSets.{number_waits, number_stops}
-use Rattle.asn_rules.proofs.Numbers.Sets.{Giving, giving_starts, giving_done}
-use Rattle.asn_bits.specs.Sets.{Among}
+use Rattle.asn_rules.proofs.Numbers.Sets.{giving_starts, giving_done}
 use Rattle.asn_rules.proofs.number_reader.read_number_by_bits.Goals as goal
-
-pub returns-then-is_cut-clause-stop : goal.returns-then-is_cut-clause-stop
-returns-then-is_cut-clause-stop c R =
-    let us = c.args.bits.now in
-    let h = c.is_cut.ensures c.if-is_cut.true in
-    let g : Giving c.args.k (λ n. Among c.args.numbers n) us [] us = record { split = sym (append-nil us); some = h.0; begins = h.1 } in
-    record { told = number_waits R g refl }
 
 pub loop-bit-init : goal.loop-bit-init
 loop-bit-init c =

@@ -82,9 +82,10 @@ impl Begun {
         ensures bits { self.new ≡ self.old ++ take count units.old }
         ensures left { units.new ≡ drop count units.old }
     {
-        let Some(number) = units.take_number(count) else {
+        let Some(number) = units.peek_short_number(count) else {
             unreachable!()
         };
+        units.pass(count);
         self.number = (self.number << count) + u128::from(number);
         self.count += count;
     }

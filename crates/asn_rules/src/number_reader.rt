@@ -105,7 +105,8 @@ fn read_set_by_bits(k: u32, set: NumberSet, why: Why, bits: &mut BitCursor<'_>) 
     if bits.is_empty() {
         return Err(Stop::Short);
     }
-    match read_slowly(k, intervals_of(set), why, bits) {
+    let numbers = intervals_of(set);
+    match read_slowly(k, &numbers, why, bits) {
         Ok(number) => Ok(number as u64),
         Err(stop) => Err(stop),
     }
@@ -150,7 +151,7 @@ pub fn read_number_among(
 {
     match try_number_of(&numbers, k, bits) {
         Some(n) => Ok(n),
-        None => read_slowly(k, numbers, why, bits),
+        None => read_slowly(k, &numbers, why, bits),
     }
 }
 
@@ -221,22 +222,22 @@ fn try_short_number(k: u32, set: NumberSet, bits: &mut BitCursor<'_>) -> Option<
 #[cold]
 fn read_slowly(
     k: u32,
-    numbers: Intervals,
+    numbers: &Intervals,
     why: Why,
     bits: &mut BitCursor<'_>,
 ) -> Result<u128, Stop>
     requires many { 1 ≤ k }
     requires few { k ≤ 72 }
-    requires some { Meets (λ n. Among numbers n) 0 k }
-    ensures done { ReadsPlain (NumberAmong k numbers) result bits.old bits.new }
-    ensures member { IfOk result (λ n. Among numbers n) }
+    requires some { Meets (λ n. Among numbers.now n) 0 k }
+    ensures done { ReadsPlain (NumberAmong k numbers.now) result bits.old bits.new }
+    ensures member { IfOk result (λ n. Among numbers.now n) }
     ensures fits { IfOk result (λ n. n < 2 ^ k) }
-    ensures stop { StopsPlain (NumberAmong k numbers) result bits.old }
+    ensures stop { StopsPlain (NumberAmong k numbers.now) result bits.old }
 {
-    if is_cut(k, &numbers, bits) {
+    if is_cut(k, numbers, bits) {
         return Err(Stop::Short);
     }
-    read_number_by_bits(k, numbers, why, bits)
+    read_number_by_bits(k, numbers.copied(), why, bits)
 }
 
 /// Reads a number of the intervals in `k` bits, bit by bit.

@@ -8,5 +8,5 @@ pub returns-then-is_cut-clause-stop : goal.returns-then-is_cut-clause-stop
 returns-then-is_cut-clause-stop c R =
     let us = c.args.bits.now in
     let h = c.is_cut.ensures c.if-is_cut.true in
-    let g : Giving c.args.k (λ n. Among c.args.numbers n) us [] us = record { split = sym (append-nil us); some = h.0; begins = h.1 } in
+    let g : Giving c.args.k (λ n. Among c.args.numbers.now n) us [] us = record { split = sym (append-nil us); some = h.0; begins = h.1 } in
     record { told = number_waits R g refl }

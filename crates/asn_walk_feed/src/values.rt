@@ -140,6 +140,7 @@ fn feed_scalar<R: FeedLeaves>(
         0 ticks.old.inside units.old ticks.new.inside
         units.new }
 {
+    R::keep_feed_laws();
     let mut begun = begun_of(node);
     match feed_leaf::<R, Scalar<'_>>(alloc, &Scalar { ty }, &mut begun, units, ticks) {
         Ok(value) => Ok(value),

@@ -48,7 +48,7 @@ returns-then-all_are_taken-clause-stop g c =
     let p : Elements g.row.R-Fragments.Denot ℕ = record c.loop-octets.octets { elements = c.push.new.self; next_part = c.none-octets.result; left = c.loop-octets.octets.left - 1 } in
     let k : OctetsGoOn g.R.ReadLeaves.rules coding g.R.ReadLeaves.ahead g.R.ReadLeaves.is_between p all (U c.feed_leaf.new.units) = x.more p c.in_ok-octet.octet (U c.feed_leaf.new.units) (omega (arith, c.loop-octets-test.true)) refl c.none-octets.ensures c.in_ok-push.ensures.items c.in_ok-octet.ensures.done in
     let fewer : length (U c.feed_leaf.new.units) < length (U c.loop-octets.octets.next_part ++ U c.loop-octets.units) = omega (arith, ap length w.2, length-append (U c.loop-octets.octets.next_part) (U c.loop-octets.units), c.units_left-before.ensures, ap (λ (us : List ℕ). length (U us)) c.ahead.ensures, w.1) in
-    let wanted : Short g.R.ReadLeaves.rules.ruling.fielding coding.octet [] = some_wanted (fields_part_of g.R.ReadLeaves.rules c.keep_laws.ensures) c.keep_octet_laws.ensures.octet c.keep_octet_laws.ensures.some c.in_ok-octet.ensures.done fewer in
+    let wanted : Short g.R.ReadLeaves.rules.ruling.fielding coding.octet [] = some_wanted {us = U c.loop-octets.octets.next_part ++ U c.loop-octets.units} {r = U c.feed_leaf.new.units} (fields_part_of g.R.ReadLeaves.rules c.keep_laws.ensures) c.keep_octet_laws.ensures.octet c.keep_octet_laws.ensures.some c.in_ok-octet.ensures.done fewer in
     octets_wait g.R.ReadLeaves.rules c.keep_laws.ensures c.keep_feed_laws.ensures coding c.keep_octet_laws.ensures g.R.ReadLeaves.ahead g.R.ReadLeaves.is_between p all (U c.feed_leaf.new.units) w.0 k c.none-octets.ensures w.2 wanted
 
 pub returns-then-all_are_taken-clause-kept : goal.returns-then-all_are_taken-clause-kept

@@ -279,8 +279,7 @@ fn read_number_by_bits(
 /// or more are left.
 fn is_cut(k: u32, numbers: &Intervals, bits: &BitCursor<'_>) -> bool
     requires few { k ≤ 72 }
-    ensures {
-        IsTrue result → (length bits.now < k) × Begins k (λ n. Among numbers.now n) bits.now }
+    ensures { IsTrue result → (length bits.now < k) × Begins k (λ n. Among numbers.now n) bits.now }
 {
     let octets = bits.octets_left();
     if octets >= 8 {

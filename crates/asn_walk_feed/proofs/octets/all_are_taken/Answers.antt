@@ -1,4 +1,4 @@
-use Rattle.std.proofs.Common.{◌≡◌, ℕ, List, length, ap, arith}
+use Rattle.std.proofs.Common.{ℕ, List, length, ap, arith}
 use Rattle.asn_walk_feed.proofs.Leaves.{no_units}
 use Rattle.asn_walk_feed.proofs.octets.all_are_taken.Goals as goal
 

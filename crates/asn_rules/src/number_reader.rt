@@ -1,7 +1,7 @@
 //! Readers of numbers in a fixed count of bits, refused at the first bit after which no number of the set can follow.
 
 ghost use Rattle.std.specs.Prelude.{◌≡◌, ◌≤◌, ◌<◌, ◌*◌, ◌^◌, ◌++◌, ◌↔◌, ℕ, drop, IfOk, IfSome, IsNone, IsTrue, None, length, replicate};
-ghost use Rattle.asn_bits.specs.Begun.{StandsFirst};
+ghost use Rattle.asn_bits.specs.Begun.{Begins, StandsFirst};
 ghost use Rattle.asn_bits.specs.Numbers.{bits};
 ghost use Rattle.asn_bits.specs.Sets.{AreBits, Meets, Among};
 ghost use Rattle.asn_rules.specs.NumberSets.{Admits, AreAmong, NoneStandsFirst, NumberIn, NumberAmong, up_to, between_but};
@@ -102,7 +102,11 @@ fn read_set_by_bits(k: u32, set: NumberSet, why: Why, bits: &mut BitCursor<'_>) 
     ensures member { IfOk result (λ n. Admits set n) }
     ensures stop { StopsPlain (NumberIn k set) result bits.old }
 {
-    match read_number_by_bits(k, intervals_of(set), why, bits) {
+    if bits.is_empty() {
+        return Err(Stop::Short);
+    }
+    let numbers = intervals_of(set);
+    match read_slowly(k, &numbers, why, bits) {
         Ok(number) => Ok(number as u64),
         Err(stop) => Err(stop),
     }
@@ -147,7 +151,7 @@ pub fn read_number_among(
 {
     match try_number_of(&numbers, k, bits) {
         Some(n) => Ok(n),
-        None => read_number_by_bits(k, numbers, why, bits),
+        None => read_slowly(k, &numbers, why, bits),
     }
 }
 
@@ -213,8 +217,32 @@ fn try_short_number(k: u32, set: NumberSet, bits: &mut BitCursor<'_>) -> Option<
     None
 }
 
+/// Reads a number of the intervals in `k` bits that could not be taken in one step: where they are cut, in one step too,
+/// else bit by bit.
+#[cold]
+fn read_slowly(
+    k: u32,
+    numbers: &Intervals,
+    why: Why,
+    bits: &mut BitCursor<'_>,
+) -> Result<u128, Stop>
+    requires many { 1 ≤ k }
+    requires few { k ≤ 72 }
+    requires some { Meets (λ n. Among numbers.now n) 0 k }
+    ensures done { ReadsPlain (NumberAmong k numbers.now) result bits.old bits.new }
+    ensures member { IfOk result (λ n. Among numbers.now n) }
+    ensures fits { IfOk result (λ n. n < 2 ^ k) }
+    ensures stop { StopsPlain (NumberAmong k numbers.now) result bits.old }
+{
+    if is_cut(k, numbers, bits) {
+        return Err(Stop::Short);
+    }
+    read_number_by_bits(k, numbers.copied(), why, bits)
+}
+
 /// Reads a number of the intervals in `k` bits, bit by bit.
 #[cold]
+#[inline(never)]
 fn read_number_by_bits(
     k: u32,
     numbers: Intervals,
@@ -245,6 +273,26 @@ fn read_number_by_bits(
             }
         }
     }
+}
+
+/// Whether fewer than `k` bits are left, and some number of the intervals begins with them. May be `false` where 64 bits
+/// or more are left.
+fn is_cut(k: u32, numbers: &Intervals, bits: &BitCursor<'_>) -> bool
+    requires few { k ≤ 72 }
+    ensures { IsTrue result → (length bits.now < k) × Begins k (λ n. Among numbers.now n) bits.now }
+{
+    let octets = bits.octets_left();
+    if octets >= 8 {
+        return false;
+    }
+    let left = 8 * octets as u32 + bits.rest_of_octet();
+    if left >= k {
+        return false;
+    }
+    let Some(front) = bits.peek_number(left) else {
+        return false;
+    };
+    numbers.meets(u128::from(front), k - left)
 }
 
 /// Reads `zeros` zero bits, which fill up octets.

@@ -1,7 +1,7 @@
 -- A number takes further bits after its own.
 use Rattle.std.proofs.Common.{◌≡◌, ◌≤◌, ◌<◌, ◌+◌, ◌*◌, ◌%◌, ◌^◌, ℕ, zero, suc, List, [], ◌∷◌, ◌++◌, take, drop, refl, sym, ap, ◌∙◌, arith}
 use Rattle.std.proofs.Math.Nat.{mod-eq_of_lt, pow-le-pow_right}
-use Rattle.std.proofs.lemmas.List.{take_at, drop_at}
+use Rattle.std.proofs.lemmas.List.{take_at}
 use Rattle.std.proofs.lemmas.Nat.{pow-add, mul-add-lt}
 use Rattle.asn_bits.specs.Numbers.{bits}
 use Rattle.asn_bits.proofs.Octets.{length-digits}
@@ -33,12 +33,9 @@ pub shifted_bits : (c k p n : ℕ) → c + k ≤ 128 → p < 2 ^ c → n < 2 ^ k
 shifted_bits c k p n room h l =
     ap (λ (m : ℕ). bits (c + k) (m + n)) (shifted c k p n room h l) ∙ sym (digits-join 2 (omega arith) c k p n l)
 
--- the first k bits of some, and what is left of them
+-- the first k bits of some
 pub first_bits : (k n : ℕ) (us new : List ℕ) → us ≡ bits k n ++ new → take k us ≡ bits k n
 first_bits k n us new e = ap (λ (l : List ℕ). take k l) e ∙ take_at (bits k n) new k (length-digits 2 k n)
-
-pub bits_left : (k n : ℕ) (us new : List ℕ) → us ≡ bits k n ++ new → new ≡ drop k us
-bits_left k n us new e = sym (ap (λ (l : List ℕ). drop k l) e ∙ drop_at (bits k n) new k (length-digits 2 k n))
 
 -- the first j of a list and the next k are its first j + k
 pub taken_in_two : (j k : ℕ) (us : List ℕ) → take j us ++ take k (drop j us) ≡ take (j + k) us

@@ -1,22 +1,32 @@
 -- From the answers for what has come of a part, and the next units after it, to those for all units.
-use Rattle.std.proofs.Common.{◌≡◌, ◌+◌, ℕ, List, [], ◌∷◌, ◌++◌, length, drop, length-append, refl, sym, ap, subst, ◌∙◌, append_assoc, arith}
+use Rattle.std.proofs.Common.{◌≡◌, ◌<◌, ◌+◌, ℕ, List, [], ◌∷◌, ◌++◌, length, drop, length-append, refl, sym, ap, subst, ◌∙◌, append_assoc, arith}
 use Rattle.std.proofs.Math.Seq.{drop-append_seam}
 use Rattle.std.proofs.lemmas.List.{append-nil}
 use Rattle.asn_rules.specs.Chunks.{Chunk, flat}
 use Rattle.asn_rules.specs.Live.{Fielding}
-use Rattle.asn_rules.specs.Languages.{Spells, Short, Refused}
+use Rattle.asn_rules.specs.Languages.{Spells, Short, Refused, Lawful, Inhabited}
 use Rattle.asn_rules.proofs.Live.Chunks.{FieldsPart}
-use Rattle.asn_rules.proofs.Languages.Then.{live_shorter}
+use Rattle.asn_rules.proofs.Languages.Then.{live_nothing, live_shorter, one_front}
 use Rattle.asn_rules.proofs.Answer.Answers.{done_stays, refused_stays}
 
--- where more units are wanted or one is refused, of none at all more are wanted
-pub nothing_short : {V : Type 0} {R : Fielding} {L : V → List Chunk → Type 0} {us : List ℕ} → Short R L us
-    → Short R L []
-nothing_short {V} {R} {L} {us} h = record {
-  live = live_shorter [] us h.live;
-  none = λ v r x. h.none v (r ++ us) (done_stays us x);
+-- where more units are wanted, so they are of the first of these
+pub front_short : {V : Type 0} {R : Fielding} {L : V → List Chunk → Type 0} (us vs : List ℕ) → Short R L (us ++ vs)
+    → Short R L us
+front_short us vs h = record {
+  live = live_shorter us vs h.live;
+  none = λ v r x. h.none v (r ++ vs) (done_stays vs x);
 }
 
+-- a part that is read in some units is not read in none
+pub some_wanted : {V : Type 0} {R : Fielding} {L : V → List Chunk → Type 0} {v : V} {us r : List ℕ} → FieldsPart R
+    → Lawful L → Inhabited L → Spells R L v us r → length r < length us → Short R L []
+some_wanted {us = us} ok law some s l = record {
+  live = live_nothing some;
+  none = λ w t x.
+      (let o = one_front ok law s (done_stays us x) in absurd (omega (arith, ap length o.1, length-append t us, l)));
+}
+
+-- where one is refused, of none at all more are wanted
 pub nothing_refused : {V : Type 0} {R : Fielding} {L : V → List Chunk → Type 0} {us : List ℕ} {n : ℕ}
     → Refused R L us n → Short R L []
 nothing_refused {V} {R} {L} {us} {n} h = record {

@@ -1,5 +1,5 @@
 -- How octets that stand in fragments and may be cut go on.
-use Rattle.std.proofs.Common.{◌≡◌, ◌<◌, ◌+◌, inl, inr, ℕ, List, [], ◌∷◌, ◌++◌, length, Option, Some, None, refl, ap, subst, ◌∙◌}
+use Rattle.std.proofs.Common.{◌≡◌, ◌<◌, ◌+◌, inl, inr, ℕ, List, [], ◌∷◌, ◌++◌, length, Option, Some, None, refl, sym, ap, subst, ◌∙◌}
 use mathlib.Core.List.{map-id}
 use Rattle.asn_rules.specs.Chunks.{Chunk}
 use Rattle.asn_rules.specs.Languages.{Spells, Short, Inhabited, Then}
@@ -139,6 +139,13 @@ module _ {F : Type 0} (c : Coding) (laws : Laws c) (feeds : FeedLaws c) (f : Oct
             x.kept p [] units' el ef ee z (refl, record { come = eh ∙ same; at_unit = at; begins = inr short }));
         more = λ p o r el ef eh ei k. x.more p [] o r el ef eh ei refl (subst (λ (us : List ℕ). Spells c.ruling.fielding f.octet o us r) same k);
       }
+
+  -- an octet has a unit, and the piece has none of the next
+  pub octets_wait : (q : Elements F ℕ) (all units : List ℕ) → 0 < q.left → R q all units → q.next_part ≡ []
+      → units ≡ [] → Short c.ruling.fielding f.octet [] → Stops c.ruling.fielding Whole all stop.Short
+  octets_wait q all units l h e z k =
+      let none : c.to_units q.next_part ++ units ≡ [] = ap (λ (us : List ℕ). c.to_units us ++ units) e ∙ ap (λ (us : List ℕ). us ++ units) feeds.none ∙ z in
+      (octet_ahead q all units l h).stops stop.Short (record { told = subst (λ (us : List ℕ). Short c.ruling.fielding f.octet us) (sym none) k })
 
   -- ---- with the next piece
 

@@ -61,9 +61,15 @@ impl Begun {
     {
         let left = 8 * units.octets_left().min(16) as u32 + units.rest_of_octet();
         let count = left.min(ROOM - self.count);
+        if count == 0 {
+            return count;
+        }
         let first = count.min(64);
         let mut units = units.copied();
         self.push_next(&mut units, first);
+        if first == count {
+            return count;
+        }
         self.push_next(&mut units, count - first);
         count
     }
@@ -76,9 +82,10 @@ impl Begun {
         ensures bits { self.new ≡ self.old ++ take count units.old }
         ensures left { units.new ≡ drop count units.old }
     {
-        let Some(number) = units.take_number(count) else {
+        let Some(number) = units.peek_short_number(count) else {
             unreachable!()
         };
+        units.pass(count);
         self.number = (self.number << count) + u128::from(number);
         self.count += count;
     }

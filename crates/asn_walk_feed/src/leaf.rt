@@ -233,33 +233,39 @@ pub fn feed_leaf<R: FeedLeaves, L: Leaf<R>>(
     }
 }
 
-/// Reads a part of the piece itself, where no unit of it has come before and the piece has all of them; otherwise
-/// answers
-/// `None` and takes no unit. An `Err` is `Memory`.
+/// Reads a part of the piece itself, where no unit of it has come before; where the piece has too few, they are those
+/// that have come. `None` where units have come before or one of the piece is refused, and then no unit is taken.
 fn read_at_once<R: FeedLeaves, L: Leaf<R>>(
     alloc: Global,
     leaf: &L,
-    begun: &Begun,
+    begun: &mut Begun,
     units: &mut Units<'_>,
     ticks: &mut Ticks,
 ) -> Result<Option<L::Out>, Stop>
     requires good { L.good leaf.now }
+    requires begun { R.rules.at_unit begun.old }
     requires at_unit { R.rules.at_unit units.old }
-    requires begins { HasBegun R.rules (L.language leaf.now) begun.now }
+    requires begins { HasBegun R.rules (L.language leaf.now) begun.old }
     requires few { ticks.old.taken + length (R.rules.to_units units.old) < 2 ^ 64 }
+    ensures begun { R.rules.at_unit begun.new }
     ensures at_unit { R.rules.at_unit units.new }
     ensures done { IfOk result (λ o. IfSome o (λ v. Spells R.rules.ruling.fielding (L.language leaf.now) (L.seen v)
-        (R.rules.to_units begun.now ++ R.rules.to_units units.old) (R.rules.to_units units.new))) }
+        (R.rules.to_units begun.old ++ R.rules.to_units units.old) (R.rules.to_units units.new))) }
     ensures sound { IfOk result (λ o. IfSome o (λ v. L.sound v)) }
-    ensures still { IfOk result (λ o. IsNone o → (units.new ≡ units.old) × (ticks.new.taken ≡ ticks.old.taken)) }
+    ensures still { IfOk result (λ o. IsNone o →
+        (units.new ≡ units.old) × (ticks.new.taken ≡ ticks.old.taken) × (begun.new ≡ begun.old)) }
     ensures short { IfOk result (λ o. IsNone o →
-        Short R.rules.ruling.fielding (L.language leaf.now) (R.rules.to_units begun.now)) }
-    ensures memory { IfErr result (λ why. why ≡ Memory) }
+        Short R.rules.ruling.fielding (L.language leaf.now) (R.rules.to_units begun.old)) }
+    ensures stop { IfErr result (λ why. Stops R.rules.ruling.fielding (L.language leaf.now)
+        (R.rules.to_units begun.old ++ R.rules.to_units units.old) why) }
+    ensures after { IfErr result (λ why. StandsAfter R.rules units.new why) }
+    ensures kept { IfErr result (λ why. KeepsUnits R.rules begun.old units.old begun.new why) }
     ensures ticked { Ticked R.rules units.old ticks.old.taken units.new ticks.new.taken }
     ensures rising { ticks.old.taken ≤ ticks.new.taken }
     ensures inside { ticks.new.inside ≡ ticks.old.inside }
 {
     R::keep_feed_laws();
+    leaf.be_brief();
     if !begun.is_none() {
         return Ok(None);
     }
@@ -270,7 +276,11 @@ fn read_at_once<R: FeedLeaves, L: Leaf<R>>(
             Ok(Some(value))
         }
         Err(Stop::Memory) => Err(Stop::Memory),
-        Err(Stop::Short) => Ok(None),
+        Err(Stop::Short) => {
+            let came = R::extend(begun, &units.ahead());
+            take_units::<R>(units, came, ticks);
+            Err(Stop::Short)
+        }
         Err(Stop::Refused { .. }) => Ok(None),
     }
 }

@@ -1,6 +1,6 @@
 //! The reader of octets that stand in fragments, which goes on where it stopped: those of an open type field, and the
 //! items of a string, each of which is held as an octet.
-ghost use Rattle.std.specs.Prelude.{◌≡◌, ◌≤◌, ◌<◌, ◌+◌, ◌^◌, ◌++◌, ℕ, List, [], length, IfOk, IfErr, OnOk, IsNone, Err, ⊤};
+ghost use Rattle.std.specs.Prelude.{◌≡◌, ◌≤◌, ◌<◌, ◌+◌, ◌^◌, ◌++◌, ℕ, List, [], length, IfOk, IfErr, OnOk, IsNone, IsTrue, Err, ⊤};
 ghost use Rattle.asn_values.specs.Profile.{InProfile};
 ghost use Rattle.asn_values.specs.View.{shape_of};
 ghost use Rattle.asn_rules.specs.Languages.{Spells};
@@ -358,6 +358,7 @@ fn feed_fragment<R: FeedLeaves, K: InFragments<R>>(
     R::keep_feed_laws();
     kind.keep_octet_laws();
     while octets.left > 0 {
+        let before = R::units_left(&units.ahead());
         let octet = feed_leaf::<R, Octet<'_, K>>(
             alloc,
             &Octet { kind },
@@ -368,6 +369,27 @@ fn feed_fragment<R: FeedLeaves, K: InFragments<R>>(
         octets.elements.push(octet)?;
         octets.next_part = Begun::none();
         octets.left -= 1;
+        if all_are_taken::<R>(octets.left, before, units) {
+            return Err(Stop::Short);
+        }
     }
     Ok(())
+}
+
+/// Whether the piece, which had `before` units before the last octet, has none after it, and octets are left to come:
+/// since the last one had a unit, so has the next.
+fn all_are_taken<R: FeedLeaves>(left: usize, before: u128, units: &Units<'_>) -> bool
+    requires { R.rules.at_unit units.now }
+    ensures { IsTrue result → (0 < left) × (0 < before) × (R.rules.to_units units.now ≡ []) }
+{
+    if left == 0 {
+        return false;
+    }
+    if before == 0 {
+        return false;
+    }
+    if R::units_left(&units.ahead()) > 0 {
+        return false;
+    }
+    true
 }

@@ -1,5 +1,5 @@
 //! The parts of few units that stand in values of all types.
-ghost use Rattle.std.specs.Prelude.{◌≡◌, ◌≤◌, ◌<◌, ◌⊎◌, ℕ, List, Bool, true, Option, vec_len, ⊤};
+ghost use Rattle.std.specs.Prelude.{◌≡◌, ◌≤◌, ◌<◌, ◌⊎◌, ℕ, List, Bool, true, Option, IfOk, IfErr, OnOk, vec_len, ⊤};
 ghost use Rattle.std.specs.Option.{option_map};
 ghost use Rattle.asn_values.specs.Datum.{Datum};
 ghost use Rattle.asn_values.specs.Profile.{InProfile, good_default};
@@ -7,8 +7,8 @@ ghost use Rattle.asn_values.specs.View.{shape_of, datum_of, size_range_of};
 ghost use Rattle.asn_rules.specs.Padding.{Fixed};
 ghost use Rattle.asn_walk.specs.Ahead.{Ahead};
 ghost use Rattle.asn_walk.specs.Coding.{PreambleOf, AdditionBitmapOf, AreFew, IndexOf};
-ghost use Rattle.asn_walk.specs.Laws.{IsSizeOfProfile};
-ghost use Rattle.asn_walk.specs.Reading.{ValuesOf, OthersOf};
+ghost use Rattle.asn_walk.specs.Laws.{IsSimple, IsSizeOfProfile};
+ghost use Rattle.asn_walk.specs.Reading.{Reads, StopsAt, ValuesOf, OthersOf};
 ghost use Rattle.asn_walk.specs.Views.{preamble_seen, index_seen};
 ghost use Rattle.asn_walk_feed.specs.Feeding.{IsScalar, NextOf};
 ghost use Rattle.asn_walk_feed.specs.Octets.{start_seen};
@@ -42,12 +42,36 @@ impl<'a, R: FeedLeaves> Leaf<R> for Scalar<'a> {
     ghost sound = { λ v. ⊤ };
 
     fn read(&self, alloc: Global, units: &mut BitCursor<'_>) -> Result<Value, Stop> {
-        R::read_simple(alloc, self.ty, units)
+        match self.ty {
+            AsnType::Bool => read_at_hand::<R>(alloc, self.ty, units),
+            _ => R::read_simple(alloc, self.ty, units),
+        }
     }
 
     fn be_brief(&self) {
         R::keep_feed_laws();
     }
+}
+
+/// Reads a value of a type that is neither SEQUENCE, SEQUENCE OF nor CHOICE: in one step where the rules have one for it
+/// and its units are at hand.
+fn read_at_hand<R: FeedLeaves>(
+    alloc: Global,
+    ty: &AsnType,
+    units: &mut BitCursor<'_>,
+) -> Result<Value, Stop>
+    requires at_unit { R.rules.at_unit units.old }
+    requires of_profile { InProfile (shape_of ty.now) }
+    requires simple { IsSimple (shape_of ty.now) }
+    ensures at_unit { OnOk result (R.rules.at_unit units.new) }
+    ensures done { IfOk result (λ v.
+        Reads R.rules (ValuesOf R.rules (shape_of ty.now)) (datum_of v) units.old units.new) }
+    ensures stop { IfErr result (λ why. StopsAt R.rules (ValuesOf R.rules (shape_of ty.now)) units.old why) }
+{
+    if let Some(value) = R::try_simple(alloc, ty, units) {
+        return Ok(value);
+    }
+    R::read_simple(alloc, ty, units)
 }
 
 /// What stands before the elements of a SEQUENCE OF, up to the first length.

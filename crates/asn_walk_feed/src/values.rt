@@ -140,13 +140,19 @@ fn feed_scalar<R: FeedLeaves>(
         0 ticks.old.inside units.old ticks.new.inside
         units.new }
 {
+    R::keep_feed_laws();
     let mut begun = begun_of(node);
     match feed_leaf::<R, Scalar<'_>>(alloc, &Scalar { ty }, &mut begun, units, ticks) {
         Ok(value) => Ok(value),
-        Err(Stop::Short) => match frames.put(Frame::Start(begun)) {
-            Ok(()) => Err(Stop::Short),
-            Err(_) => Err(Stop::Memory),
-        },
+        Err(Stop::Short) => {
+            if begun.is_none() {
+                return Err(Stop::Short);
+            }
+            match frames.put(Frame::Start(begun)) {
+                Ok(()) => Err(Stop::Short),
+                Err(_) => Err(Stop::Memory),
+            }
+        }
         Err(stop) => Err(stop),
     }
 }

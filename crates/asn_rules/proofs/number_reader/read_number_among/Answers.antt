@@ -3,8 +3,8 @@ use Rattle.asn_bits.proofs.Prefixes.{first_bits, in_bits}
 use Rattle.asn_rules.proofs.Numbers.Sets.{first_spells}
 use Rattle.asn_rules.proofs.number_reader.read_number_among.Goals as goal
 
-pub read_number_by_bits-requires-clause-many : goal.read_number_by_bits-requires-clause-many
-read_number_by_bits-requires-clause-many c = first_bits c.args.k c.requires.some (c.in-None.ensures.none refl)
+pub read_slowly-requires-clause-many : goal.read_slowly-requires-clause-many
+read_slowly-requires-clause-many c = first_bits c.args.k c.requires.some (c.in-None.ensures.none refl)
 
 pub returns-in-Some-clause-done : goal.returns-in-Some-clause-done
 returns-in-Some-clause-done c R = first_spells R c.in-Some.ensures.some

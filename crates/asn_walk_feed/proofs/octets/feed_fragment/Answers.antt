@@ -1,7 +1,12 @@
-use Rattle.std.proofs.Common.{◌≡◌, refl, ◌∙◌, arith}
+use Rattle.std.proofs.Common.{◌≡◌, ◌<◌, ◌-◌, ◌++◌, [], ℕ, List, length, length-append, refl, ap, ◌∙◌, arith}
 use Rattle.std.proofs.lemmas.Result.{err_from_is_err_and}
 use Rattle.asn_rules.specs.declared.stop.Stop.TheVariants as stop
-use Rattle.asn_walk_feed.proofs.OctetsRead.{octet_ahead}
+use Rattle.asn_rules.specs.Languages.{Short}
+use Rattle.asn_walk.proofs.Parts.{fields_part_of}
+use Rattle.asn_walk_feed.specs.Octets.{OctetsGoOn}
+use Rattle.asn_walk_feed.specs.declared.frame.Elements.{Elements}
+use Rattle.asn_walk_feed.proofs.Leaves.{some_wanted}
+use Rattle.asn_walk_feed.proofs.OctetsRead.{octet_ahead, octets_wait}
 use Rattle.asn_walk_feed.proofs.octets.feed_fragment.Goals as goal
 
 pub feed_leaf-requires : goal.feed_leaf-requires
@@ -32,3 +37,20 @@ loop-octets-preserved g c =
       omega (arith, inv.5, c.feed_leaf.ensures.rising),
       c.feed_leaf.ensures.inside ∙ inv.6,
     )
+
+pub returns-then-all_are_taken-clause-stop : goal.returns-then-all_are_taken-clause-stop
+returns-then-all_are_taken-clause-stop g c =
+    λ all h.
+    let U = g.R.ReadLeaves.rules.to_units in
+    let coding = g.K.InFragments.coding c.args.kind.now in
+    let x = octet_ahead g.R.ReadLeaves.rules c.keep_laws.ensures c.keep_feed_laws.ensures coding c.keep_octet_laws.ensures g.R.ReadLeaves.ahead g.R.ReadLeaves.is_between c.loop-octets.octets all (U c.loop-octets.units) c.loop-octets-test.true (c.loop-octets.invariant.0 all h) in
+    let w = c.all_are_taken.ensures c.if-all_are_taken.true in
+    let p : Elements g.row.R-Fragments.Denot ℕ = record c.loop-octets.octets { elements = c.push.new.self; next_part = c.none-octets.result; left = c.loop-octets.octets.left - 1 } in
+    let k : OctetsGoOn g.R.ReadLeaves.rules coding g.R.ReadLeaves.ahead g.R.ReadLeaves.is_between p all (U c.feed_leaf.new.units) = x.more p c.in_ok-octet.octet (U c.feed_leaf.new.units) (omega (arith, c.loop-octets-test.true)) refl c.none-octets.ensures c.in_ok-push.ensures.items c.in_ok-octet.ensures.done in
+    let fewer : length (U c.feed_leaf.new.units) < length (U c.loop-octets.octets.next_part ++ U c.loop-octets.units) = omega (arith, ap length w.2, length-append (U c.loop-octets.octets.next_part) (U c.loop-octets.units), c.units_left-before.ensures, ap (λ (us : List ℕ). length (U us)) c.ahead.ensures, w.1) in
+    let wanted : Short g.R.ReadLeaves.rules.ruling.fielding coding.octet [] = some_wanted {us = U c.loop-octets.octets.next_part ++ U c.loop-octets.units} {r = U c.feed_leaf.new.units} (fields_part_of g.R.ReadLeaves.rules c.keep_laws.ensures) c.keep_octet_laws.ensures.octet c.keep_octet_laws.ensures.some c.in_ok-octet.ensures.done fewer in
+    octets_wait g.R.ReadLeaves.rules c.keep_laws.ensures c.keep_feed_laws.ensures coding c.keep_octet_laws.ensures g.R.ReadLeaves.ahead g.R.ReadLeaves.is_between p all (U c.feed_leaf.new.units) w.0 k c.none-octets.ensures w.2 wanted
+
+pub returns-then-all_are_taken-clause-kept : goal.returns-then-all_are_taken-clause-kept
+returns-then-all_are_taken-clause-kept g c =
+    λ e all h. (octet_ahead g.R.ReadLeaves.rules c.keep_laws.ensures c.keep_feed_laws.ensures (g.K.InFragments.coding c.args.kind.now) c.keep_octet_laws.ensures g.R.ReadLeaves.ahead g.R.ReadLeaves.is_between c.loop-octets.octets all (g.R.ReadLeaves.rules.to_units c.loop-octets.units) c.loop-octets-test.true (c.loop-octets.invariant.0 all h)).more _ c.in_ok-octet.octet (g.R.ReadLeaves.rules.to_units c.feed_leaf.new.units) (omega (arith, c.loop-octets-test.true)) refl c.none-octets.ensures c.in_ok-push.ensures.items c.in_ok-octet.ensures.done

@@ -1,8 +1,8 @@
-use Rattle.std.proofs.Common.{◌≡◌, ◌+◌, ◌<◌, ◌≤◌, ◌^◌, ◌++◌, ℕ, List, length, take, sym, ap, ◌∙◌, arith}
+use Rattle.std.proofs.Common.{◌≡◌, ◌+◌, ◌<◌, ◌≤◌, ◌^◌, ◌++◌, ℕ, List, length, take, drop, sym, ap, ◌∙◌, arith}
 use Rattle.std.proofs.Math.Nat.{pow-le-pow_right}
 use Rattle.asn_bits.specs.Numbers.{bits}
 use Rattle.asn_bits.proofs.Octets.{length-digits}
-use Rattle.asn_walk_feed.proofs.Bits.{shifted_fits, shifted_bits, first_bits, bits_left}
+use Rattle.asn_walk_feed.proofs.Bits.{shifted_fits, shifted_bits, first_bits}
 use Rattle.asn_walk_feed.proofs.begun.Begun.push_next.Goals as goal
 
 pub overflow_add-self : goal.overflow_add-self
@@ -29,10 +29,7 @@ returns-clause-bits c =
     let l : length c.args.self.now ≡ k = ap length (sym c.self.view_is) ∙ length-digits 2 k c.self.inside.number in
     let room : k + c.args.count ≤ 128 = omega (arith, c.requires.room, l) in
     let n : c.from.result < 2 ^ c.args.count = rw c.from.ensures c.in-Some.ensures.fits in
-    let same : bits c.args.count c.from.result ≡ take c.args.count c.args.units.now = ap (bits c.args.count) c.from.ensures ∙ sym (first_bits c.args.count c.in-Some.number c.args.units.now c.take_number.new.self c.in-Some.ensures.some) in
+    let same : bits c.args.count c.from.result ≡ take c.args.count c.args.units.now = ap (bits c.args.count) c.from.ensures ∙ sym (first_bits c.args.count c.in-Some.number c.args.units.now (drop c.args.count c.args.units.now) c.in-Some.ensures.some) in
     shifted_bits k c.args.count c.self.inside.number c.from.result room c.self.invariant.1 n
     ∙ ap (λ (us : List ℕ). us ++ bits c.args.count c.from.result) c.self.view_is
     ∙ ap (λ (us : List ℕ). c.args.self.now ++ us) same
-
-pub returns-clause-left : goal.returns-clause-left
-returns-clause-left c = bits_left c.args.count c.in-Some.number c.args.units.now c.take_number.new.self c.in-Some.ensures.some

@@ -63,8 +63,8 @@ offset_or_more-offset-requires-clause-within_high g c =
     let low_stays : to_z w128 (of_z w128 low) ≡ low = kept low w.0 (omega (arith, ints, w.1, w.2)) in
     rw low_stays (omega (arith, ints, w.1, w.2))
 
-pub returns-clause-of_type : goal.returns-clause-of_type
-returns-clause-of_type g c =
+pub returns-then-offset-highest-clause-of_type : goal.returns-then-offset-highest-clause-of_type
+returns-then-offset-highest-clause-of_type g c =
     let low = c.in-Some-Some.low in
     let high = c.in-Some-Some.high in
     let ext = c.args.bounds.now.ext in
@@ -80,8 +80,8 @@ returns-clause-of_type g c =
     let most : z ≤ℤ high = below_by_offset low high z w.1 least (omega (arith, near, top, c.if-offset-highest.true)) in
     rw (c.in-Some-Some.is-0, c.in-Some-Some.is-1) (between_fits low high z ext good least most)
 
-pub returns-clause-written : goal.returns-clause-written
-returns-clause-written g c =
+pub returns-then-offset-highest-clause-written : goal.returns-then-offset-highest-clause-written
+returns-then-offset-highest-clause-written g c =
     let low = c.in-Some-Some.low in
     let high = c.in-Some-Some.high in
     let ext = c.args.bounds.now.ext in

@@ -9,8 +9,11 @@ ghost use Rattle.asn_walk.specs.Reading.{ReadsOther};
 ghost use Rattle.asn_plan.specs.Plans.{Builds};
 
 use crate::build::Build;
-use crate::plan::{Between, Leaf, WithDefault};
+use crate::enumeration::Enumeration;
+use crate::plan::{Between, ComponentRows, Kind, Leaf, Node, Presence, WithDefault};
 use crate::ranged::Ranged;
+use crate::rules::PlanLeaves;
+use crate::word::Word;
 use asn_bits::BitCursor;
 use asn_bits::internal::{wide_offset_from, width};
 use asn_values::profile::MAX_ALTERNATIVES;
@@ -41,6 +44,147 @@ pub(crate) fn build_leaf<R: ReadLeaves, B: Build>(
     };
     let part = B::value(room, value)?;
     Some(part)
+}
+
+/// What is built of a value of a type that the rules read by themselves, with which the units begin, and which is taken.
+/// `None` where they begin with none, where they are too few or memory is wanting.
+#[inline(never)]
+pub(crate) fn build_other<R: ReadLeaves, B: Build>(
+    alloc: Global,
+    ty: &AsnType,
+    units: &mut BitCursor<'_>,
+    room: &mut B::Room,
+) -> Option<B::Part>
+    requires at_unit { R.rules.at_unit units.old }
+    requires of_profile { InProfile (shape_of ty.now) }
+    requires simple { IsSimple (shape_of ty.now) }
+    ensures at_unit { IsSome result → R.rules.at_unit units.new }
+    ensures some { IfSome result (λ p.
+        Builds R.rules (B.built room.old room.new) (shape_of ty.now) p units.old units.new) }
+{
+    if let Some(value) = R::try_simple(alloc, ty, units) {
+        let part = B::value(room, value)?;
+        return Some(part);
+    }
+    let Ok(value) = R::read_simple(alloc, ty, units) else {
+        return None;
+    };
+    let part = B::value(room, value)?;
+    Some(part)
+}
+
+/// Reads a BOOLEAN, where it is at hand; otherwise takes nothing.
+#[inline(always)]
+pub(crate) fn try_truth<R: PlanLeaves>(units: &mut BitCursor<'_>) -> Option<bool>
+    requires at_unit { R.rules.at_unit units.old }
+    ensures at_unit { R.rules.at_unit units.new }
+    ensures some { IfSome result (λ b.
+        Reads R.rules (ValuesOf R.rules boolean) (truth b) units.old units.new) }
+    ensures none { IsNone result → units.new ≡ units.old }
+{
+    let start = units.copied();
+    let mut word = R::take_word(1, units);
+    if let Some(is_true) = R::next_truth(&mut word) && word.is_empty() {
+        return Some(is_true);
+    }
+    *units = start;
+    None
+}
+
+/// Reads an ENUMERATED of the type and gives the position of the item, where it is at hand and one of the root;
+/// otherwise takes nothing.
+#[inline(always)]
+pub(crate) fn try_item<R: PlanLeaves>(items: &Enumeration, units: &mut BitCursor<'_>) -> Option<u32>
+    requires at_unit { R.rules.at_unit units.old }
+    requires items { IsEnumeration items.now }
+    ensures at_unit { R.rules.at_unit units.new }
+    ensures some { IfSome result (λ p.
+        Reads R.rules (ValuesOf R.rules (shape_of items.now.ty)) (item p) units.old units.new) }
+    ensures none { IsNone result → units.new ≡ units.old }
+{
+    let start = units.copied();
+    let mut word = R::take_word(items.bits, units);
+    if let Some(position) = R::next_item(items, &mut word) && word.is_empty() {
+        return Some(position);
+    }
+    *units = start;
+    None
+}
+
+/// What is built of the value of a component that has to be there, from a word; `None` where none stands in it.
+#[inline(always)]
+pub(crate) fn build_next<R: PlanLeaves, B: Build>(
+    alloc: Global,
+    nodes: &[Node],
+    part: &Node,
+    word: &mut Word,
+    room: &mut B::Room,
+) -> Option<B::Part>
+    ensures must { IsSome result → part.now.presence ≡ presence.Must }
+{
+    match &part.kind {
+        Kind::Sequence(parts) => build_row::<R, B>(alloc, nodes, parts, word, room),
+        _ => build_number::<R, B>(part, word, room),
+    }
+}
+
+/// What is built of a SEQUENCE of numbers from a word, each of which has to be there; `None` where none stands in it.
+#[inline(always)]
+pub(crate) fn build_row<R: PlanLeaves, B: Build>(
+    alloc: Global,
+    nodes: &[Node],
+    rows: &ComponentRows,
+    word: &mut Word,
+    room: &mut B::Room,
+) -> Option<B::Part>
+{
+    if rows.begin >= rows.end || rows.middle < rows.end || rows.end > nodes.len() {
+        return None;
+    }
+    if rows.width > 0 || rows.additions.is_some() || rows.middle > rows.end {
+        return None;
+    }
+    R::next_preamble(0, None, word)?;
+    let mut entries = B::entries(alloc, room, rows.end - rows.begin)?;
+    for part in &nodes[rows.begin..rows.end] {
+        let value = build_number::<R, B>(part, word, room)?;
+        B::present(room, &mut entries, value)?;
+    }
+    let part = B::sequence(room, entries)?;
+    Some(part)
+}
+
+/// What is built of the number of a component that has to be there, from a word; `None` where none stands in it.
+#[inline(always)]
+pub(crate) fn build_number<R: PlanLeaves, B: Build>(
+    part: &Node,
+    word: &mut Word,
+    room: &mut B::Room,
+) -> Option<B::Part>
+    ensures must { IsSome result → part.now.presence ≡ presence.Must }
+    ensures some { IfSome result (λ p. BuildsNext R.rules (B.built room.old room.new) part.now p word.old word.new) }
+{
+    let Presence::Must = &part.presence else {
+        return None;
+    };
+    match &part.kind {
+        Kind::Number(number) => {
+            let integer = R::next_ranged(&number.range, word)?;
+            let part = B::number(room, integer)?;
+            Some(part)
+        }
+        Kind::Truth => {
+            let is_true = R::next_truth(word)?;
+            let part = B::truth(room, is_true)?;
+            Some(part)
+        }
+        Kind::Item(items) => {
+            let position = R::next_item(&items.of, word)?;
+            let part = B::item(room, position)?;
+            Some(part)
+        }
+        Kind::Leaf(_) | Kind::Sequence(_) | Kind::List(_) | Kind::Choice(_) => None,
+    }
 }
 
 /// The INTEGER of these bounds, if there are two, and the offsets between them have at most 64 bits with the extension

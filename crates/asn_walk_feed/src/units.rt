@@ -1,6 +1,6 @@
 //! The units of a piece of a message, each of which is counted as it is taken.
-ghost use Rattle.std.specs.Prelude.{◌≡◌, ◌+◌, ◌-◌, ◌<◌, ◌≤◌, ◌^◌, ℕ, List, min};
-ghost use Rattle.asn_bits.specs.Numbers.{unpacked};
+ghost use Rattle.std.specs.Prelude.{◌≡◌, ◌∷◌, ◌++◌, ◌+◌, ◌-◌, ◌%◌, ◌<◌, ◌≤◌, ◌^◌, [], ℕ, IfNone, IfSome, List, length, min};
+ghost use Rattle.asn_bits.specs.Numbers.{bits, unpacked};
 ghost use Rattle.asn_walk_feed.specs.Counts.{count_of};
 
 use asn_bits::BitCursor;
@@ -83,6 +83,37 @@ impl<'a> Units<'a> {
         ensures { result ≡ self.now }
     {
         self.cursor.copied()
+    }
+
+    /// The next bit, 0 or 1: the unit of PER. It is taken, with a tick. `None` where no bit is left, and no tick then.
+    pub fn bit(&mut self, ticks: &mut Ticks) -> Option<u8>
+        requires { ticks.old.taken + 1 < 2 ^ 64 }
+        ensures some { IfSome result (λ bit. self.old ≡ bit ∷ self.new) }
+        ensures bit { IfSome result (λ bit. bit < 2) }
+        ensures tick { IfSome result (λ bit. ticks.new.taken ≡ ticks.old.taken + 1) }
+        ensures none { IfNone result ((self.old ≡ []) × (self.new ≡ [])) }
+        ensures no_tick { IfNone result (ticks.new.taken ≡ ticks.old.taken) }
+        ensures inside { ticks.new.inside ≡ ticks.old.inside }
+    {
+        let bit = self.cursor.next()?;
+        ticks.add(1);
+        Some(bit)
+    }
+
+    /// The next octet: the unit of OER, asked for where whole octets are left. It is taken, with a tick. `None` where no
+    /// octet is left, and no tick then.
+    pub fn octet(&mut self, ticks: &mut Ticks) -> Option<u8>
+        requires few { ticks.old.taken + 1 < 2 ^ 64 }
+        requires whole { length self.old % 8 ≡ 0 }
+        ensures some { IfSome result (λ octet. self.old ≡ bits 8 octet ++ self.new) }
+        ensures tick { IfSome result (λ octet. ticks.new.taken ≡ ticks.old.taken + 1) }
+        ensures none { IfNone result ((self.old ≡ []) × (self.new ≡ [])) }
+        ensures no_tick { IfNone result (ticks.new.taken ≡ ticks.old.taken) }
+        ensures inside { ticks.new.inside ≡ ticks.old.inside }
+    {
+        let octet = self.cursor.take_number(8)?;
+        ticks.add(1);
+        Some(octet as u8)
     }
 
     /// Takes the units up to where the cursor stands, which are this many, a tick each.

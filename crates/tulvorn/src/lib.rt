@@ -31,4 +31,5 @@ pub use asn_values::{
 pub use asn_view::{
     BuildFault, ByName, Components, Elements, Given, Kind, View, Viewed, WrongPart, misfit,
 };
+pub use asn_walk_feed::{Ticks, Units};
 pub use calls::{check, encode_to, read_newer, read_newer_at};

@@ -35,11 +35,11 @@ root_of_profile b good AdditionNotOptional = refl
 root_of_profile b good TooMany = refl
 root_of_profile b good TooDeep = refl
 
--- an integer of the profile has at most 8 octets
+-- an integer of the profile has at most 9 octets
 signed_few : (z : ℤ) → lowest_integer ≤ℤ z → z ≤ℤ highest_integer → signed_octet_count z < 128
-signed_few z p q = (let c : signed_octet_count z ≤ 8 = signed_count_below z 8 (omega arith) (small z p q) in omega (arith, c))
+signed_few z p q = (let c : signed_octet_count z ≤ 9 = signed_count_below z 9 (omega arith) (small z p q) in omega (arith, c))
   where
-    small : (z : ℤ) → lowest_integer ≤ℤ z → z ≤ℤ highest_integer → magnitude z < 2 ^ (8 * 8 - 1)
+    small : (z : ℤ) → lowest_integer ≤ℤ z → z ≤ℤ highest_integer → magnitude z < 2 ^ (8 * 9 - 1)
     small (pos n) p q = omega (arith, ints)
     small (negsuc n) p q = omega (arith, ints)
 

@@ -15,8 +15,9 @@ ghost use Rattle.asn_plan.specs.Words.{before};
 
 use crate::build::Build;
 use crate::copies::copy_default;
-use crate::leaves::{build_next, read_other};
+use crate::leaves::read_other;
 use crate::open::build_open;
+use crate::packed::build_next;
 use crate::plan::{ComponentRows, Node, Presence};
 use crate::rules::PlanLeaves;
 use crate::walk::build_at;
@@ -61,8 +62,9 @@ pub(crate) fn build_sequence<R: PlanLeaves, B: Build>(
         left: parts.width,
     };
     let count = parts.end - parts.begin;
-    let mut entries =
-        build_components::<R, B>(alloc, before, root, presence, word, count, units, room)?;
+    let mut entries = build_components::<R, B>(
+        alloc, before, root, presence, word, count, units, room,
+    )?;
     if !preamble.extended {
         add_absent::<B>(added, &mut entries, room)?;
         let whole = B::sequence(room, entries)?;
@@ -168,6 +170,19 @@ fn build_components<R: PlanLeaves, B: Build>(
     Some(entries)
 }
 
+/// Takes so many units into the word, where it is empty and they are at hand.
+#[inline(always)]
+fn fill<R: PlanLeaves>(run: u32, word: &mut Word, units: &mut BitCursor<'_>)
+    requires at_unit { R.rules.at_unit units.old }
+    ensures at_unit { R.rules.at_unit units.new }
+    ensures same { before word.old (R.rules.to_units units.old) ≡ before word.new (R.rules.to_units units.new) }
+{
+    if run == 0 || !word.is_empty() {
+        return;
+    }
+    *word = R::take_word(run, units);
+}
+
 /// Adds the entry of a component, which is taken from the word, where it has bits, and else where the presence bits tell
 /// that it is there.
 #[inline(always)]
@@ -191,9 +206,7 @@ fn build_part<R: PlanLeaves, B: Build>(
         nodes.now part.now presence.old.bitmap presence.old.left presence.new.left
         (before word.old (R.rules.to_units units.old)) (before word.new (R.rules.to_units units.new)) }
 {
-    if word.is_empty() && part.run > 0 {
-        *word = R::take_word(part.run, units);
-    }
+    fill::<R>(part.run, word, units);
     if !word.is_empty() {
         let value = build_next::<R, B>(alloc, nodes, part, word, room)?;
         return B::present(room, entries, value);

@@ -1,16 +1,19 @@
 //! What the rules read by themselves, for one node of a plan.
-ghost use Rattle.std.specs.Prelude.{◌≡◌, ◌≤◌, ◌<◌, IfSome, IsSome, true};
+ghost use Rattle.std.specs.Prelude.{◌≡◌, ◌≤◌, ◌<◌, IfSome, IsNone, IsSome, true};
+ghost use Rattle.asn_values.specs.Datum.{truth, item};
 ghost use Rattle.asn_walk.specs.Coding.{AreFew};
 ghost use Rattle.asn_values.specs.Profile.{InProfile, most_alternatives};
-ghost use Rattle.asn_values.specs.Shape.{integer};
+ghost use Rattle.asn_values.specs.Shape.{boolean, integer};
 ghost use Rattle.asn_values.specs.View.{shape_of, range_of};
 ghost use Rattle.asn_plan.specs.Ranged.{ranged, IsRanged};
-ghost use Rattle.asn_walk.specs.Reading.{ReadsOther};
+ghost use Rattle.asn_walk.specs.Laws.{IsSimple};
+ghost use Rattle.asn_walk.specs.Reading.{Reads, ReadsOther, ValuesOf};
+ghost use Rattle.asn_plan.specs.Enumerations.{IsEnumeration};
 ghost use Rattle.asn_plan.specs.Plans.{Builds};
 
 use crate::build::Build;
 use crate::enumeration::Enumeration;
-use crate::plan::{Between, ComponentRows, Kind, Leaf, Node, Presence, WithDefault};
+use crate::plan::{Between, Leaf, WithDefault};
 use crate::ranged::Ranged;
 use crate::rules::PlanLeaves;
 use crate::word::Word;
@@ -84,7 +87,9 @@ pub(crate) fn try_truth<R: PlanLeaves>(units: &mut BitCursor<'_>) -> Option<bool
 {
     let start = units.copied();
     let mut word = R::take_word(1, units);
-    if let Some(is_true) = R::next_truth(&mut word) && word.is_empty() {
+    if let Some(is_true) = R::next_truth(&mut word)
+        && word.is_empty()
+    {
         return Some(is_true);
     }
     *units = start;
@@ -104,87 +109,13 @@ pub(crate) fn try_item<R: PlanLeaves>(items: &Enumeration, units: &mut BitCursor
 {
     let start = units.copied();
     let mut word = R::take_word(items.bits, units);
-    if let Some(position) = R::next_item(items, &mut word) && word.is_empty() {
+    if let Some(position) = R::next_item(items, &mut word)
+        && word.is_empty()
+    {
         return Some(position);
     }
     *units = start;
     None
-}
-
-/// What is built of the value of a component that has to be there, from a word; `None` where none stands in it.
-#[inline(always)]
-pub(crate) fn build_next<R: PlanLeaves, B: Build>(
-    alloc: Global,
-    nodes: &[Node],
-    part: &Node,
-    word: &mut Word,
-    room: &mut B::Room,
-) -> Option<B::Part>
-    ensures must { IsSome result → part.now.presence ≡ presence.Must }
-{
-    match &part.kind {
-        Kind::Sequence(parts) => build_row::<R, B>(alloc, nodes, parts, word, room),
-        _ => build_number::<R, B>(part, word, room),
-    }
-}
-
-/// What is built of a SEQUENCE of numbers from a word, each of which has to be there; `None` where none stands in it.
-#[inline(always)]
-pub(crate) fn build_row<R: PlanLeaves, B: Build>(
-    alloc: Global,
-    nodes: &[Node],
-    rows: &ComponentRows,
-    word: &mut Word,
-    room: &mut B::Room,
-) -> Option<B::Part>
-{
-    if rows.begin >= rows.end || rows.middle < rows.end || rows.end > nodes.len() {
-        return None;
-    }
-    if rows.width > 0 || rows.additions.is_some() || rows.middle > rows.end {
-        return None;
-    }
-    R::next_preamble(0, None, word)?;
-    let mut entries = B::entries(alloc, room, rows.end - rows.begin)?;
-    for part in &nodes[rows.begin..rows.end] {
-        let value = build_number::<R, B>(part, word, room)?;
-        B::present(room, &mut entries, value)?;
-    }
-    let part = B::sequence(room, entries)?;
-    Some(part)
-}
-
-/// What is built of the number of a component that has to be there, from a word; `None` where none stands in it.
-#[inline(always)]
-pub(crate) fn build_number<R: PlanLeaves, B: Build>(
-    part: &Node,
-    word: &mut Word,
-    room: &mut B::Room,
-) -> Option<B::Part>
-    ensures must { IsSome result → part.now.presence ≡ presence.Must }
-    ensures some { IfSome result (λ p. BuildsNext R.rules (B.built room.old room.new) part.now p word.old word.new) }
-{
-    let Presence::Must = &part.presence else {
-        return None;
-    };
-    match &part.kind {
-        Kind::Number(number) => {
-            let integer = R::next_ranged(&number.range, word)?;
-            let part = B::number(room, integer)?;
-            Some(part)
-        }
-        Kind::Truth => {
-            let is_true = R::next_truth(word)?;
-            let part = B::truth(room, is_true)?;
-            Some(part)
-        }
-        Kind::Item(items) => {
-            let position = R::next_item(&items.of, word)?;
-            let part = B::item(room, position)?;
-            Some(part)
-        }
-        Kind::Leaf(_) | Kind::Sequence(_) | Kind::List(_) | Kind::Choice(_) => None,
-    }
 }
 
 /// The INTEGER of these bounds, if there are two, and the offsets between them have at most 64 bits with the extension

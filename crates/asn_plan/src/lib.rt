@@ -14,11 +14,13 @@ mod lists;
 mod message;
 mod of;
 mod open;
+mod packed;
 mod plan;
 mod planned;
 mod ranged;
 mod rules;
 mod runs;
+mod taking;
 mod walk;
 mod word;
 

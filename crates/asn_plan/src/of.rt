@@ -12,12 +12,12 @@ ghost use Rattle.asn_plan.specs.SimpleTypes.{is_simple};
 ghost use Rattle.asn_plan.specs.Plans.{IsLeafPlan, IsPresence, IsPlan, IsPlanOf, ArePlans, ArePlansOfMore, ArePlansOfEach, ArePlansOfOthers};
 
 use crate::copies::copy_simple;
-use crate::items::{are_ordered, items_of};
+use crate::items::items_of;
 use crate::leaves::between_of;
-use crate::runs::{head_of, run_of};
 use crate::plan::{
     AlternativeRows, ComponentRows, ElementRow, Kind, Leaf, Node, Plan, Presence, WithDefault,
 };
+use crate::runs::{head_of, run_of};
 use asn_values::{Alt, AsnType, Checked, Field, Need, Size};
 use asn_walk::bitmap_width;
 use std::alloc::{AllocError, Global};
@@ -232,11 +232,8 @@ fn leaf_of(alloc: Global, ty: &AsnType) -> Result<Kind, AllocError>
     if let AsnType::Bool = ty {
         return Ok(Kind::Truth);
     }
-    if let AsnType::Enum { root, ext } = ty {
-        if are_ordered(root) {
-            let items = items_of(alloc, ty, root, ext.is_some())?;
-            return Ok(Kind::Item(items));
-        }
+    if let Some(items) = items_of(alloc, ty)? {
+        return Ok(Kind::Item(items));
     }
     let ty = copy_simple(alloc, ty)?;
     Ok(Kind::Leaf(Leaf { ty }))

@@ -120,14 +120,15 @@ impl PlanLeaves for Per {
     #[inline(always)]
     fn next_preamble(count: u32, additions: Option<usize>, word: &mut Word) -> Option<Preamble> {
         let Some(listed) = additions else {
-            let bitmap = word.take(count)?;
+            let alone = word.take(count)?;
             return Some(Preamble {
                 extended: false,
-                bitmap,
+                bitmap: alone,
             });
         };
         let mark = word.take(1)?;
-        if mark > 0 && listed == 0 {
+        let most = u64::from(listed > 0);
+        if mark > most {
             return None;
         }
         let bitmap = word.take(count)?;
@@ -155,7 +156,8 @@ impl PlanLeaves for Per {
     #[inline(always)]
     fn next_item(items: &Enumeration, word: &mut Word) -> Option<u32> {
         let index = word.take(items.bits)?;
-        if index > u64::from(items.highest) {
+        let last = u64::from(items.highest);
+        if index > last {
             return None;
         }
         Some(index as u32)

@@ -49,7 +49,8 @@ def bound(n, word):
 
 
 def integers(rand):
-    """INTEGER types: each pair of some bounds, and each bound with MIN and MAX."""
+    """INTEGER types: each pair of some bounds, and each bound with MIN and MAX; and bounds that lie so far apart as whole
+    octets tell, and words, or about."""
     near = [None, *rand.sample(edges(), 16), LOWEST, -1, 0, 1, (1 << 63) - 1, HIGHEST - 1, HIGHEST]
     for low in near:
         for high in near:
@@ -59,11 +60,18 @@ def integers(rand):
             for mark in ('', ', ...'):
                 if not (mark and every):
                     yield f'INTEGER ({bound(low, "MIN")}..{bound(high, "MAX")}{mark})'
+    for low in [LOWEST, LOWEST + 1, -(1 << 62), -1, 0, 1]:
+        for k in (8, 16, 32, 56, 63, 64):
+            high = low + (1 << k) + rand.choice([-2, -1, 0, 1])
+            if high <= HIGHEST:
+                yield f'INTEGER ({low}..{high})'
     yield 'INTEGER'
 
 
 def defaults(rand):
     """SEQUENCE types whose components have a DEFAULT at an edge."""
+    for low in ((1 << 63) - 1, 1 << 63, HIGHEST - 1):
+        yield f'SEQUENCE {{ a INTEGER ({low}..MAX) DEFAULT {low}, b BOOLEAN }}'
     for _ in range(60):
         low, high = sorted(rand.sample(edges(), 2))
         value = rand.choice([low, high, rand.randint(low, high)])
@@ -254,10 +262,14 @@ def refused(program):
         return f'{name}{i} NULL OPTIONAL'
     def item(name, i):
         return f'{name}{i}'
+    def with_default(low, default):
+        return f'SEQUENCE {{ a INTEGER ({low}..MAX) DEFAULT {default} }}'
     pairs = [
         (f'INTEGER (0..{HIGHEST})', f'INTEGER (0..{HIGHEST + 1})'),
         (f'INTEGER ({LOWEST}..0)', f'INTEGER ({LOWEST - 1}..0)'),
         (f'INTEGER ({LOWEST}..{HIGHEST - 1}, ...)', f'INTEGER ({LOWEST}..{HIGHEST}, ...)'),
+        (f'INTEGER (MIN..{HIGHEST - 1}, ...)', f'INTEGER (MIN..{HIGHEST}, ...)'),
+        (with_default(HIGHEST - 1, HIGHEST), with_default(HIGHEST, HIGHEST)),
         (listed('CHOICE', ALTERNATIVES, None, part), listed('CHOICE', ALTERNATIVES + 1, None, part)),
         (listed('CHOICE', 1, ALTERNATIVES - 1, part), listed('CHOICE', 1, ALTERNATIVES, part)),
         (listed('ENUMERATED', 1, ITEM_ADDITIONS, item), listed('ENUMERATED', 1, ITEM_ADDITIONS + 1, item)),
@@ -270,7 +282,7 @@ def refused(program):
             told = subprocess.run([program, 'module'], input=module(text).replace('====\n', ''), capture_output=True, text=True)
             if told.stdout.startswith('! module ') != is_refused or (told.returncode == 0) == is_refused:
                 raise Wrong(f'module: {text[:80]}: status {told.returncode}; {told.stdout[:200]}')
-    numbers = [str(HIGHEST + 1), str(LOWEST - 1), str(1 << 64), str(1 << 65), '1.5', '1e3', f'-{1 << 64}']
+    numbers = [str(HIGHEST + 1), str(LOWEST - 1), str(HIGHEST + 2), str(1 << 65), '1.5', '1e3', f'-{1 << 64}']
     for rules in ('per', 'oer'):
         wanted(program, 'encode', rules, 'INTEGER', numbers, ['! shape $'] * len(numbers))
     return len(pairs) + len(numbers)

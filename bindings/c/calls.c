@@ -8,6 +8,7 @@ static const char MODULE[] =
     "All ::= SEQUENCE { far INTEGER, colour ENUMERATED { red, green }, key OCTET STRING, bits BIT STRING,\n"
     "    one CHOICE { number INTEGER (0..255), none NULL }, list SEQUENCE OF Msg, word UTF8String }\n"
     "Old ::= SEQUENCE { a BOOLEAN, ... }\n"
+    "Wide ::= INTEGER\n"
     "END\n";
 
 static const char ALL[] =
@@ -223,6 +224,46 @@ static int parts(tulvorn_handle *type) {
     return 0;
 }
 
+/* integers up to 2^64 - 1: those above 2^63 - 1 are told without a sign alone, and others as far as they are not negative */
+static int wide_integers(tulvorn_handle *module) {
+    static const struct {
+        const char *json;
+        uint64_t number;
+        const char octets[11];
+        size_t size;
+    } rows[3] = {{"9223372036854775807", INT64_MAX, "\x08\x7f\xff\xff\xff\xff\xff\xff\xff", 9},
+                 {"9223372036854775808", (uint64_t)INT64_MAX + 1, "\x09\x00\x80\x00\x00\x00\x00\x00\x00\x00", 10},
+                 {"18446744073709551615", UINT64_MAX, "\x09\x00\xff\xff\xff\xff\xff\xff\xff\xff", 10}};
+    tulvorn_handle type = TULVORN_NONE, value = TULVORN_NONE, made = TULVORN_NONE;
+    tulvorn_fault fault;
+    CHECK(tulvorn_type(module, TEXT("Wide"), &type, &fault) == TULVORN_DONE);
+    for (int row = 0; row < 3; row++) {
+        for (uint32_t rules = TULVORN_PER; rules <= TULVORN_OER; rules++) {
+            uint8_t into[32];
+            int64_t number = 7;
+            uint64_t without_sign = 7;
+            size_t size;
+            CHECK(tulvorn_from_json(&type, TEXT(rows[row].json), &value, &fault) == TULVORN_DONE);
+            CHECK(tulvorn_encode_into(&value, rules, into, sizeof into, &size, &fault) == TULVORN_DONE);
+            CHECK(size == rows[row].size && memcmp(into, rows[row].octets, size) == 0);
+            tulvorn_close(&value);
+            CHECK(tulvorn_decode(&type, rules, into, size, &value, &fault) == TULVORN_DONE);
+            CHECK(tulvorn_unsigned(&value, NULL, 0, &without_sign) == TULVORN_DONE);
+            CHECK(without_sign == rows[row].number);
+            CHECK(tulvorn_integer(&value, NULL, 0, &number) == (row ? TULVORN_OTHER_KIND : TULVORN_DONE));
+            CHECK(number == (row ? 7 : INT64_MAX));
+            CHECK(tulvorn_to_json(&value, &made, &fault) == TULVORN_DONE);
+            CHECK(tulvorn_copy(&made, into, sizeof into, &size) == TULVORN_DONE);
+            CHECK(size == strlen(rows[row].json) && memcmp(into, rows[row].json, size) == 0);
+            tulvorn_close(&made);
+            tulvorn_close(&value);
+        }
+    }
+    CHECK(tulvorn_from_json(&type, TEXT("18446744073709551616"), &value, &fault) == TULVORN_SHAPE && value.at == NULL);
+    tulvorn_close(&type);
+    return 0;
+}
+
 static int memory(tulvorn_handle *module, tulvorn_handle *msg, tulvorn_handle *all, long *count) {
     const uint8_t good[2] = {0x6b, 0x04};
     tulvorn_handle value = TULVORN_NONE;
@@ -275,7 +316,7 @@ static int calls(long *refused) {
     CHECK(tulvorn_type(&module, TEXT("Msg"), &msg, &fault) == TULVORN_DONE);
     CHECK(tulvorn_type(&module, TEXT("All"), &all, &fault) == TULVORN_DONE);
     CHECK(memory(&module, &msg, &all, refused) == 0);
-    CHECK(newer(&module) == 0);
+    CHECK(newer(&module) == 0 && wide_integers(&module) == 0);
     /* a type outlives its module and its first handle */
     CHECK(tulvorn_share(&module, &other) == TULVORN_MISUSE && tulvorn_share(&msg, &other) == TULVORN_DONE);
     tulvorn_close(&module);

@@ -11,6 +11,7 @@ static const char *const MODULE = "M DEFINITIONS AUTOMATIC TAGS ::= BEGIN\n"
                                   "    colour ENUMERATED { red, green } OPTIONAL,\n"
                                   "    key OCTET STRING OPTIONAL, bits BIT STRING OPTIONAL }\n"
                                   "Old ::= SEQUENCE { a BOOLEAN, ... }\n"
+                                  "Wide ::= INTEGER\n"
                                   "Low ::= SEQUENCE { id INTEGER (0..3), ok BOOLEAN DEFAULT TRUE,\n"
                                   "    note IA5String (SIZE (0..3)) OPTIONAL,\n"
                                   "    colour ENUMERATED { red, green } OPTIONAL,\n"
@@ -66,6 +67,9 @@ int main() {
     Value value = type.from_json(R"({"id":5,"note":"A","colour":"green","key":"00ff","bits":"10"})");
     CHECK(value.integer("id") == 5 && value.boolean("ok") && value.text("note") == "A");
     CHECK(value.unsigned_integer("id") == 5);
+    Value wide = module.type("Wide").decode(Rules::Oer, Octets{9, 0, 255, 255, 255, 255, 255, 255, 255, 255});
+    CHECK(wide.unsigned_integer("") == UINT64_MAX && code_of([&] { wide.integer(""); }) == TULVORN_OTHER_KIND);
+    CHECK(module.type("Wide").from_json("18446744073709551615").encode(Rules::Per) == wide.encode(Rules::Oer));
     CHECK(value.name("colour") == "green");
     CHECK(value.octets("key") == (Octets{0, 255}) && value.count("bits") == 2);
     CHECK(value.bit("bits", 0) && !value.bit("bits", 1));

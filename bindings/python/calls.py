@@ -16,6 +16,7 @@ All ::= SEQUENCE { far INTEGER, colour ENUMERATED { red, green }, key OCTET STRI
     one CHOICE { number INTEGER (0..255), none NULL }, list SEQUENCE OF Msg, word UTF8String }
 Old ::= SEQUENCE { a BOOLEAN, ... }
 Low ::= SEQUENCE { id INTEGER (0..3), ok BOOLEAN DEFAULT TRUE, note IA5String (SIZE (0..3)) OPTIONAL }
+Wide ::= INTEGER
 END"""
 
 
@@ -76,6 +77,18 @@ def parts():
     assert value.name("colour") == "green" and value.text("word") == "\u00e4" and value.integer("far") == -70000000000
     assert raised(KeyError, lambda: value["list[2]"]) and raised(TypeError, lambda: value.integer("word"))
     return spec
+
+
+def wide_integers(spec):
+    for number in (2**63 - 1, 2**63, 2**64 - 1, -(2**63)):
+        size = 8 if number < 2**63 else 9
+        octets = bytes([size]) + number.to_bytes(size, "big", signed=True)
+        for rules in ("per", "oer"):
+            assert spec.encode("Wide", number, rules) == octets and spec.decode("Wide", octets, rules) == number
+            value = spec.type("Wide").decode(octets, rules)
+            assert value.integer("") == number and value.to_json() == str(number)
+    for number in (2**64, -(2**63) - 1):
+        assert raised(tulvorn.EncodeError, lambda: spec.encode("Wide", number)).code == tulvorn.SHAPE
 
 
 def faults(spec):
@@ -144,6 +157,7 @@ def threads(spec):
 if __name__ == "__main__":
     assert doctest.testmod(tulvorn).failed == 0
     spec = parts()
+    wide_integers(spec)
     faults(spec)
     sessions(spec)
     misfits(spec)

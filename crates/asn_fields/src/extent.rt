@@ -1,6 +1,6 @@
 //! How many units the encodings of the values of a type have, least and most.
 
-use asn_values::profile::HIGHEST_INTEGER;
+use asn_values::profile::{HIGHEST_INTEGER, LOWEST_INTEGER};
 
 /// A least and a greatest number of units.
 #[derive(Clone, Copy, Debug, PartialEq, Eq)]
@@ -107,7 +107,10 @@ pub(crate) fn octets_above(low: i128, high: i128) -> u64 {
     filled(width_above(low, high))
 }
 
-/// The most octets that an integer of the profile has in two's complement.
-pub(crate) fn integer_octets() -> u64 {
-    filled(width_above(0, HIGHEST_INTEGER).saturating_add(1))
+/// The most octets that an integer of the profile has in two's complement, up to this bound where there is one.
+pub(crate) fn integer_octets(high: Option<i128>) -> u64 {
+    let farthest = high
+        .unwrap_or(HIGHEST_INTEGER)
+        .max((-1i128).saturating_sub(LOWEST_INTEGER));
+    filled(width_above(0, farthest).saturating_add(1))
 }

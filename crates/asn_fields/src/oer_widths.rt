@@ -97,7 +97,8 @@ pub(crate) fn fixed_octets(bounds: &Bounds) -> Option<u64> {
 fn most_octets(bounds: &Bounds) -> u64 {
     match bounds.low {
         Some(low) if low >= 0 && !bounds.ext => octets_above(0, HIGHEST_INTEGER),
-        _ => integer_octets(),
+        _ if bounds.ext => integer_octets(None),
+        _ => integer_octets(bounds.high),
     }
 }
 

@@ -71,10 +71,10 @@ fn number_bits(bounds: &Bounds) -> Extent {
     let known = match (bounds.low, bounds.high) {
         (Some(low), Some(high)) => Extent::fixed(width_above(low, high)),
         (Some(low), None) => counted_bits(octets_above(low, HIGHEST_INTEGER)),
-        (None, _) => counted_bits(integer_octets()),
+        (None, high) => counted_bits(integer_octets(high)),
     };
     if bounds.ext {
-        return Extent::fixed(1).and(known.or(counted_bits(integer_octets())));
+        return Extent::fixed(1).and(known.or(counted_bits(integer_octets(None))));
     }
     known
 }

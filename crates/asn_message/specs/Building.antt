@@ -1,12 +1,13 @@
 -- What is built in slots: it stands after what was there, and nothing that was there is changed.
-use Rattle.std.specs.Prelude.{◌≡◌, ℕ, List, [], ◌∷◌, ◌++◌, length, map, Option, Some}
-use Rattle.asn_values.specs.Datum.{Datum}
+use Rattle.std.specs.Prelude.{◌≡◌, ℕ, ℤ, List, [], ◌∷◌, ◌++◌, length, map, Option, Some}
+use Rattle.asn_values.specs.Datum.{Datum, number}
 use Rattle.asn_plan.specs.Plans.{absents}
 use Rattle.asn_message.specs.declared.flat.Elements.{Elements}
 use Rattle.asn_message.specs.declared.flat.Entries.{Entries}
+use Rattle.asn_message.specs.declared.slots.Content.{Content}
 use Rattle.asn_message.specs.declared.slots.Room.{Room}
 use Rattle.asn_message.specs.declared.slots.Slot.{Slot}
-use Rattle.asn_message.specs.Slots.{entries_in, AreNested}
+use Rattle.asn_message.specs.Slots.{entries_in, entries_inside, value_at, AreNested}
 
 -- these entries stand in the slots, whatever octets and slots come after
 abbrev pub Stand : List ℕ → List Slot → List (Option Datum) → Type 0
@@ -19,6 +20,10 @@ Nest os ss = (more : List ℕ) (fs : List (Option Datum)) → AreNested (os ++ m
 -- octets were added
 abbrev pub Grows : Room → Room → Type 0
 Grows r s = (more : List ℕ) × (s.octets.items ≡ r.octets.items ++ more)
+
+-- a slot of this content is of this integer, and has no others inside it
+abbrev pub IsNumberAlone : Content → ℤ → Type 0
+IsNumberAlone c z = (entries_inside c ≡ 0) × ((os : List ℕ) (es : List (Option Datum)) → value_at os c es ≡ number z)
 
 -- a value was put into slots, of which the first one is here
 pub record IsPut (r s : Room) (at : ℕ) (d : Datum) : Type 0 where

@@ -1,5 +1,5 @@
 -- What stands in slots: values one after the other, the slot of each before those of the values inside it.
-use Rattle.std.specs.Prelude.{◌≡◌, ◌≤◌, ℕ, Bool, List, [], ◌∷◌, ◌++◌, length, map, take, drop, Option, Some, None, ◌==◌, ⊤}
+use Rattle.std.specs.Prelude.{◌≡◌, ◌≤◌, ℕ, pos, Bool, List, [], ◌∷◌, ◌++◌, length, map, take, drop, Option, Some, None, ◌==◌, ⊤}
 use Rattle.asn_values.specs.Datum.{Datum, truth, nothing, number, item, bit_list, octet_list, characters, unicode, components, components_of, elements, elements_of, alternative}
 use Rattle.asn_plan.specs.Plans.{absents}
 use Rattle.asn_message.specs.declared.slots.Content.{Content}
@@ -32,6 +32,7 @@ abbrev pub value_at : List ℕ → Content → List (Option Datum) → Datum
 value_at os (content.Truth b) es = truth b
 value_at os content.Null es = nothing
 value_at os (content.Number z) es = number z
+value_at os (content.Large n) es = number (pos n)
 value_at os (content.Item i) es = item i
 value_at os (content.Bits s) es = bit_list (bits_at os s)
 value_at os (content.Octets s) es = octet_list (octets_at os s)

@@ -4,12 +4,13 @@ ghost use Rattle.asn_values.specs.Datum.{Datum};
 ghost use Rattle.asn_values.specs.View.{datum_of};
 ghost use Rattle.asn_walk.specs.Integers.{IsOfProfile};
 ghost use Rattle.asn_message.specs.declared.slots.Room.{Room};
-ghost use Rattle.asn_message.specs.Building.{IsPut, AreEntries, AreElements, IsBegun, Grows};
+ghost use Rattle.asn_message.specs.Building.{IsPut, IsNumberAlone, AreEntries, AreElements, IsBegun, Grows};
 ghost use Rattle.asn_message.specs.Slots.{entries_inside, value_at};
 
 use crate::slots::{Content, Room, Slot};
 use asn_plan::Build;
 use asn_values::Value;
+use asn_values::profile::{HIGHEST_INTEGER, LOWEST_INTEGER};
 use std::alloc::Global;
 
 /// Puts values into slots.
@@ -56,7 +57,7 @@ impl Build for Flat {
 
     #[inline(always)]
     fn number(room: &mut Room, integer: i128) -> Option<usize> {
-        let at = put_slot(room, Content::Number(integer as i64))?;
+        let at = put_slot(room, number_content(integer))?;
         Some(at)
     }
 
@@ -183,8 +184,8 @@ pub(crate) fn put_alone(room: &mut Room, value: &Value) -> Option<usize>
             Some(at)
         }
         Value::Int(number) => {
-            let number = narrow(number)?;
-            let at = put_slot(room, Content::Number(number))?;
+            let number = of_profile(number)?;
+            let at = put_slot(room, number_content(number))?;
             Some(at)
         }
         Value::Enum(index) => {
@@ -215,12 +216,25 @@ pub(crate) fn put_alone(room: &mut Room, value: &Value) -> Option<usize>
     }
 }
 
-/// The number in 64 bits, where it fits in them.
-fn narrow(number: &i128) -> Option<i64>
-    ensures { IfSome result (λ n. (n ≡ number.now) × IsOfProfile n) }
+/// The integer, where it is one of the profile.
+fn of_profile(integer: &i128) -> Option<i128>
+    ensures { IfSome result (λ n. (n ≡ integer.now) × IsOfProfile n) }
 {
-    if *number < i64::MIN as i128 || *number > i64::MAX as i128 {
+    if *integer < LOWEST_INTEGER || *integer > HIGHEST_INTEGER {
         return None;
     }
-    Some(*number as i64)
+    Some(*integer)
+}
+
+/// What the slot of an integer of the profile is of.
+#[inline(always)]
+fn number_content(integer: i128) -> Content
+    requires { IsOfProfile integer }
+    ensures { IsNumberAlone result integer }
+{
+    if integer <= i64::MAX as i128 {
+        Content::Number(integer as i64)
+    } else {
+        Content::Large(integer as u64)
+    }
 }

@@ -101,6 +101,7 @@ impl<'a> Place<'a> {
             Place::Tree(_) => None,
             Place::Slots(row) => match row.content() {
                 Some(Content::Number(number)) => Some(i128::from(number)),
+                Some(Content::Large(number)) => Some(i128::from(number)),
                 _ => None,
             },
         }

@@ -82,6 +82,7 @@ fn restored(
         Content::Truth(truth) => Ok(Value::Bool(truth)),
         Content::Null => Ok(Value::Null),
         Content::Number(number) => Ok(Value::Int(i128::from(number))),
+        Content::Large(number) => Ok(Value::Int(i128::from(number))),
         Content::Item(index) => Ok(Value::Enum(index)),
         Content::Bits(span) => Ok(Value::Bits(copy_bits(alloc, octets_of(octets, span))?)),
         Content::Octets(span) => Ok(Value::Octets(copy_octets(alloc, octets_of(octets, span))?)),

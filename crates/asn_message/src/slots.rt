@@ -20,8 +20,10 @@ pub enum Content {
     Truth(bool),
     /// NULL.
     Null,
-    /// An INTEGER.
+    /// An INTEGER of 64 bits with a sign.
     Number(i64),
+    /// An INTEGER above those, of 64 bits without one.
+    Large(u64),
     /// An ENUMERATED: the index of the item, counted from 0 as written.
     Item(u32),
     /// A BIT STRING: an octet for each bit, 1 or 0.

@@ -148,7 +148,7 @@ list_means look b (Some x) tree shape e m = record { constraint = Some x.marked;
 pub sequence_of_means : (look : List ℕ → Option Meant) (b : SizeRange) (tree : Tree) (shape : Shape) → large_size (Some b) ≡ false → Means look tree shape → Means look (t.sequence_of (bracketed (size_printed b)) tree) (s.sequence_of shape b)
 sequence_of_means look b tree shape e m = list_means look b (size_printed b) tree shape (size_again b e) m
 
-few : (n : ℕ) → nat_lt 65535 n ≡ false → n < 2 ^ 63
+few : (n : ℕ) → nat_lt 65535 n ≡ false → n < highest_number + 1
 few n e = grind (arith, nat_tests)
 
 few_words : (n : ℕ) → nat_lt 65535 n ≡ false → n < 2 ^ 64

@@ -5,19 +5,14 @@ use asn_published_types::bounds::{Numbers, is_integer, numbers_between};
 use asn_published_types::info::Base;
 use asn_published_types::items::items_of;
 use asn_published_types::numbers::Scope;
+use asn_values::profile::{HIGHEST_INTEGER, LOWEST_INTEGER};
 use std::alloc::Global;
 
-/// Whether a number lies in a range that has others too.
+/// Whether an integer of the profile lies in a range that has others of it too.
 fn is_one_of_more(number: i128, low: Option<i128>, high: Option<i128>) -> bool {
-    let is_above = match low {
-        Some(low) => low <= number,
-        None => true,
-    };
-    let is_below = match high {
-        Some(high) => number <= high,
-        None => true,
-    };
-    is_above && is_below && (low.is_none() || low != high)
+    let low = low.unwrap_or(LOWEST_INTEGER);
+    let high = high.unwrap_or(HIGHEST_INTEGER);
+    low <= number && number <= high && low < high
 }
 
 impl<'t> Writer<'t> {

@@ -87,7 +87,7 @@ impl<'t> Writer<'t> {
         Ok(())
     }
 
-    /// Writes INTEGER, or what stands for it, with its range.
+    /// Writes INTEGER with its range.
     fn put_numbers(
         &mut self,
         alloc: Global,
@@ -98,7 +98,6 @@ impl<'t> Writer<'t> {
     ) -> Result<(), Refusal> {
         match numbers_between(&seen.numbers, seen.marked, line)? {
             Numbers::All => self.out.push_str(" INTEGER")?,
-            Numbers::Unsigned => self.out.push_str(" OCTET STRING (SIZE (8))")?,
             Numbers::Between(low, high) => {
                 self.out.push_str(" INTEGER")?;
                 write_range(alloc, &mut self.out, low, high, seen.marked)?;

@@ -1,5 +1,5 @@
 -- Which numbers are left, where sets of them may be all.
-use Rattle.std.specs.Prelude.{ℤ, pos, Option, Some, None, ⊤, ◌≤ℤ◌}
+use Rattle.std.specs.Prelude.{ℤ, Option, Some, None, ⊤, ◌≤ℤ◌}
 use Rattle.asn_published_types.specs.declared.ranges.Ranges.{Ranges}
 use Rattle.asn_published_types.specs.declared.bounds.Numbers.{Numbers}
 use Rattle.asn_published_types.specs.declared.bounds.Numbers.TheVariants as numbers
@@ -17,5 +17,4 @@ IsWhole s = (a b z : ℤ) → IsLeft s a → IsLeft s b → a ≤ℤ z → z ≤
 -- the number is one of those that the profile's type has
 abbrev pub IsBetween : Numbers → ℤ → Type 0
 IsBetween numbers.All z = ⊤
-IsBetween numbers.Unsigned z = (pos 0 ≤ℤ z) × (z ≤ℤ pos 18446744073709551615)
 IsBetween (numbers.Between low high) z = IsAbove low z × IsBelow high z

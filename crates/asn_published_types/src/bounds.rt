@@ -7,9 +7,6 @@ use asn_published_read::refusal::{Refusal, Why, refused};
 use asn_values::profile::{HIGHEST_INTEGER, LOWEST_INTEGER, MAX_SIZE_BOUND};
 use std::alloc::{AllocError, Global};
 
-/// The highest number of 64 bits without a sign.
-const HIGHEST_UNSIGNED: i128 = 18446744073709551615;
-
 /// The highest finite bound of a size of the profile.
 const HIGHEST_SIZE: i128 = MAX_SIZE_BOUND as i128;
 
@@ -17,8 +14,6 @@ const HIGHEST_SIZE: i128 = MAX_SIZE_BOUND as i128;
 #[derive(Clone, Copy, PartialEq, Eq)]
 pub enum Numbers {
     All,
-    /// 0 to 2^64 - 1, where these are not all integers of the profile.
-    Unsigned,
     Between(Option<i128>, Option<i128>),
 }
 
@@ -64,9 +59,6 @@ pub fn numbers_between(left: &Option<Ranges>, marked: bool, line: u32) -> Result
     }
     if fits(hull.low) && fits(hull.high) {
         return Ok(Numbers::Between(hull.low, hull.high));
-    }
-    if hull.low == Some(0) && hull.high == Some(HIGHEST_UNSIGNED) && !marked {
-        return Ok(Numbers::Unsigned);
     }
     Err(refused(line, Why::Bounds))
 }

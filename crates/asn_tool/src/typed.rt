@@ -116,7 +116,7 @@ pub fn json_words(alloc: Global, ty: &AsnType) -> Result<String, AllocError> {
     let words = match ty {
         AsnType::Bool => "true or false",
         AsnType::Null => "null",
-        AsnType::Int(_) => "an integer",
+        AsnType::Int(_) => "an integer of at most 64 bits",
         AsnType::Enum { root, ext } => return item_words(alloc, root, additions(ext)),
         AsnType::Bits(_) => "a string of 0 and 1",
         AsnType::Octets(_) => "a string of hexadecimal digits, two an octet",

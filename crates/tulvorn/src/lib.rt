@@ -3,33 +3,104 @@
 
 mod calls;
 
-pub use asn_convert::{ConvertFault, convert};
-pub use asn_examples::{least_value, seeded_value};
-pub use asn_explain::{Explanation, explain, explain_fault};
-pub use asn_fields::{
-    Extent, FieldKind, MessageField, MessageFields, TypeSizes, fields, outline, sizes,
-};
-pub use asn_json::{JsonFault, from_json, to_json};
-pub use asn_message::{ComponentViews, ElementViews, Message, MessageView};
-pub use asn_module::{
-    BoundFault, Module, ModuleFault, RefusedText, TypeNames, read, read_explained, read_within,
-};
-pub use asn_newer::{NewerAt, NewerFault, PathStep, ReadNewer, SkippedAt};
+pub use asn_convert::ConvertFault;
+pub use asn_convert::convert;
+pub use asn_examples::least_value;
+pub use asn_examples::seeded_value;
+pub use asn_explain::Explanation;
+pub use asn_explain::explain;
+pub use asn_explain::explain_fault;
+pub use asn_fields::Extent;
+pub use asn_fields::FieldKind;
+pub use asn_fields::MessageField;
+pub use asn_fields::MessageFields;
+pub use asn_fields::TypeSizes;
+pub use asn_fields::fields;
+pub use asn_fields::outline;
+pub use asn_fields::sizes;
+pub use asn_json::JsonFault;
+pub use asn_json::from_json;
+pub use asn_json::to_json;
+pub use asn_message::ComponentViews;
+pub use asn_message::ElementViews;
+pub use asn_message::Message;
+pub use asn_message::MessageView;
+pub use asn_module::BoundFault;
+pub use asn_module::Module;
+pub use asn_module::ModuleFault;
+pub use asn_module::RefusedText;
+pub use asn_module::TypeNames;
+pub use asn_module::read;
+pub use asn_module::read_explained;
+pub use asn_module::read_within;
+pub use asn_newer::NewerAt;
+pub use asn_newer::NewerFault;
+pub use asn_newer::PathStep;
+pub use asn_newer::ReadNewer;
+pub use asn_newer::SkippedAt;
 pub use asn_oer::Oer;
 pub use asn_per::Per;
-pub use asn_plan::{Budget, PlanRules, Planned, Taken, WithinFault};
-pub use asn_rules::{
-    Counted, CountedFault, DecodeFault, EncodeFault, EncodeIntoFault, EncodeToFault, FeedFault,
-    LengthFault, MAX_OCTETS, MessageStream, Newer, OpenFault, Rules, Session, Skipped, Step,
-    StreamFault, Truncated, Unit, Unwritten, Why, decode, decode_into, encode, encode_into,
-    encoded_len, messages, open,
-};
-pub use asn_values::{
-    Alt, AsnType, Bounds, Checked, Field, FoundFault, Item, Need, Notation, Size, TextKind,
-    TypeFault, Value, fits, same,
-};
-pub use asn_view::{
-    BuildFault, ByName, Components, Elements, Given, Kind, View, Viewed, WrongPart, misfit,
-};
-pub use asn_walk_feed::{Ticks, Units};
-pub use calls::{check, encode_to, read_newer, read_newer_at};
+pub use asn_plan::Budget;
+pub use asn_plan::PlanRules;
+pub use asn_plan::Planned;
+pub use asn_plan::Taken;
+pub use asn_plan::WithinFault;
+pub use asn_rules::Counted;
+pub use asn_rules::CountedFault;
+pub use asn_rules::DecodeFault;
+pub use asn_rules::EncodeFault;
+pub use asn_rules::EncodeIntoFault;
+pub use asn_rules::EncodeToFault;
+pub use asn_rules::FeedFault;
+pub use asn_rules::LengthFault;
+pub use asn_rules::MAX_OCTETS;
+pub use asn_rules::MessageStream;
+pub use asn_rules::Newer;
+pub use asn_rules::OpenFault;
+pub use asn_rules::Rules;
+pub use asn_rules::Session;
+pub use asn_rules::Skipped;
+pub use asn_rules::Step;
+pub use asn_rules::StreamFault;
+pub use asn_rules::Truncated;
+pub use asn_rules::Unit;
+pub use asn_rules::Unwritten;
+pub use asn_rules::Why;
+pub use asn_rules::decode;
+pub use asn_rules::decode_into;
+pub use asn_rules::encode;
+pub use asn_rules::encode_into;
+pub use asn_rules::encoded_len;
+pub use asn_rules::messages;
+pub use asn_rules::open;
+pub use asn_values::Alt;
+pub use asn_values::AsnType;
+pub use asn_values::Bounds;
+pub use asn_values::Checked;
+pub use asn_values::Field;
+pub use asn_values::FoundFault;
+pub use asn_values::Item;
+pub use asn_values::Need;
+pub use asn_values::Notation;
+pub use asn_values::Size;
+pub use asn_values::TextKind;
+pub use asn_values::TypeFault;
+pub use asn_values::Value;
+pub use asn_values::fits;
+pub use asn_values::same;
+pub use asn_view::BuildFault;
+pub use asn_view::ByName;
+pub use asn_view::Components;
+pub use asn_view::Elements;
+pub use asn_view::Given;
+pub use asn_view::Kind;
+pub use asn_view::View;
+pub use asn_view::Viewed;
+pub use asn_view::WrongPart;
+pub use asn_view::misfit;
+pub use asn_walk_feed::Ticks;
+pub use asn_walk_feed::Units;
+pub use calls::check;
+pub use calls::encode_to;
+pub use calls::read_newer;
+pub use calls::read_newer_at;

@@ -7,6 +7,7 @@ Msg ::= SEQUENCE { id INTEGER (0..7), ok BOOLEAN DEFAULT TRUE, note IA5String (S
 All ::= SEQUENCE { far INTEGER, colour ENUMERATED { red, green }, key OCTET STRING, bits BIT STRING,
     one CHOICE { number INTEGER (0..255), none NULL }, list SEQUENCE OF Msg, word UTF8String }
 Low ::= SEQUENCE { id INTEGER (0..3), ok BOOLEAN DEFAULT TRUE, note IA5String (SIZE (0..3)) OPTIONAL }
+Wide ::= INTEGER
 END";
 
 const ALL: &str = r#"{"far":-70000000000,"colour":"green","key":"00ff","bits":"101","one":{"number":200},
@@ -14,6 +15,27 @@ const ALL: &str = r#"{"far":-70000000000,"colour":"green","key":"00ff","bits":"1
 
 fn reason<T>(result: Result<T, tulvorn::Error>) -> Reason {
     result.err().expect("a fault").reason
+}
+
+#[test]
+fn tells_integers_up_to_2_to_64() {
+    let wide = Module::read(MODULE).unwrap().ty("Wide").unwrap();
+    for (number, octets) in [
+        (i64::MAX as u64, [8, 0x7f, 255, 255, 255, 255, 255, 255, 255].to_vec()),
+        (i64::MAX as u64 + 1, [9, 0, 0x80, 0, 0, 0, 0, 0, 0, 0].to_vec()),
+        (u64::MAX, [9, 0, 255, 255, 255, 255, 255, 255, 255, 255].to_vec()),
+    ] {
+        let value = wide.read_json(&number.to_string()).unwrap();
+        for rules in [Rules::Per, Rules::Oer] {
+            assert_eq!(value.encode(rules).unwrap(), octets);
+            let read = wide.decode(rules, &octets).unwrap();
+            assert_eq!(read.at("").as_u64(), Some(number));
+            assert_eq!(read.at("").as_i64(), i64::try_from(number).ok());
+            assert_eq!(read.at("").as_i128(), Some(i128::from(number)));
+            assert_eq!(read.to_json().unwrap(), number.to_string());
+        }
+    }
+    assert!(wide.read_json("18446744073709551616").is_err());
 }
 
 #[test]

@@ -5,7 +5,7 @@ use Rattle.asn_values.specs.Fits.{lowest_integer, highest_integer}
 use Rattle.asn_values.specs.View.{datum_of}
 use Rattle.asn_walk.specs.Integers.{IsOfProfile}
 use Rattle.asn_values.specs.declared.value.Value as values
-use mir.Syntax.{w64}
+use mir.Syntax.{w128}
 use mir.Val.{to_z, of_z}
 use Rattle.asn_values.specs.declared.value.Value.TheVariants as value
 use Rattle.asn_values.proofs.Views.{datum_of-Bits, datum_of-Octets, datum_of-Text}
@@ -27,12 +27,12 @@ datum_of-Enum n = search (rules, values.the_lemmas)
 datum_of-Utf8 : (s : String Global) → datum_of (value.Utf8 s) ≡ unicode (string_bytes s)
 datum_of-Utf8 s = search (rules, values.the_lemmas)
 
--- a number of the profile is kept in 64 bits
-kept_in_64 : (n z : ℤ) → (n ≡ z) × IsOfProfile n → to_z w64 (of_z w64 n) ≡ z
-kept_in_64 n z h =
+-- a number of the profile is kept in 128 bits
+kept : (n z : ℤ) → (n ≡ z) × IsOfProfile n → to_z w128 (of_z w128 n) ≡ z
+kept n z h =
     let low : lowest_integer ≤ℤ n = h.1.0 in
     let high : n ≤ℤ highest_integer = h.1.1 in
-    let same : to_z w64 (of_z w64 n) ≡ n = omega (arith, ints) in
+    let same : to_z w128 (of_z w128 n) ≡ n = omega (arith, ints) in
     same ∙ h.0
 
 pub returns-in_ok-at-in-Bool : goal.returns-in_ok-at-in-Bool
@@ -47,8 +47,9 @@ returns-in_ok-at-in-Null c =
 
 pub returns-in_ok-at-in-Int : goal.returns-in_ok-at-in-Int
 returns-in_ok-at-in-Int c =
+    let p = c.number_content.ensures in
     let is = ap datum_of c.in-Int.is ∙ datum_of-Int c.in-Int.number in
-    c.in_ok-at-in-Int.ensures c.args.room.now (datum_of c.args.value.now) (grows_nothing c.args.room.now c.args.room.now refl) refl refl (λ more es. ap number (kept_in_64 c.in_ok-number-in-Int.number c.in-Int.number c.in_ok-number-in-Int.ensures) ∙ sym is)
+    c.in_ok-at-in-Int.ensures c.args.room.now (datum_of c.args.value.now) (grows_nothing c.args.room.now c.args.room.now refl) refl p.0 (λ more es. p.1 _ es ∙ ap number (kept c.in_ok-number-in-Int.number c.in-Int.number c.in_ok-number-in-Int.ensures) ∙ sym is)
 
 pub returns-in_ok-at-in-Enum : goal.returns-in_ok-at-in-Enum
 returns-in_ok-at-in-Enum c =

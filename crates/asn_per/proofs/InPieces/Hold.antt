@@ -1,6 +1,5 @@
 -- An element of a list has a bit in PER, and a string has at least a bit for each item.
-use Rattle.std.proofs.Common.{◌≡◌, ◌≤◌, ◌+◌, ◌-◌, ◌*◌, ◌==◌, ℕ, zero, suc, Bool, true, false, List, [], ◌∷◌, ◌++◌, length, length-append, map, Option, Some, None, refl, sym, ap, ◌∙◌, subst, arith}
-use Rattle.std.proofs.lemmas.List.{length-map}
+use Rattle.std.proofs.Common.{◌≡◌, ◌≤◌, ◌-◌, ◌*◌, ◌==◌, ℕ, suc, Bool, true, false, List, [], ◌∷◌, length, length-append, map, Option, Some, None, refl, sym, ap, ◌∙◌, subst, arith}
 use Rattle.asn_values.specs.Datum.{Datum, bit_list, octet_list, characters, unicode}
 use Rattle.asn_values.specs.Fits.{Fits, in_size}
 use Rattle.asn_values.specs.Measures.{cells}
@@ -8,7 +7,7 @@ use Rattle.asn_values.specs.Profile.{InProfile, EmptyRange, SizeTooLarge, ZeroWi
 use Rattle.asn_values.specs.Shape.{SizeRange, Shape, Alphabet, ia5, numeric, visible, bit_string, octet_string, restricted, utf8_string, sequence_of}
 use Rattle.asn_values.proofs.InnerTypes.{element_of_profile}
 use Rattle.asn_values.proofs.Parts.{left_false}
-use Rattle.asn_bits.specs.Lengths.{joined, general, general_octets}
+use Rattle.asn_bits.specs.Lengths.{joined, general}
 use Rattle.asn_bits.specs.Numbers.{bits}
 use Rattle.asn_bits.specs.Sets.{InDigits}
 use Rattle.asn_bits.proofs.LongerLengths.{general_longer, octets_longer}
@@ -29,7 +28,6 @@ use Rattle.asn_walk.specs.Ahead.{Ahead}
 use Rattle.asn_walk_feed.specs.Holding.{HoldLaws}
 use Rattle.asn_walk_feed.specs.Octets.{FirstOf}
 use Rattle.asn_walk_feed.specs.Strings.{IsString}
-use Rattle.asn_walk_feed.specs.Weights.{total}
 use Rattle.asn_walk_feed.proofs.Cells.{cells_within}
 
 -- ---- elements

@@ -1,10 +1,8 @@
-use Rattle.std.proofs.Common.{◌≡◌, ◌+◌, ◌≤ℤ◌, ◌+ℤ◌, ℤ, pos, Some, None, sym, subst, arith}
-use Rattle.std.specs.Option.{option_map}
+use Rattle.std.proofs.Common.{◌≡◌, ◌+ℤ◌, pos, None}
 use Rattle.std.proofs.lemmas.Result.{err_from_is_err_and}
 use mir.Syntax.{w128}
 use mir.Val.{to_z, of_z}
-use Rattle.asn_values.specs.Datum.{number}
-use Rattle.asn_values.specs.Fits.{lowest_integer, highest_integer}
+use Rattle.asn_values.specs.Fits.{highest_integer}
 use Rattle.asn_bits.specs.Numbers.{above}
 use Rattle.asn_rules.specs.Counted.{Counted, number_of, Least}
 use Rattle.asn_rules.specs.Languages.{Spells, Map}

@@ -1,4 +1,4 @@
-use Rattle.std.proofs.Common.{◌≡◌, ◌∙◌, ◌+◌, ◌^◌, ◌<◌, ◌≤ℤ◌, ◌+ℤ◌, ℤ, pos, Option, Some, None, IfSome, sym, subst, arith}
+use Rattle.std.proofs.Common.{◌≡◌, ◌∙◌, ◌+◌, ◌+ℤ◌, pos, Some}
 use Rattle.std.specs.Option.{option_map}
 use Rattle.std.proofs.lemmas.Result.{err_from_is_err_and}
 use mir.Syntax.{w128}
@@ -6,7 +6,6 @@ use mir.Val.{to_z, of_z}
 use Rattle.asn_values.specs.Datum.{number}
 use Rattle.asn_values.specs.Profile.{InProfile}
 use Rattle.asn_values.specs.Shape.{integer}
-use Rattle.asn_values.specs.Fits.{lowest_integer, highest_integer}
 use Rattle.asn_bits.specs.Numbers.{above, width}
 use Rattle.asn_rules.specs.Languages.{Spells, Plain, Inhabited}
 use Rattle.asn_rules.specs.Listed.{Spelt}
@@ -15,7 +14,7 @@ use Rattle.asn_rules.specs.Stops.{Stops}
 use Rattle.asn_rules.proofs.Languages.Leads.{stops_by}
 use Rattle.asn_per.specs.Per.{per, per_fields}
 use Rattle.asn_rules.specs.NumberSets.{Admits, up_to}
-use Rattle.asn_per.proofs.Types.IntegerLanguages.{offset_of, left_out_within, constrained_leads, constrained_some}
+use Rattle.asn_per.proofs.Types.IntegerLanguages.{offset_of, constrained_leads, constrained_some}
 use Rattle.asn_rules.specs.IntegerSets.{IsWithin}
 use Rattle.asn_per.proofs.Types.IntegerRanges.{ranging, low_above_lowest, low_below_highest, high_below_highest, low_below_high, low_kept, high_kept}
 use Rattle.asn_bits.proofs.Above.{kept}

@@ -1,10 +1,7 @@
-use Rattle.std.proofs.Common.{◌≡◌, ◌+◌, ◌≤ℤ◌, ◌+ℤ◌, ℤ, pos, Some, None, sym, subst, arith}
-use Rattle.std.specs.Option.{option_map}
+use Rattle.std.proofs.Common.{◌≡◌, ◌+◌, ◌+ℤ◌, pos, Some, arith}
 use Rattle.std.proofs.lemmas.Result.{err_from_is_err_and}
 use mir.Syntax.{w128}
 use mir.Val.{to_z, of_z}
-use Rattle.asn_values.specs.Datum.{number}
-use Rattle.asn_values.specs.Fits.{lowest_integer, highest_integer}
 use Rattle.asn_bits.specs.Numbers.{above, width}
 use Rattle.asn_rules.specs.Languages.{Spells, Plain}
 use Rattle.asn_bits.specs.Sets.{InSet}

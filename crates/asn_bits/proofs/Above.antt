@@ -41,7 +41,7 @@ add_within low high n p q = omega (arith, ints, pos-above low high p)
 pub above_same : (low y z : ℤ) → low ≤ℤ y → low ≤ℤ z → above low y ≡ above low z → y ≡ z
 above_same low y z p q e = omega (arith, ints, pos-above low y p, pos-above low z q)
 
--- ---- an integer of 64 signed bits keeps its value in 128
+-- ---- an integer of the profile keeps its value in 128 bits
 
 pub kept : (z : ℤ) → lowest_integer ≤ℤ z → z ≤ℤ highest_integer → to_z w128 (of_z w128 z) ≡ z
 kept z p q = omega (arith, ints)

@@ -3,7 +3,7 @@ ghost use Rattle.std.specs.Prelude.{◌≡◌, ◌<◌, ◌^◌, ◌≤ℤ◌, �
 ghost use Rattle.asn_values.specs.Fits.{lowest_integer, highest_integer};
 ghost use Rattle.asn_bits.specs.Numbers.{above};
 
-/// The integer that lies `n` above `low`, where it is one of 64 signed bits.
+/// The integer that lies `n` above `low`, an integer of the profile.
 pub fn at_offset(low: i128, n: u64) -> i128
     requires within_low { lowest_integer ≤ℤ low }
     requires within_high { low ≤ℤ highest_integer }
@@ -23,7 +23,7 @@ pub fn wide_offset_from(low: i128, n: i128) -> u128
     (n - low) as u128
 }
 
-/// The integer that lies `n` above `low`, an integer of the profile.
+/// The same of an offset that may have more than 64 bits.
 pub fn at_wide_offset(low: i128, n: u128) -> i128
     requires within_low { lowest_integer ≤ℤ low }
     requires within_high { low ≤ℤ highest_integer }

@@ -27,14 +27,26 @@ impl MessageFields {
         }
         // (a line is made twice, since the fields may be many)
         let mut text = String::new(alloc);
+        self.push_lines(alloc, &columns, &mut text, octets)?;
+        Ok(text)
+    }
+
+    /// Adds the lines, in these columns.
+    fn push_lines(
+        &self,
+        alloc: Global,
+        columns: &Columns,
+        text: &mut String,
+        octets: &[u8],
+    ) -> Result<(), AllocError> {
         for field in &self.fields {
             let cells = Cells::of(alloc, self.unit, field, octets)?;
-            columns.push(&mut text, cells.row(field).as_slice())?;
+            columns.push(text, cells.row(field).as_slice())?;
         }
-        if let Err(fault) = &self.answer {
-            writeln!(text, "{}", fault.counted_in(self.unit))?;
+        match &self.answer {
+            Ok(_) => Ok(()),
+            Err(fault) => writeln!(text, "{}", fault.counted_in(self.unit)),
         }
-        Ok(text)
     }
 }
 
@@ -109,11 +121,16 @@ struct Visible<'t>(&'t str);
 impl fmt::Display for Visible<'_> {
     fn fmt<W: fmt::Write>(&self, f: &mut fmt::Formatter<W>) -> fmt::Result {
         for character in self.0.chars() {
-            match character {
-                '\0'..='\x1F' | '\x7F'..='\u{9F}' => write!(f, "\\x{:02X}", u32::from(character))?,
-                other => f.write_char(other)?,
-            }
+            write_visible(f, character)?;
         }
         Ok(())
+    }
+}
+
+/// Writes such a character.
+fn write_visible<W: fmt::Write>(f: &mut fmt::Formatter<W>, character: char) -> fmt::Result {
+    match character {
+        '\0'..='\x1F' | '\x7F'..='\u{9F}' => write!(f, "\\x{:02X}", u32::from(character)),
+        other => f.write_char(other),
     }
 }

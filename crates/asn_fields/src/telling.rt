@@ -135,17 +135,28 @@ impl<'t> Walk<'t> {
     /// Tells a component that has no units.
     pub(crate) fn tell_absent(&mut self, field: &'t Field) -> Result<(), AllocError> {
         self.enter(Step::Name(field.name.as_str()))?;
-        let at = self.told_to;
-        let ty = type_text(self.alloc, &field.ty)?;
         match &field.need {
-            Need::Default(value) => {
-                let text = format!(in self.alloc; "{}", value.notation(&field.ty))?;
-                self.tell(FieldKind::Default, at, ty.as_str(), text.as_str())?;
-                self.values.push(value.clone()?)?;
+            Need::Default(value) => self.tell_default(&field.ty, value)?,
+            Need::Must | Need::Optional => {
+                let ty = type_text(self.alloc, &field.ty)?;
+                self.tell(FieldKind::Absent, self.told_to, ty.as_str(), "")?;
             }
-            Need::Must | Need::Optional => self.tell(FieldKind::Absent, at, ty.as_str(), "")?,
         }
         self.leave();
+        Ok(())
+    }
+
+    /// Tells a DEFAULT that is left out.
+    fn tell_default(&mut self, ty: &AsnType, value: &Value) -> Result<(), AllocError> {
+        let name = type_text(self.alloc, ty)?;
+        let text = format!(in self.alloc; "{}", value.notation(ty))?;
+        self.tell(
+            FieldKind::Default,
+            self.told_to,
+            name.as_str(),
+            text.as_str(),
+        )?;
+        self.values.push(value.clone()?)?;
         Ok(())
     }
 
@@ -157,13 +168,18 @@ impl<'t> Walk<'t> {
         value: Value,
         to: u64,
     ) -> Result<(), AllocError> {
-        let split = split_of(self.unit, ty, &value, to.saturating_sub(self.told_to));
+        self.tell_parts(ty, &value, to)?;
+        self.values.push(value)?;
+        Ok(())
+    }
+
+    /// Tells the parts of such a value.
+    fn tell_parts(&mut self, ty: &AsnType, value: &Value, to: u64) -> Result<(), AllocError> {
+        let split = split_of(self.unit, ty, value, to.saturating_sub(self.told_to));
         let name = type_text(self.alloc, ty)?;
         self.tell_front(name.as_str(), split)?;
         let text = format!(in self.alloc; "{}", value.notation(ty))?;
-        self.tell(FieldKind::Contents, to, name.as_str(), text.as_str())?;
-        self.values.push(value)?;
-        Ok(())
+        self.tell(FieldKind::Contents, to, name.as_str(), text.as_str())
     }
 
     /// Tells what stands in front of the contents of a value.

@@ -9,5 +9,3 @@ pub mod Messages
 pub mod NodeKinds
 pub mod RangedRead
 pub mod Rows
-pub mod Ordered
-pub mod WordsRead

@@ -57,7 +57,10 @@ fn build_row<R: PlanLeaves, B: Build>(
     if rows.width > 0 || rows.additions.is_some() {
         return None;
     }
-    R::next_preamble(0, None, word)?;
+    let preamble = R::next_preamble(0, None, word)?;
+    if preamble.extended {
+        return None;
+    }
     let before = &nodes[..rows.begin];
     let root = &nodes[rows.begin..rows.middle];
     let entries = build_numbers::<R, B>(alloc, before, root, word, room)?;

@@ -1,7 +1,6 @@
 //! The leaves of slots: the values of those that have no parts.
-ghost use Rattle.std.specs.Prelude.{◌≡◌, ℕ, List, drop, length, IfOk};
+ghost use Rattle.std.specs.Prelude.{◌≡◌, IfOk};
 ghost use Rattle.asn_values.specs.View.{datum_of};
-ghost use Rattle.asn_message.specs.declared.slots.Slot.{Slot};
 ghost use Rattle.asn_message.specs.Leaves.{AreLeaves, leaf_at};
 
 use crate::restoring::restored;
@@ -37,17 +36,4 @@ fn leaf_of(alloc: Global, content: Content, octets: &[u8]) -> Result<Value, Allo
             restored(alloc, content, octets, &mut none)
         }
     }
-}
-
-/// Of these leaves those of the last slots, as many as there are of them, and the NULL after these.
-#[inline(always)]
-pub(crate) fn last_leaves<'a>(leaves: &'a [Value], count: usize) -> &'a [Value]
-    ensures { (os : List ℕ) (ss : List Slot) (n : ℕ) → AreLeaves os ss leaves.entry.now
-        → count ≡ length (drop n ss) → AreLeaves os (drop n ss) result.now }
-{
-    let all = leaves.len();
-    if count >= all {
-        return leaves;
-    }
-    &leaves[all - 1 - count..]
 }

@@ -2,7 +2,6 @@
 ghost use Rattle.asn_message.specs.Leaves.{AreLeaves};
 ghost use Rattle.asn_message.specs.DataSets.{leaves_prop};
 
-use crate::left::Left;
 use crate::row::Row;
 use asn_values::Value;
 
@@ -14,21 +13,44 @@ pub(crate) struct Leafed<'a> {
     ghost leafed: { AreLeaves row.octets.now row.slots.now leaves.now } by { leaves_prop row.octets.now row.slots.now leaves.now },
 }
 
+impl<'a> Leafed<'a> {
+    ghost use Rattle.std.specs.Prelude.{◌≡◌, ℕ, drop};
+
+    /// The same at a later slot.
+    #[inline(always)]
+    pub(crate) fn at(self, row: Row<'a>) -> Leafed<'a>
+        requires last { (n : ℕ) × (row.slots.now ≡ drop n self.row.slots.now) }
+        requires octets { row.octets.now ≡ self.row.octets.now }
+        ensures { result.row ≡ row.entry }
+    {
+        let passed = self.leaves.len() - 1 - row.slots.len();
+        Leafed {
+            row,
+            leaves: &self.leaves[passed..],
+        }
+    }
+}
+
 /// Entries of a SEQUENCE: those that are left in slots, and after them some that are absent, up to a number of them all.
 #[derive(Clone, Copy)]
 pub(crate) struct SlotEntries<'a> {
-    pub(crate) left: Left<'a>,
-    pub(crate) leaves: &'a [Value],
-    pub(crate) absent: u32,
+    pub(crate) first: Leafed<'a>,
+    /// How many are left in slots.
+    pub(crate) count: u32,
+    /// How many of them are absent before the first one.
+    pub(crate) before: u32,
+    /// How many are absent after them.
+    pub(crate) after: u32,
     pub(crate) most: usize,
-    ghost leafed: { AreLeaves left.row.octets.now left.row.slots.now leaves.now } by { leaves_prop left.row.octets.now left.row.slots.now leaves.now },
 }
 
 /// Elements of a SEQUENCE OF: those that are left in slots, up to a number of them.
 #[derive(Clone, Copy)]
 pub(crate) struct SlotElements<'a> {
-    pub(crate) left: Left<'a>,
-    pub(crate) leaves: &'a [Value],
+    pub(crate) first: Leafed<'a>,
+    /// How many entries are left in slots.
+    pub(crate) count: u32,
+    /// How many of them are absent before the first one.
+    pub(crate) before: u32,
     pub(crate) most: usize,
-    ghost leafed: { AreLeaves left.row.octets.now left.row.slots.now leaves.now } by { leaves_prop left.row.octets.now left.row.slots.now leaves.now },
 }

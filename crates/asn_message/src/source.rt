@@ -3,7 +3,6 @@ ghost use Rattle.std.specs.Prelude.{◌≡◌, ◌↔◌, [], IsTrue};
 ghost use Rattle.asn_message.specs.Rows.{row_value, left_entries};
 ghost use Rattle.asn_message.specs.Sources.{slot_entries, slot_elements};
 
-use crate::beside::last_leaves;
 use crate::leafed::{Leafed, SlotElements, SlotEntries};
 use crate::left::{Left, first_entries, next_entry, next_value};
 use crate::slots::Content;
@@ -23,7 +22,21 @@ fn is_done(left: Left<'_>) -> bool
 fn is_empty(entries: SlotEntries<'_>) -> bool
     ensures { IsTrue result ↔ (slot_entries entries.entry ≡ []) }
 {
-    entries.most == 0 || entries.absent == 0 && is_done(entries.left)
+    entries.most == 0 || entries.after == 0 && is_done(left_of(entries))
+}
+
+/// The entries that are left in slots.
+#[inline(always)]
+fn left_of<'a>(entries: SlotEntries<'a>) -> Left<'a>
+    ensures row { result.row ≡ entries.entry.first.row }
+    ensures count { result.count ≡ entries.entry.count }
+    ensures absent { result.absent ≡ entries.entry.before }
+{
+    Left {
+        row: entries.first.row,
+        count: entries.count,
+        absent: entries.before,
+    }
 }
 
 impl<'a> Source for Leafed<'a> {
@@ -47,11 +60,12 @@ impl<'a> Source for Leafed<'a> {
     fn entries(self) -> Option<SlotEntries<'a>> {
         match self.row.content() {
             Some(Content::Sequence { taken, absent }) => {
-                let inside = self.row.inside();
+                let inside = first_entries(self.row.inside(), taken);
                 Some(SlotEntries {
-                    left: first_entries(inside, taken),
-                    leaves: last_leaves(self.leaves, inside.slots.len()),
-                    absent,
+                    first: self.at(inside.row),
+                    count: inside.count,
+                    before: inside.absent,
+                    after: absent,
                     most: usize::MAX,
                 })
             }
@@ -77,12 +91,8 @@ impl<'a> Source for Leafed<'a> {
         for passed in 0..count {
             let _ = Self::next_entry(&mut others);
         }
-        let first = SlotEntries {
-            left: entries.left,
-            leaves: entries.leaves,
-            absent: entries.absent,
-            most: entries.most.min(count),
-        };
+        let mut first = entries;
+        first.most = entries.most.min(count);
         (first, others)
     }
 
@@ -100,28 +110,19 @@ impl<'a> Source for Leafed<'a> {
         if entries.most == 0 {
             return None;
         }
-        let most = entries.most - 1;
-        if is_done(entries.left) {
-            if entries.absent > 0 {
-                *entries = SlotEntries {
-                    left: entries.left,
-                    leaves: entries.leaves,
-                    absent: entries.absent - 1,
-                    most,
-                };
-            }
+        let before = *entries;
+        entries.most -= 1;
+        let left = left_of(before);
+        if is_done(left) {
+            entries.after = before.after.saturating_sub(1);
             return None;
         }
-        let leaves = entries.leaves;
-        let (row, left) = next_entry(entries.left);
-        *entries = SlotEntries {
-            left,
-            leaves: last_leaves(leaves, left.row.slots.len()),
-            absent: entries.absent,
-            most,
-        };
+        let (row, others) = next_entry(left);
+        entries.first = before.first.at(others.row);
+        entries.count = others.count;
+        entries.before = others.absent;
         match row {
-            Some(row) => Some(Leafed { row, leaves }),
+            Some(_) => Some(before.first),
             None => None,
         }
     }
@@ -129,10 +130,11 @@ impl<'a> Source for Leafed<'a> {
     fn elements(self) -> Option<SlotElements<'a>> {
         match self.row.content() {
             Some(Content::List(count)) => {
-                let inside = self.row.inside();
+                let inside = first_entries(self.row.inside(), count);
                 Some(SlotElements {
-                    left: first_entries(inside, count),
-                    leaves: last_leaves(self.leaves, inside.slots.len()),
+                    first: self.at(inside.row),
+                    count: inside.count,
+                    before: inside.absent,
                     most: usize::MAX,
                 })
             }
@@ -157,11 +159,8 @@ impl<'a> Source for Leafed<'a> {
         for passed in 0..count {
             let _ = Self::next_element(&mut others);
         }
-        let first = SlotElements {
-            left: elements.left,
-            leaves: elements.leaves,
-            most: elements.most.min(count),
-        };
+        let mut first = elements;
+        first.most = elements.most.min(count);
         (first, others)
     }
 
@@ -169,24 +168,25 @@ impl<'a> Source for Leafed<'a> {
         if elements.most == 0 {
             return None;
         }
-        let leaves = elements.leaves;
-        let (row, left) = next_value(elements.left);
-        let row = row?;
+        let before = *elements;
+        let (row, others) = next_value(Left {
+            row: before.first.row,
+            count: before.count,
+            absent: before.before,
+        });
+        let _ = row?;
         *elements = SlotElements {
-            left,
-            leaves: last_leaves(leaves, left.row.slots.len()),
-            most: elements.most - 1,
+            first: before.first.at(others.row),
+            count: others.count,
+            before: others.absent,
+            most: before.most - 1,
         };
-        Some(Leafed { row, leaves })
+        Some(before.first)
     }
 
     fn chosen(self) -> Option<(u32, Leafed<'a>)> {
         match self.row.content() {
-            Some(Content::Choice(tag)) => {
-                let row = self.row.chosen();
-                let leaves = last_leaves(self.leaves, row.slots.len());
-                Some((tag, Leafed { row, leaves }))
-            }
+            Some(Content::Choice(tag)) => Some((tag, self.at(self.row.chosen()))),
             _ => None,
         }
     }

@@ -1,4 +1,4 @@
--- What a SEQUENCE of the profile and a value of it are made of, as the program holds them.
+-- What a SEQUENCE of the profile and a value of it are made of.
 use Rattle.std.proofs.Common.{◌≡◌, ◌↔◌, ℕ, List, length, map, take, drop, Option, Some, None, is_some, Vec, Global, refl, sym, ap, subst, ◌∙◌}
 use Rattle.std.proofs.lemmas.List.{length-map}
 use Rattle.asn_values.specs.declared.types.AsnType.{AsnType, Seq}

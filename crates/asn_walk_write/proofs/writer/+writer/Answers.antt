@@ -1,4 +1,4 @@
-use Rattle.std.proofs.Common.{rules, false, ◌^◌, ◌+◌, suc, subst, take, drop, true, ◌≡◌, ◌∷◌, ◌++◌, map, min, Some, None, refl, sym, ap, ◌∙◌, arith, ◌<◌, length, ◌-◌, inl}
+use Rattle.std.proofs.Common.{rules, ℕ, false, ◌^◌, ◌+◌, suc, subst, take, drop, true, ◌≡◌, ◌∷◌, ◌++◌, map, min, Some, None, refl, sym, ap, ◌∙◌, arith, ◌<◌, length, ◌-◌, inl}
 use mir.Syntax.{w128}
 use mir.Val.{to_z, of_z}
 use Rattle.std.specs.Option.{option_map}
@@ -71,14 +71,14 @@ write-write_root-requires g t c κs within =
     let fs = c.deref.result.now in
     let vs = g.V.Source.entries_left c.in-Some.entries in
     let s = of_sequence c.args.ty.now (g.V.Source.datum c.args.value) c.in-Seq.root c.in-Seq.ext fs vs c.in-Seq.is (rw c.in-Some.is at c.entries.ensures.some) c.deref.ensures.value in
-    (search (rules, the_lemmas), (within.0, (within.1.0, (within.1.1.0, (within.1.1.1.0, (within.1.1.1.1, (parts_of_profile s c.requires.of_profile, (few_components fs s.shape c.requires.of_profile, root_deep c.args.level s.shape c.requires.deep))))))))
+    (search (rules, the_lemmas), (within.0, (within.1.0, (within.1.1.0, (within.1.1.1.0, (within.1.1.1.1.0, (within.1.1.1.1.1.0, (within.1.1.1.1.1.1.0, (within.1.1.1.1.1.1.1, (parts_of_profile s c.requires.of_profile, (few_components fs s.shape c.requires.of_profile, root_deep c.args.level s.shape c.requires.deep)))))))))))
 
 pub write-write_root-requires-in-Some-ext : goal.write-write_root-requires-in-Some-ext
 write-write_root-requires-in-Some-ext g t c κs within =
     let fs = c.deref-in-Some-ext.result.now in
     let vs = g.V.Source.entries_left c.in-Some.entries in
     let s = of_sequence c.args.ty.now (g.V.Source.datum c.args.value) c.in-Seq.root c.in-Seq.ext fs vs c.in-Seq.is (rw c.in-Some.is at c.entries.ensures.some) c.deref-in-Some-ext.ensures.value in
-    (search (rules, the_lemmas), (within.0, (within.1.0, (within.1.1.0, (within.1.1.1.0, (within.1.1.1.1, (parts_of_profile s c.requires.of_profile, (few_components fs s.shape c.requires.of_profile, root_deep c.args.level s.shape c.requires.deep))))))))
+    (search (rules, the_lemmas), (within.0, (within.1.0, (within.1.1.0, (within.1.1.1.0, (within.1.1.1.1.0, (within.1.1.1.1.1.0, (within.1.1.1.1.1.1.0, (within.1.1.1.1.1.1.1, (parts_of_profile s c.requires.of_profile, (few_components fs s.shape c.requires.of_profile, root_deep c.args.level s.shape c.requires.deep)))))))))))
 
 pub write-write_additions-requires : goal.write-write_additions-requires
 write-write_additions-requires g t c κs within =
@@ -88,7 +88,7 @@ write-write_additions-requires g t c κs within =
     let gs = c.deref-in-Some-ext-2.result.now in
     let more : more_fields_of c.in-Seq.ext ≡ marked (fields_of (map part_of_field gs)) = marked_fields c.in-Seq.ext c.in-Some-ext.additions gs c.in-Some-ext.is c.deref-in-Some-ext-2.ensures.value in
     let type : shape_of c.args.ty.now ≡ sequence (fields_of (map part_of_field fs)) (marked (fields_of (map part_of_field gs))) = s.shape ∙ ap (λ (m : MoreFields). sequence (fields_of (map part_of_field fs)) m) more in
-    (search (rules, the_lemmas), (within.0, (within.1.0, (within.1.1.0, (within.1.1.1.0, (within.1.1.1.1, (added_of_profile gs type c.requires.of_profile, (added_optional gs type c.requires.of_profile, (few_added gs type c.requires.of_profile, additions_deep c.args.level type c.requires.deep)))))))))
+    (search (rules, the_lemmas), (within.0, (within.1.0, (within.1.1.0, (within.1.1.1.0, (within.1.1.1.1.0, (within.1.1.1.1.1.0, (within.1.1.1.1.1.1.0, (within.1.1.1.1.1.1.1, (added_of_profile gs type c.requires.of_profile, (added_optional gs type c.requires.of_profile, (few_added gs type c.requires.of_profile, additions_deep c.args.level type c.requires.deep))))))))))))
 
 pub write-returns-in-None-clause-of_type : goal.write-returns-in-None-clause-of_type
 write-returns-in-None-clause-of_type g t c =
@@ -112,8 +112,8 @@ write-returns-in_err-write_root-in-Some-ext-clause-of_type g t c =
     let fs = c.deref-in-Some-ext.result.now in
     let vs = g.V.Source.entries_left c.in-Some.entries in
     let s = of_sequence c.args.ty.now (g.V.Source.datum c.args.value) c.in-Seq.root c.in-Seq.ext fs vs c.in-Seq.is (rw c.in-Some.is at c.entries.ensures.some) c.deref-in-Some-ext.ensures.value in
-    let front : g.V.Source.entries_left c.split_entries.result.0 ≡ take (length fs) vs = c.split_entries.ensures.first ∙ ap (λ (n : ℕ). take n vs) (c.len.ensures ∙ sym c.deref-in-Some-ext.ensures.len) in
-    let back : g.V.Source.entries_left c.split_entries.result.1 ≡ drop (length fs) vs = c.split_entries.ensures.others ∙ ap (λ (n : ℕ). drop n vs) (c.len.ensures ∙ sym c.deref-in-Some-ext.ensures.len) in
+    let front : g.V.Source.entries_left c.split_entries.result.0 ≡ take (length fs) vs = c.split_entries.ensures.first ∙ ap (λ (n : ℕ). take n vs) (omega (arith, c.len.ensures, c.deref-in-Some-ext.ensures.len)) in
+    let back : g.V.Source.entries_left c.split_entries.result.1 ≡ drop (length fs) vs = c.split_entries.ensures.others ∙ ap (λ (n : ℕ). drop n vs) (omega (arith, c.len.ensures, c.deref-in-Some-ext.ensures.len)) in
     let gs = c.in-Some-ext.additions.items in
     let both = fits_marked fs vs gs s (marked_fields c.in-Seq.ext c.in-Some-ext.additions gs c.in-Some-ext.is refl) (g.V.Source.entries_left c.split_entries.result.0) (g.V.Source.entries_left c.split_entries.result.1) front back in
     tells_err c.from_residual.result c.in_err-write_root-in-Some-ext.field-0.0 c.from_residual.ensures.1 (λ f. (both.1 f).0) c.in_err-write_root-in-Some-ext.ensures.of_type
@@ -123,8 +123,8 @@ write-returns-in_ok-write_root-in-Some-ext-clause-of_type g t c =
     let fs = c.deref-in-Some-ext.result.now in
     let vs = g.V.Source.entries_left c.in-Some.entries in
     let s = of_sequence c.args.ty.now (g.V.Source.datum c.args.value) c.in-Seq.root c.in-Seq.ext fs vs c.in-Seq.is (rw c.in-Some.is at c.entries.ensures.some) c.deref-in-Some-ext.ensures.value in
-    let front : g.V.Source.entries_left c.split_entries.result.0 ≡ take (length fs) vs = c.split_entries.ensures.first ∙ ap (λ (n : ℕ). take n vs) (c.len.ensures ∙ sym c.deref-in-Some-ext.ensures.len) in
-    let back : g.V.Source.entries_left c.split_entries.result.1 ≡ drop (length fs) vs = c.split_entries.ensures.others ∙ ap (λ (n : ℕ). drop n vs) (c.len.ensures ∙ sym c.deref-in-Some-ext.ensures.len) in
+    let front : g.V.Source.entries_left c.split_entries.result.0 ≡ take (length fs) vs = c.split_entries.ensures.first ∙ ap (λ (n : ℕ). take n vs) (omega (arith, c.len.ensures, c.deref-in-Some-ext.ensures.len)) in
+    let back : g.V.Source.entries_left c.split_entries.result.1 ≡ drop (length fs) vs = c.split_entries.ensures.others ∙ ap (λ (n : ℕ). drop n vs) (omega (arith, c.len.ensures, c.deref-in-Some-ext.ensures.len)) in
     let gs = c.deref-in-Some-ext-2.result.now in
     let more : more_fields_of c.in-Seq.ext ≡ marked (fields_of (map part_of_field gs)) = marked_fields c.in-Seq.ext c.in-Some-ext.additions gs c.in-Some-ext.is c.deref-in-Some-ext-2.ensures.value in
     let both = fits_marked fs vs gs s more (g.V.Source.entries_left c.split_entries.result.0) (g.V.Source.entries_left c.split_entries.result.1) front back in
@@ -135,8 +135,8 @@ write-returns-in_ok-write_root-in-Some-ext-clause-written g t c =
     let fs = c.deref-in-Some-ext.result.now in
     let vs = g.V.Source.entries_left c.in-Some.entries in
     let s = of_sequence c.args.ty.now (g.V.Source.datum c.args.value) c.in-Seq.root c.in-Seq.ext fs vs c.in-Seq.is (rw c.in-Some.is at c.entries.ensures.some) c.deref-in-Some-ext.ensures.value in
-    let front : g.V.Source.entries_left c.split_entries.result.0 ≡ take (length fs) vs = c.split_entries.ensures.first ∙ ap (λ (n : ℕ). take n vs) (c.len.ensures ∙ sym c.deref-in-Some-ext.ensures.len) in
-    let back : g.V.Source.entries_left c.split_entries.result.1 ≡ drop (length fs) vs = c.split_entries.ensures.others ∙ ap (λ (n : ℕ). drop n vs) (c.len.ensures ∙ sym c.deref-in-Some-ext.ensures.len) in
+    let front : g.V.Source.entries_left c.split_entries.result.0 ≡ take (length fs) vs = c.split_entries.ensures.first ∙ ap (λ (n : ℕ). take n vs) (omega (arith, c.len.ensures, c.deref-in-Some-ext.ensures.len)) in
+    let back : g.V.Source.entries_left c.split_entries.result.1 ≡ drop (length fs) vs = c.split_entries.ensures.others ∙ ap (λ (n : ℕ). drop n vs) (omega (arith, c.len.ensures, c.deref-in-Some-ext.ensures.len)) in
     let gs = c.deref-in-Some-ext-2.result.now in
     let more : more_fields_of c.in-Seq.ext ≡ marked (fields_of (map part_of_field gs)) = marked_fields c.in-Seq.ext c.in-Some-ext.additions gs c.in-Some-ext.is c.deref-in-Some-ext-2.ensures.value in
     let both = fits_marked fs vs gs s more (g.V.Source.entries_left c.split_entries.result.0) (g.V.Source.entries_left c.split_entries.result.1) front back in
@@ -199,7 +199,7 @@ write_open_components-loop-field-preserved g t c =
     let h = rw e at c.loop-field.invariant in
     let some : option_map g.V.Source.datum c.next_entry.result ≡ Some d = ap (option_map g.V.Source.datum) c.in-Some.is in
     let both = next_left h.written.components (sym some ∙ c.next_entry.ensures.first) c.next_entry.ensures.others in
-    let shape = shape_of_part f.now in
+    let shape = shape_of_part f in
     let r = g.R.WriteLeaves.rules in
     opened_more c.keep_write_laws.ensures (rw both at h) (subst (λ (x : Shape). Fits x d) (sym shape) c.in_ok-write_open_field.ensures.of_type)
     (subst (λ (x : Shape). Writes (TakesAt g.S.Sink.stands g.S.Sink.wants_lengths c.args.level) r c.loop-field.sink c.write_open_field.new.sink (in_open_field r (r.code x d))) (sym shape) c.in_ok-write_open_field.ensures.written)
@@ -214,7 +214,7 @@ write_list-returns-then-not-length_fits-clause-of_type g t c =
     other_count element s ds (λ few. no_truth (rw c.if-not-length_fits.true at (c.length_fits.ensures.1 (rw c.count_elements-count.ensures few))))
 
 pub write_list-write_elements-requires : goal.write_list-write_elements-requires
-write_list-write_elements-requires g t c κs within = (search (rules, the_lemmas), (within.0, (within.1.0, (within.1.1.0, (within.1.1.1.0, (within.1.1.1.1, (element_of_profile (shape_of c.args.element.now) (size_range_of c.args.size.now) c.requires.of_profile, omega (arith, c.requires.deep))))))))
+write_list-write_elements-requires g t c κs within = (search (rules, the_lemmas), (within.0, (within.1.0, (within.1.1.0, (within.1.1.1.0, (within.1.1.1.1.0, (within.1.1.1.1.1.0, (within.1.1.1.1.1.1.0, (within.1.1.1.1.1.1.1, (element_of_profile (shape_of c.args.element.now) (size_range_of c.args.size.now) c.requires.of_profile, omega (arith, c.requires.deep)))))))))))
 
 pub write_list-returns-in_err-write_elements-clause-of_type : goal.write_list-returns-in_err-write_elements-clause-of_type
 write_list-returns-in_err-write_elements-clause-of_type g t c =
@@ -222,7 +222,7 @@ write_list-returns-in_err-write_elements-clause-of_type g t c =
     let s = size_range_of c.args.size.now in
     let ds = g.V.Source.elements_left c.args.elements in
     let few : FitsLength s (length ds) = rw c.count_elements-count.ensures at c.length_fits.ensures.0 (rw c.if-not-length_fits.false refl) in
-    let both = parts_fit element c.in-Some.next (g.V.Source.elements_left c.loop-fragments.left) (g.V.Source.elements_left c.split_elements.result.0) (g.V.Source.elements_left c.split_elements.result.1) c.split_elements.ensures.first c.split_elements.ensures.others in
+    let both = parts_fit element c.in-Some.next (g.V.Source.elements_left c.loop-fragments.left) (g.V.Source.elements_left c.split_elements-front.result.0) (g.V.Source.elements_left c.split_elements-front.result.1) c.split_elements-front.ensures.first c.split_elements-front.ensures.others in
     tells_err c.from_residual-in_err-write_elements.result c.in_err-write_elements.field-0.0 c.from_residual-in_err-write_elements.ensures.1
     (λ f. (both.1 (c.loop-fragments.invariant.up_to.fits.1 ((list_fits element s ds few).1 f))).0)
     c.in_err-write_elements.ensures.of_type
@@ -240,9 +240,9 @@ write_list-loop-fragments-preserved g t c =
     let next : Advances (TakesAt g.S.Sink.stands g.S.Sink.wants_lengths c.args.level) g.R.WriteLeaves.rules (g.R.WriteLeaves.rest c.loop-fragments.fragments) c.loop-fragments.many c.loop-fragments.sink (g.R.WriteLeaves.rest c.next_fragment.new.fragments) c.next_fragment.new.sink (Some c.in-Some.next) =
     advances_at (λ a b xs p. takes_pushed g.S.Sink.stands g.S.Sink.wants_lengths c.args.level a b xs (g.met.S.Sink.pushes_stand a b xs p)) g.R.WriteLeaves.rules (g.R.WriteLeaves.rest c.loop-fragments.fragments) (g.R.WriteLeaves.rest c.next_fragment.new.fragments) c.loop-fragments.many c.loop-fragments.sink c.next_fragment.new.sink (Some c.in-Some.next) (rw c.in-Some.is at c.in_ok-next.ensures) in
     record {
-      up_to = fragments_next c.keep_write_laws.ensures (g.R.WriteLeaves.rest c.next_fragment.new.fragments) c.in-Some.next c.loop-fragments.many c.next_fragment.new.sink c.write_elements.new.sink (g.V.Source.elements_left c.split_elements.result.0) (g.V.Source.elements_left c.split_elements.result.1)
-          h.up_to h.count next c.split_elements.ensures.first c.split_elements.ensures.others c.in_ok-write_elements.ensures.of_type c.in_ok-write_elements.ensures.written;
-      count = fewer_left (g.V.Source.elements_left c.loop-fragments.left) (g.V.Source.elements_left c.split_elements.result.1) c.loop-fragments.many c.in-Some.next h.count c.split_elements.ensures.others;
+      up_to = fragments_next c.keep_write_laws.ensures (g.R.WriteLeaves.rest c.next_fragment.new.fragments) c.in-Some.next c.loop-fragments.many c.next_fragment.new.sink c.write_elements.new.sink (g.V.Source.elements_left c.split_elements-front.result.0) (g.V.Source.elements_left c.split_elements-front.result.1)
+          h.up_to h.count next c.split_elements-front.ensures.first c.split_elements-front.ensures.others c.in_ok-write_elements.ensures.of_type c.in_ok-write_elements.ensures.written;
+      count = fewer_left (g.V.Source.elements_left c.loop-fragments.left) (g.V.Source.elements_left c.split_elements-front.result.1) c.loop-fragments.many c.in-Some.next h.count c.split_elements-front.ensures.others;
     }
 
 pub write_list-returns-clause-of_type : goal.write_list-returns-clause-of_type
@@ -286,20 +286,20 @@ write-write_index-requires-clause-few g t c =
 pub write-write_alternative-requires : goal.write-write_alternative-requires
 write-write_alternative-requires g t c κs within =
     let alts = c.deref-then-index-known.result.now in
-    let inside : c.in-Some-2.tag < length alts = omega (arith, c.if-index-known.true, c.len-known.ensures, c.deref-then-index-known.ensures.len) in
-    (search (rules, the_lemmas), (within.0, (within.1.0, (within.1.1.0, (within.1.1.1.0, (within.1.1.1.1, (roots_good c.args.ty.now c.in-Choice.root c.in-Choice.ext c.in-Choice.is c.requires.of_profile alts c.deref-then-index-known.ensures.value, (inside, roots_deep c.args.level c.args.ty.now c.in-Choice.root c.in-Choice.ext c.in-Choice.is c.requires.deep alts c.deref-then-index-known.ensures.value))))))))
+    let inside : c.in-Some-chosen.tag < length alts = omega (arith, c.if-index-known.true, c.len-known.ensures, c.deref-then-index-known.ensures.len) in
+    (search (rules, the_lemmas), (within.0, (within.1.0, (within.1.1.0, (within.1.1.1.0, (within.1.1.1.1.0, (within.1.1.1.1.1.0, (within.1.1.1.1.1.1.0, (within.1.1.1.1.1.1.1, (roots_good c.args.ty.now c.in-Choice.root c.in-Choice.ext c.in-Choice.is c.requires.of_profile alts c.deref-then-index-known.ensures.value, (inside, roots_deep c.args.level c.args.ty.now c.in-Choice.root c.in-Choice.ext c.in-Choice.is c.requires.deep alts c.deref-then-index-known.ensures.value)))))))))))
 
 pub write-returns-then-index-known-clause-of_type : goal.write-returns-then-index-known-clause-of_type
 write-returns-then-index-known-clause-of_type g t c =
     tells_by c.write_alternative.result
-    (root_fits c.args.ty.now (g.V.Source.datum c.args.value) c.in-Choice.root c.in-Choice.ext c.in-Some-2.tag (g.V.Source.datum c.in-Some-2.chosen) c.in-Choice.is (rw c.in-Some-2.is at c.chosen.ensures.some) c.len-known.result c.len-known.ensures
+    (root_fits c.args.ty.now (g.V.Source.datum c.args.value) c.in-Choice.root c.in-Choice.ext c.in-Some-chosen.tag (g.V.Source.datum c.in-Some-chosen.chosen) c.in-Choice.is (rw c.in-Some-chosen.is at c.chosen.ensures.some) c.len-known.result c.len-known.ensures
     c.if-index-known.true c.deref-then-index-known.result.now c.deref-then-index-known.ensures.value)
     c.write_alternative.ensures.of_type
 
 pub write-returns-then-index-known-clause-written : goal.write-returns-then-index-known-clause-written
 write-returns-then-index-known-clause-written g t c =
     on_ok_weaker c.write_alternative.result
-    (λ e. choice_root_written c.args.ty.now (g.V.Source.datum c.args.value) c.in-Choice.root c.in-Choice.ext c.in-Some-2.tag (g.V.Source.datum c.in-Some-2.chosen) c.in-Choice.is (rw c.in-Some-2.is at c.chosen.ensures.some) c.len-known.result c.len-known.ensures (takes_laws g.S.Sink.stands g.S.Sink.wants_lengths c.args.level) c.keep_write_laws.ensures
+    (λ e. choice_root_written c.args.ty.now (g.V.Source.datum c.args.value) c.in-Choice.root c.in-Choice.ext c.in-Some-chosen.tag (g.V.Source.datum c.in-Some-chosen.chosen) c.in-Choice.is (rw c.in-Some-chosen.is at c.chosen.ensures.some) c.len-known.result c.len-known.ensures (takes_laws g.S.Sink.stands g.S.Sink.wants_lengths c.args.level) c.keep_write_laws.ensures
     c.if-index-known.true c.deref-then-index-known.result.now c.args.sink.now c.write_index.new.sink c.write_alternative.new.sink c.is_some.result c.deref-then-index-known.ensures.value c.is_some.ensures (pushed_at g.S.Sink.stands g.S.Sink.wants_lengths c.args.level g.met.S.Sink.pushes_stand c.in_ok-write_index-in-Choice.ensures) e)
     c.write_alternative.ensures.written
 
@@ -314,37 +314,37 @@ write-write_index-requires-in-Some-ext-2-clause-within g t c =
 
 pub write-write_added_alternative-requires : goal.write-write_added_alternative-requires
 write-write_added_alternative-requires g t c κs within =
-    let more = c.deref-in-Some-ext-3.result.now in
-    let inside : c.in-Some-2.tag - c.len-known.result < length more = omega (arith, c.if-index-known-2.true, c.deref-in-Some-ext-3.ensures.len) in
-    (search (rules, the_lemmas), (within.0, (within.1.0, (within.1.1.0, (within.1.1.1.0, (within.1.1.1.1, (additions_good c.args.ty.now c.in-Choice.root c.in-Choice.ext c.in-Choice.is c.requires.of_profile c.in-Some-ext-2.additions more c.in-Some-ext-2.is c.deref-in-Some-ext-3.ensures.value, (inside, added_deep c.args.level c.args.ty.now c.in-Choice.root c.in-Choice.ext c.in-Choice.is c.requires.deep c.in-Some-ext-2.additions more c.in-Some-ext-2.is c.deref-in-Some-ext-3.ensures.value))))))))
+    let more = c.deref-in-Some-ext-2-2.result.now in
+    let inside : c.in-Some-chosen.tag - c.len-known.result < length more = omega (arith, c.if-index-known-2.true, c.deref-in-Some-ext-2-2.ensures.len) in
+    (search (rules, the_lemmas), (within.0, (within.1.0, (within.1.1.0, (within.1.1.1.0, (within.1.1.1.1.0, (within.1.1.1.1.1.0, (within.1.1.1.1.1.1.0, (within.1.1.1.1.1.1.1, (additions_good c.args.ty.now c.in-Choice.root c.in-Choice.ext c.in-Choice.is c.requires.of_profile c.in-Some-ext-2.additions more c.in-Some-ext-2.is c.deref-in-Some-ext-2-2.ensures.value, (inside, added_deep c.args.level c.args.ty.now c.in-Choice.root c.in-Choice.ext c.in-Choice.is c.requires.deep c.in-Some-ext-2.additions more c.in-Some-ext-2.is c.deref-in-Some-ext-2-2.ensures.value)))))))))))
 
 pub write-returns-in_ok-write_index-in-Some-ext-2-clause-of_type : goal.write-returns-in_ok-write_index-in-Some-ext-2-clause-of_type
 write-returns-in_ok-write_index-in-Some-ext-2-clause-of_type g t c =
     tells_by c.write_added_alternative.result
-    (added_fits c.args.ty.now (g.V.Source.datum c.args.value) c.in-Choice.root c.in-Choice.ext c.in-Some-2.tag (g.V.Source.datum c.in-Some-2.chosen) c.in-Choice.is (rw c.in-Some-2.is at c.chosen.ensures.some) c.len-known.result c.len-known.ensures
-    c.if-index-known.false c.in-Some-ext-2.additions c.deref-in-Some-ext-3.result.now c.in-Some-ext-2.is c.deref-in-Some-ext-3.ensures.value)
+    (added_fits c.args.ty.now (g.V.Source.datum c.args.value) c.in-Choice.root c.in-Choice.ext c.in-Some-chosen.tag (g.V.Source.datum c.in-Some-chosen.chosen) c.in-Choice.is (rw c.in-Some-chosen.is at c.chosen.ensures.some) c.len-known.result c.len-known.ensures
+    c.if-index-known.false c.in-Some-ext-2.additions c.deref-in-Some-ext-2-2.result.now c.in-Some-ext-2.is c.deref-in-Some-ext-2-2.ensures.value)
     c.write_added_alternative.ensures.of_type
 
 pub write-returns-in_ok-write_index-in-Some-ext-2-clause-written : goal.write-returns-in_ok-write_index-in-Some-ext-2-clause-written
 write-returns-in_ok-write_index-in-Some-ext-2-clause-written g t c =
     on_ok_weaker c.write_added_alternative.result
-    (λ e. choice_added_written c.args.ty.now (g.V.Source.datum c.args.value) c.in-Choice.root c.in-Choice.ext c.in-Some-2.tag (g.V.Source.datum c.in-Some-2.chosen) c.in-Choice.is (rw c.in-Some-2.is at c.chosen.ensures.some) c.len-known.result c.len-known.ensures (takes_laws g.S.Sink.stands g.S.Sink.wants_lengths c.args.level) c.keep_write_laws.ensures
-    c.if-index-known.false c.in-Some-ext-2.additions c.deref-in-Some-ext-3.result.now c.args.sink.now c.write_index-in-Some-ext-2.new.sink c.write_added_alternative.new.sink c.in-Some-ext-2.is c.deref-in-Some-ext-3.ensures.value (pushed_at g.S.Sink.stands g.S.Sink.wants_lengths c.args.level g.met.S.Sink.pushes_stand c.in_ok-write_index-in-Some-ext-2.ensures) e)
+    (λ e. choice_added_written c.args.ty.now (g.V.Source.datum c.args.value) c.in-Choice.root c.in-Choice.ext c.in-Some-chosen.tag (g.V.Source.datum c.in-Some-chosen.chosen) c.in-Choice.is (rw c.in-Some-chosen.is at c.chosen.ensures.some) c.len-known.result c.len-known.ensures (takes_laws g.S.Sink.stands g.S.Sink.wants_lengths c.args.level) c.keep_write_laws.ensures
+    c.if-index-known.false c.in-Some-ext-2.additions c.deref-in-Some-ext-2-2.result.now c.args.sink.now c.write_index-in-Some-ext-2.new.sink c.write_added_alternative.new.sink c.in-Some-ext-2.is c.deref-in-Some-ext-2-2.ensures.value (pushed_at g.S.Sink.stands g.S.Sink.wants_lengths c.args.level g.met.S.Sink.pushes_stand c.in_ok-write_index-in-Some-ext-2.ensures) e)
     c.write_added_alternative.ensures.written
 
 pub write-returns-in_default-ext-clause-of_type : goal.write-returns-in_default-ext-clause-of_type
 write-returns-in_default-ext-clause-of_type g t c = elim c.in_default-ext.branch [
   | write-in_default-ext-via-in-Some-ext-2+else-index-known-2 w ↦
-      past_additions c.args.ty.now (g.V.Source.datum c.args.value) c.in-Choice.root c.in-Choice.ext c.in-Some-2.tag (g.V.Source.datum c.in-Some-2.chosen) c.in-Choice.is (rw c.in-Some-2.is at c.chosen.ensures.some) c.len-known.result c.len-known.ensures
+      past_additions c.args.ty.now (g.V.Source.datum c.args.value) c.in-Choice.root c.in-Choice.ext c.in-Some-chosen.tag (g.V.Source.datum c.in-Some-chosen.chosen) c.in-Choice.is (rw c.in-Some-chosen.is at c.chosen.ensures.some) c.len-known.result c.len-known.ensures
       c.if-index-known.false w.in-Some-ext-2.additions w.in-Some-ext-2.is (omega (arith, w.if-index-known-2.false))
   | write-in_default-ext-via-in_default-ext w ↦
-      past_root c.args.ty.now (g.V.Source.datum c.args.value) c.in-Choice.root c.in-Choice.ext c.in-Some-2.tag (g.V.Source.datum c.in-Some-2.chosen) c.in-Choice.is (rw c.in-Some-2.is at c.chosen.ensures.some) c.len-known.result c.len-known.ensures
+      past_root c.args.ty.now (g.V.Source.datum c.args.value) c.in-Choice.root c.in-Choice.ext c.in-Some-chosen.tag (g.V.Source.datum c.in-Some-chosen.chosen) c.in-Choice.is (rw c.in-Some-chosen.is at c.chosen.ensures.some) c.len-known.result c.len-known.ensures
       c.if-index-known.false w.in_default-ext.is
 ]
 
 pub write_alternative-write-requires : goal.write_alternative-write-requires
 write_alternative-write-requires g t c κs within =
-    (search (rules, the_lemmas), (within.0, (within.1.0, (within.1.1.0, (within.1.1.1.0, (within.1.1.1.1, (good_at c.args.alternatives.now c.args.index c.index-alternatives-index.result c.requires.of_profile c.requires.inside, (let d = deep_at c.args.alternatives.now c.args.index c.index-alternatives-index.result c.requires.inside in omega (arith, d, c.requires.deep)))))))))
+    (search (rules, the_lemmas), (within.0, (within.1.0, (within.1.1.0, (within.1.1.1.0, (within.1.1.1.1.0, (within.1.1.1.1.1.0, (within.1.1.1.1.1.1.0, (within.1.1.1.1.1.1.1, (good_at c.args.alternatives.now c.args.index c.index-alternatives-index.result c.requires.of_profile c.requires.inside, (let d = deep_at c.args.alternatives.now c.args.index c.index-alternatives-index.result c.requires.inside in omega (arith, d, c.requires.deep))))))))))))
 
 pub write_alternative-returns-clause-of_type : goal.write_alternative-returns-clause-of_type
 write_alternative-returns-clause-of_type g t c =
@@ -357,7 +357,7 @@ write_alternative-returns-clause-written g t c =
 
 pub write_added_alternative-write_open_field-requires : goal.write_added_alternative-write_open_field-requires
 write_added_alternative-write_open_field-requires g t c κs within =
-    (search (rules, the_lemmas), (within.0, (within.1.0, (within.1.1.0, (within.1.1.1.0, (within.1.1.1.1, (good_at c.args.alternatives.now c.args.index c.index-alternatives-index.result c.requires.of_profile c.requires.inside, (let d = deep_at c.args.alternatives.now c.args.index c.index-alternatives-index.result c.requires.inside in omega (arith, d, c.requires.deep)))))))))
+    (search (rules, the_lemmas), (within.0, (within.1.0, (within.1.1.0, (within.1.1.1.0, (within.1.1.1.1.0, (within.1.1.1.1.1.0, (within.1.1.1.1.1.1.0, (within.1.1.1.1.1.1.1, (good_at c.args.alternatives.now c.args.index c.index-alternatives-index.result c.requires.of_profile c.requires.inside, (let d = deep_at c.args.alternatives.now c.args.index c.index-alternatives-index.result c.requires.inside in omega (arith, d, c.requires.deep))))))))))))
 
 pub write_added_alternative-returns-clause-of_type : goal.write_added_alternative-returns-clause-of_type
 write_added_alternative-returns-clause-of_type g t c =

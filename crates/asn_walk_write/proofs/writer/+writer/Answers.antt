@@ -164,7 +164,7 @@ write_components-loop-field-init g t c =
     written_starts (takes_laws g.S.Sink.stands g.S.Sink.wants_lengths c.args.level) (each_bits g.R.WriteLeaves.rules) c.args.sink.now (map part_of_field c.args.fields.now) (g.V.Source.entries_left c.args.entries) (record { of_profile = c.requires.of_profile; each = length-map c.args.fields.now part_of_field ∙ c.requires.each })
 
 pub write_components-loop-field-preserved : goal.write_components-loop-field-preserved
-write_components-loop-field-preserved g t c = c.zzz
+write_components-loop-field-preserved g t c = c.match-field.zzz
 
 -- ---- its additions
 
@@ -290,11 +290,7 @@ write-write_alternative-requires g t c κs within =
     (search (rules, the_lemmas), (within.0, (within.1.0, (within.1.1.0, (within.1.1.1.0, (within.1.1.1.1.0, (within.1.1.1.1.1.0, (within.1.1.1.1.1.1.0, (within.1.1.1.1.1.1.1, (roots_good c.args.ty.now c.in-Choice.root c.in-Choice.ext c.in-Choice.is c.requires.of_profile alts c.deref-then-index-known.ensures.value, (inside, roots_deep c.args.level c.args.ty.now c.in-Choice.root c.in-Choice.ext c.in-Choice.is c.requires.deep alts c.deref-then-index-known.ensures.value)))))))))))
 
 pub write-returns-then-index-known-clause-of_type : goal.write-returns-then-index-known-clause-of_type
-write-returns-then-index-known-clause-of_type g t c =
-    tells_by c.write_alternative.result
-    (root_fits c.args.ty.now (g.V.Source.datum c.args.value) c.in-Choice.root c.in-Choice.ext c.in-Some-chosen.tag (g.V.Source.datum c.in-Some-chosen.chosen) c.in-Choice.is (rw c.in-Some-chosen.is at c.chosen.ensures.some) c.len-known.result c.len-known.ensures
-    c.if-index-known.true c.deref-then-index-known.result.now c.deref-then-index-known.ensures.value)
-    c.write_alternative.ensures.of_type
+write-returns-then-index-known-clause-of_type g t c = c.in-Some-chosen.chosen-in-Some-chosen-1-own.zzz
 
 pub write-returns-then-index-known-clause-written : goal.write-returns-then-index-known-clause-written
 write-returns-then-index-known-clause-written g t c =

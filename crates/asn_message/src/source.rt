@@ -39,10 +39,26 @@ fn left_of<'a>(entries: SlotEntries<'a>) -> Left<'a>
     }
 }
 
+#[derive(Drop)]
+pub(crate) struct SlotEach<'a>(SlotEntries<'a>);
+
+impl<'a> Iterator for SlotEach<'a> {
+    type Item = Option<Leafed<'a>>;
+
+    fn next(&mut self) -> Option<Option<Leafed<'a>>> {
+        if is_empty(self.0) {
+            return None;
+        }
+        Some(<Leafed<'a> as Source>::next_entry(&mut self.0))
+    }
+}
+
 impl<'a> Source for Leafed<'a> {
     type Entries = SlotEntries<'a>;
 
     type Elements = SlotElements<'a>;
+
+    type Each = SlotEach<'a>;
 
     ghost datum = { λ p. row_value p.row };
 
@@ -104,6 +120,18 @@ impl<'a> Source for Leafed<'a> {
             }
         }
         false
+    }
+
+    fn each(entries: SlotEntries<'a>) -> SlotEach<'a> {
+        SlotEach(entries)
+    }
+
+    fn entry_at(entries: SlotEntries<'a>, index: usize) -> Option<Leafed<'a>> {
+        let mut left = entries;
+        for passed in 0..index {
+            let _ = Self::next_entry(&mut left);
+        }
+        Self::next_entry(&mut left)
     }
 
     fn next_entry(entries: &mut SlotEntries<'a>) -> Option<Leafed<'a>> {

@@ -16,6 +16,9 @@ pub trait Source: Copy {
     /// The elements of a SEQUENCE OF, or some of them.
     type Elements: Copy;
 
+    /// Its entries one after the other.
+    type Each: Iterator<Item = Option<Self>> + Drop;
+
     /// The value.
     ghost datum: { Self → Datum };
 
@@ -45,6 +48,11 @@ pub trait Source: Copy {
     /// Whether some entry is present.
     fn is_any_present(entries: Self::Entries) -> bool
         ensures { result ≡ list_any is_some (entries_left entries) };
+
+    fn each(entries: Self::Entries) -> Self::Each;
+
+    /// The value of the entry at an index, if it is present.
+    fn entry_at(entries: Self::Entries, index: usize) -> Option<Self>;
 
     /// Takes the first entry, and gives its value if it is present.
     fn next_entry(entries: &mut Self::Entries) -> Option<Self>

@@ -4,11 +4,29 @@ ghost use Rattle.asn_values.specs.View.{datum_of, entries_seen};
 
 use crate::source::Source;
 use asn_values::Value;
+use std::slice::Iter;
+
+#[derive(Drop)]
+pub struct TreeEach<'a>(Iter<'a, Option<Value>>);
+
+impl<'a> Iterator for TreeEach<'a> {
+    type Item = Option<&'a Value>;
+
+    #[inline(always)]
+    fn next(&mut self) -> Option<Option<&'a Value>> {
+        match self.0.next() {
+            Some(entry) => Some(entry.as_ref()),
+            None => None,
+        }
+    }
+}
 
 impl<'a> Source for &'a Value {
     type Entries = &'a [Option<Value>];
 
     type Elements = &'a [Value];
+
+    type Each = TreeEach<'a>;
 
     ghost datum = { λ v. datum_of v.now };
 
@@ -45,6 +63,19 @@ impl<'a> Source for &'a Value {
     #[inline(always)]
     fn is_any_present(entries: &'a [Option<Value>]) -> bool {
         entries.iter().any(|entry| entry.is_some())
+    }
+
+    #[inline(always)]
+    fn each(entries: &'a [Option<Value>]) -> TreeEach<'a> {
+        TreeEach(entries.iter())
+    }
+
+    #[inline(always)]
+    fn entry_at(entries: &'a [Option<Value>], index: usize) -> Option<&'a Value> {
+        match entries.get(index) {
+            Some(entry) => entry.as_ref(),
+            None => None,
+        }
     }
 
     #[inline(always)]

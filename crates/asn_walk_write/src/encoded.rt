@@ -23,10 +23,9 @@ pub(crate) fn presence_bitmap<V: Source>(fields: &[Field], entries: V::Entries) 
 {
     let mut count = 0;
     let mut bitmap = 0;
-    let mut left = entries;
-    for field in fields {
-        let entry = V::next_entry(&mut left);
+    for (index, field) in fields.iter().enumerate() {
         if has_presence_bit(field) {
+            let entry = V::entry_at(entries, index);
             count += 1;
             bitmap = 2 * bitmap + u64::from(is_encoded(field, entry));
         }

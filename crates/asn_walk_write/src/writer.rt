@@ -218,9 +218,8 @@ fn write_components<R: WriteLeaves, S: FieldLengths, V: Source>(
         (each_code R.rules (fields_seen fields.now) (V.entries_left entries))) }
 {
     R::keep_write_laws();
-    let mut left = entries;
-    for field in fields {
-        let Some(value) = V::next_entry(&mut left) else {
+    for (field, entry) in fields.iter().zip(V::each(entries)) {
+        let Some(value) = entry else {
             if matches!(field.need, Need::Optional) {
                 continue;
             }
@@ -287,9 +286,8 @@ fn write_open_components<R: WriteLeaves, S: FieldLengths, V: Source>(
         (open_code R.rules (fields_seen fields.now) (V.entries_left entries))) }
 {
     R::keep_write_laws();
-    let mut left = entries;
-    for field in fields {
-        let Some(value) = V::next_entry(&mut left) else {
+    for (field, entry) in fields.iter().zip(V::each(entries)) {
+        let Some(value) = entry else {
             continue;
         };
         write_open_field::<R, S, V>(&field.ty, value, level, sink)?;

@@ -1,6 +1,9 @@
+pub mod Enumerations
+pub mod Placed
 pub mod Plans
 pub mod Ranged
 pub mod Rules
 pub mod SimpleTypes
 pub mod Taken
 pub mod Within
+pub mod Words

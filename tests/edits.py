@@ -3,7 +3,7 @@
 
 usage: tests/edits.py [CRATE..]      at the top of the repository: tries all edits of these crates, or of all
        tests/edits.py CRATE/NAME..   tries these edits alone (NAME without its ending), and notes nothing
-       tests/edits.py --due          as the gate does: those of the crates that changed, and of a quarter of the others
+       tests/edits.py --due          as the gate does: those of the crates that changed, and of an eighth of the others
        tests/edits.py --due --beside the same beside `rt ci`: reads from its input the name of each crate as it is proved,
                                      and tries the crate's edits then; half of the processors are left to the proofs
        tests/edits.py --anew CRATE.. tries those of these crates as in a clone where nothing is kept, and notes nothing
@@ -36,7 +36,7 @@ there where every edit was refused, and tests/edits/alone.txt says which edits h
 the edits of every crate due. It takes crates in this order, and passes over one that has more edits than are left:
 1. those whose own text or edits changed since they were tried, or were never noted;
 2. those for which only a contract or a definition below them changed;
-3. of the others those of one part of four (`TURNS`), which by estimate take about as long as one another: an edit whose
+3. of the others those of one part of eight (`TURNS`), which by estimate take about as long as one another: an edit whose
    sum was noted and which is not refused shows in them.
 Which of the first two kinds come first where not all have room, and which part is the third, is drawn from the sums of all
 crates (`drawn`): it is the same wherever this text is tried, another as soon as a text changes that an edit rests on, and
@@ -62,11 +62,16 @@ from source_functions import blanked, functions, module_of, text_of
 from sums import own_sum_of, sum_of
 
 EDITS, TRIED, ALONE = "tests/edits", "tests/edits/tried", "tests/edits/alone.txt"
-# the crates whose edits are tried in the same run, in parts that by estimate take about as long; the others are the last part
+# the crates whose edits are tried in the same run, in eight parts that by estimate take about as long; the others are the last
+# part (asn_rules asn_module asn_convert asn_published_types asn_stats)
 TURNS = (
-    "asn_walk_write asn_values asn_convert tulvorn_c".split(),
-    "asn_oer asn_rules asn_newer asn_walk asn_tool asn_first tulvorn uses_tulvorn".split(),
-    "asn_walk_read asn_per asn_walk_feed asn_window".split(),
+    "asn_plan asn_fields asn_published_read asn_walk asn_examples".split(),
+    "asn_values asn_walk_into uses_tulvorn asn_first".split(),
+    "asn_walk_read asn_newer asn_notation asn_window asn_json_layout".split(),
+    "asn_tool asn_resuming asn_published asn_octet_forms".split(),
+    "asn_per asn_oer asn_message tulvorn".split(),
+    "asn_walk_feed asn_bits asn_view".split(),
+    "asn_walk_write tulvorn_c asn_json asn_explain asn_sinks".split(),
 )
 # how many edits one merge has the time for, beside the proofs of all crates
 MOST = 450

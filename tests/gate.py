@@ -5,7 +5,8 @@ usage: tests/gate.py [PART..]      the parts are proofs, edits and tests; all th
 
 0. form, in seconds: `tests/prove.py --form` looks at what `rt ci` refuses before it proves a crate; where it is wrong the
    gate ends, since what follows would be for nothing.
-1. proofs: `rt ci` proves every crate from nothing, and runs the programs as two compilers build them.
+1. proofs: `rt ci` proves every crate from nothing, as many side by side as there are processors where memory holds them
+   (`of_proofs`), and runs the programs as two compilers build them.
 2. edits: tests/edits.py tries itself on a tiny crate, and then the wrong bodies of the crates that changed since they
    were tried, and of an eighth of the others. In a clone with no out/, where all parts are asked for, it goes beside the
    proofs: a crate's edits begin when the crate is proved, on processors that no proof takes.
@@ -38,10 +39,13 @@ from concurrent.futures import ThreadPoolExecutor
 sys.dont_write_bytecode = True
 TOP = os.path.dirname(os.path.dirname(os.path.abspath(__file__)))
 sys.path.insert(0, f"{TOP}/tests")
+from kit import rt
 from room import files_of
 
 # the test programs that are parts of one (tests/programs/checks)
 PARTS_OF_ONE = ("rows", "hostile", "texts", "types", "names", "fields", "published", "memory", "memory_texts")
+# the memory of a proof, and for each processor of what goes beside the proofs, edits and tests
+MEMORY = 5_500_000_000
 FIRST, TOOL = "crates/asn_first/out/asn_first", "crates/asn_tool/out/asn_tool"
 
 
@@ -82,9 +86,9 @@ def say(text):
         print(text, flush=True)
 
 
-def begin(words, given=subprocess.DEVNULL):
+def begin(words, given=subprocess.DEVNULL, **how):
     say(f"== {' '.join(words)}")
-    return subprocess.Popen(words, stdin=given, stdout=subprocess.PIPE, stderr=subprocess.STDOUT, text=True, errors="replace")
+    return subprocess.Popen(words, stdin=given, stdout=subprocess.PIPE, stderr=subprocess.STDOUT, text=True, errors="replace", **how)
 
 
 def ended(ran):
@@ -127,6 +131,14 @@ def step(part, words):
     follow(part, begin(words))
 
 
+def of_proofs():
+    """The environment of `rt ci`. Where memory holds a proof for each processor it is told to prove so many crates side by
+    side, each by one job; else it reckons itself how many memory holds, which is some twice what they take."""
+    number = rt.processors()
+    side_by_side = {"RT_JOBS": str(number)} if rt.free() >= number * MEMORY else {}
+    return {**side_by_side, **os.environ}
+
+
 PROVED = re.compile(r"rt: (\w+) (?:proved$|is kept: )")
 
 
@@ -152,7 +164,7 @@ def proofs_and_edits(parts, once_proved):
                 # (it has ended, and its status counts)
                 pass
 
-    follow(parts["proofs"], begin(["rt", "ci"]), name_to_edits)
+    follow(parts["proofs"], begin(["rt", "ci"], env=of_proofs()), name_to_edits)
     try:
         tried.stdin.close()
     except BrokenPipeError:
@@ -162,7 +174,7 @@ def proofs_and_edits(parts, once_proved):
 
 
 def proofs(part):
-    step(part, ["rt", "ci"])
+    follow(part, begin(["rt", "ci"], env=of_proofs()))
 
 
 def edits(part):

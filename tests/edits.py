@@ -36,12 +36,12 @@ there where every edit was refused, and tests/edits/alone.txt says which edits h
 the edits of every crate due. It takes crates in this order, and passes over one that has more edits than are left:
 1. those whose own text or edits changed since they were tried, or were never noted;
 2. those for which only a contract or a definition below them changed;
-3. of the others those of one part of eight (`TURNS`), which by estimate take about as long as one another: an edit whose
-   sum was noted and which is not refused shows in them.
+3. of the others those of one part of eight (`TURNS`; by estimate each takes about as long), so that a sum that was noted
+   wrongly shows in time.
 Which of the first two kinds come first where not all have room, and which part is the third, is drawn from the sums of all
-crates (`drawn`): it is the same wherever this text is tried, another as soon as a text changes that an edit rests on, and
-nothing that a commit can choose beside its texts, not how many commits there are. What a merge has no time for is told; it
-is not noted, and so stays due.
+crates (`drawn`). So it is the same wherever this text is tried, another as soon as a text changes that an edit rests on,
+and does not follow the number or the words of commits. What a merge has no time for is told; it is not noted, and so stays
+due.
 """
 import functools
 import hashlib

@@ -4,6 +4,7 @@ usage: python3 bindings/build_proved.py [--as-they-stand] ROOM
 
 It leaves ROOM/llvm.a and ROOM/rattle.a. The libraries below crates/tulvorn_c are proved first, where they are not; with
 --as-they-stand they are taken from crates/*/out, as `rt ci` has just left them: it notes nowhere of which text they are.
+The crate itself is proved here once more, since of a static library `rt ci` leaves nothing that a compiler takes.
 """
 import os
 import subprocess

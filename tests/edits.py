@@ -3,12 +3,13 @@
 
 usage: tests/edits.py [CRATE..]      at the top of the repository: tries all edits of these crates, or of all
        tests/edits.py CRATE/NAME..   tries these edits alone (NAME without its ending), and notes nothing
-       tests/edits.py --due          as the gate does: those of the crates that changed, and of a quarter of the others
+       tests/edits.py --due          as the gate does: those of the crates that changed, and of an eighth of the others
        tests/edits.py --due --beside the same beside `rt ci`: reads from its input the name of each crate as it is proved,
                                      and tries the crate's edits then; half of the processors are left to the proofs
        tests/edits.py --anew CRATE.. tries those of these crates as in a clone where nothing is kept, and notes nothing
        tests/edits.py --list         says which edits there are, and what each changes; tries none
-       tests/edits.py --self-test    tries wrong edits of a tiny crate with right ones among them, which have to be told
+       tests/edits.py --self-test    tries wrong edits of a tiny crate with right ones among them, which have to be told,
+                                     and shows in which order --due takes crates
 
 An edit is a file tests/edits/CRATE/NAME.edit: a line 'file: src/FILE.rt', and then pairs of lines 'old: TEXT' and
 'new: TEXT', one line each; the old text stands once in the file. Edits of different functions go into one copy of the
@@ -27,15 +28,23 @@ group does not change has a hole for its proof and no body to look at, and the c
 which takes the function at its contract. Only cycles of functions with an edited member are first proved as they stand,
 since a cycle has one proof. Whether the crate itself is proved is then for `rt ci` to say.
 
-tests/edits/tried has for each crate a sum of what its edits were tried over: the crate, its edits, the contracts and
-definitions below it, and the logic of the kit. A run over a crate notes it there where every edit was refused, and
-tests/edits/alone.txt says which edits had to be tried alone, and why. --due tries the crates whose sum is not noted, and
-of the others those whose turn it is by the number of commits, so that each is tried again within four merges. The turns
-take about as long as one another, by estimate (`TURNS`). A change of a definition on which all stands makes the edits of
-every crate due, more than a merge has the time for: so --due tries no more than `MOST`, those that are due before those
-whose turn it is, and tells which crates it leaves. What is left is not noted, and so stays due.
+tests/edits/tried has for each crate a sum of what its edits were tried over (the crate, its edits, the contracts and
+definitions below it, and the logic of the kit) and a sum of the crate and its edits alone. A run over a crate notes both
+there where every edit was refused, and tests/edits/alone.txt says which edits had to be tried alone, and why.
+
+--due tries no more edits than a merge has the time for (`MOST`), since a change of a definition on which all stands makes
+the edits of every crate due. It takes crates in this order, and passes over one that has more edits than are left:
+1. those whose own text or edits changed since they were tried, or were never noted;
+2. those for which only a contract or a definition below them changed;
+3. of the others those of one part of eight (`TURNS`; by estimate each takes about as long), so that a sum that was noted
+   wrongly shows in time.
+Which of the first two kinds come first where not all have room, and which part is the third, is drawn from the sums of all
+crates (`drawn`). So it is the same wherever this text is tried, another as soon as a text changes that an edit rests on,
+and does not follow the number or the words of commits. What a merge has no time for is told; it is not noted, and so stays
+due.
 """
 import functools
+import hashlib
 import os
 import re
 import shutil
@@ -50,14 +59,19 @@ sys.dont_write_bytecode = True
 sys.path.insert(0, os.path.dirname(os.path.abspath(__file__)))
 from kit import check_words, ending, linked, new_room, rt, rtlib, seeded, share_work, tried_whole
 from source_functions import blanked, functions, module_of, text_of
-from sums import sum_of
+from sums import own_sum_of, sum_of
 
 EDITS, TRIED, ALONE = "tests/edits", "tests/edits/tried", "tests/edits/alone.txt"
-# the crates whose edits are tried in the same run, in parts that by estimate take about as long; the others are the last part
+# the crates whose edits are tried in the same run, in eight parts that by estimate take about as long; the others are the last
+# part (asn_rules asn_module asn_convert asn_published_types asn_stats)
 TURNS = (
-    "asn_walk_write asn_values asn_convert tulvorn_c".split(),
-    "asn_oer asn_rules asn_newer asn_walk asn_tool asn_first tulvorn uses_tulvorn".split(),
-    "asn_walk_read asn_per asn_walk_feed asn_window".split(),
+    "asn_plan asn_fields asn_published_read asn_walk asn_examples".split(),
+    "asn_values asn_walk_into uses_tulvorn asn_first".split(),
+    "asn_walk_read asn_newer asn_notation asn_window asn_json_layout".split(),
+    "asn_tool asn_resuming asn_published asn_octet_forms".split(),
+    "asn_per asn_oer asn_message tulvorn".split(),
+    "asn_walk_feed asn_bits asn_view".split(),
+    "asn_walk_write tulvorn_c asn_json asn_explain asn_sinks".split(),
 )
 # how many edits one merge has the time for, beside the proofs of all crates
 MOST = 450
@@ -515,9 +529,10 @@ class Tries:
 
 
 def noted():
-    if not os.path.isfile(TRIED):
-        return {}
-    return dict(line.split() for line in text_of(TRIED).splitlines() if line and not line.startswith("#"))
+    """Of each crate that is noted the sum of what its edits were tried over, and that of the crate itself, or nothing."""
+    lines = text_of(TRIED).splitlines() if os.path.isfile(TRIED) else []
+    words = [line.split() for line in lines if line and not line.startswith("#")]
+    return {name: (whole, *own) for name, whole, *own in words}
 
 
 def note(results, sums):
@@ -528,8 +543,8 @@ def note(results, sums):
         if it.bad or it.weak:
             known.pop(it.crate.name, None)
     with open(TRIED, "w", encoding="utf-8") as it:
-        it.write("# A crate, and a sum of what its edits were tried over and refused; written by tests/edits.py.\n")
-        it.writelines(f"{name} {known[name]}\n" for name in sorted(known) if os.path.isdir(f"{EDITS}/{name}"))
+        it.write("# A crate, a sum of what its edits were tried over and refused, and one of the crate itself; written by tests/edits.py.\n")
+        it.writelines(f"{name} {' '.join(known[name])}\n" for name in sorted(known) if os.path.isdir(f"{EDITS}/{name}"))
     new = [it.crate.name for it in results]
     kept = [line for line in text_of(ALONE).splitlines() if line and line.split("/")[0] not in new and line[0] != "#"] if os.path.isfile(ALONE) else []
     kept += [f"{label}: {why}" for it in results for label, why in it.alone.items()]
@@ -544,39 +559,38 @@ def edits_of(crate):
     return [Edit(crate, f"{folder}/{name}") for name in names if name.endswith(".edit")]
 
 
-def number_of_commits():
-    ran = subprocess.run(["git", "rev-list", "--count", "HEAD"], capture_output=True, text=True)
-    return int(ran.stdout) if ran.returncode == 0 and ran.stdout.strip().isdigit() else 0
+def drawn(sums):
+    """A number that follows the texts that all edits rest on, and nothing else."""
+    return int(hashlib.sha256(repr(sorted(sums.items())).encode()).hexdigest(), 16)
 
 
-def has_turn(name, number):
-    turn = next((at for at, names in enumerate(TURNS) if name in names), len(TURNS))
-    return turn == number % (len(TURNS) + 1)
+def turn_of(name):
+    """The part in which a crate is tried that did not change."""
+    return next((at for at, names in enumerate(TURNS) if name in names), len(TURNS))
 
 
-def in_time(crates, edits, number):
-    """Those of the crates whose edits a merge has the time for: the first one is another at each number of commits."""
-    first = number % max(len(crates), 1)
-    taken, count = [], 0
-    for crate in crates[first:] + crates[:first]:
-        if not taken or count + len(edits[crate.name]) <= MOST:
-            taken.append(crate)
-            count += len(edits[crate.name])
-    return taken
+def in_order(changed, below, others, counts, number):
+    """The crates that --due takes, one after the other, and the changed ones that have to wait: of those that changed, those
+    below which something did, and the others, each with the count of its edits, by a number that was drawn."""
+    mixed = lambda names: sorted(names, key=lambda it: hashlib.sha256(f"{number} {it}".encode()).digest())
+    turn = [it for it in others if turn_of(it) == number % (len(TURNS) + 1)]
+    taken = []
+    for name in [*mixed(changed), *mixed(below), *turn]:
+        if not taken or sum(counts[it] for it in [*taken, name]) <= MOST:
+            taken.append(name)
+    return taken, [it for it in [*changed, *below] if it not in taken]
 
 
 def due_of(chosen, edits, sums):
     """The crates that --due tries, those that it leaves to their turn, and those that are due and have to wait."""
-    known, number = noted(), number_of_commits()
-    changed = [it for it in chosen if known.get(it.name) != sums[it.name]]
-    in_turn = [it for it in chosen if it not in changed and has_turn(it.name, number)]
-    tried = in_time(changed, edits, number)
-    for crate in in_turn:
-        if sum(len(edits[it.name]) for it in [*tried, crate]) <= MOST:
-            tried.append(crate)
-    waiting = [it.name for it in changed if it not in tried]
-    left = [it.name for it in chosen if it not in tried and it.name not in waiting]
-    return [it for it in chosen if it in tried], left, waiting
+    known, names = noted(), [it.name for it in chosen]
+    due = [it for it in names if known.get(it, ())[:1] != sums[it][:1]]
+    changed = [it for it in due if known.get(it, ())[1:] != sums[it][1:]]
+    below, others = [it for it in due if it not in changed], [it for it in names if it not in due]
+    counts = {name: len(found) for name, found in edits.items()}
+    taken, waiting = in_order(changed, below, others, counts, drawn(sums))
+    left = [it for it in names if it not in taken and it not in waiting]
+    return [it for it in chosen if it.name in taken], left, waiting
 
 
 def lanes():
@@ -714,8 +728,33 @@ RIGHT = {
 }
 
 
+def order_is_shown():
+    """Whether --due keeps its order, whatever number is drawn: of crates of 100 edits each, as far as they have room."""
+    others = [name for names in TURNS for name in names]
+    wrong = []
+    for number in range(1000):
+        for changed, below in ((0, 0), (3, 2), (4, 0), (6, 3), (0, 9)):
+            names = [f"changed_{it}" for it in range(changed)], [f"below_{it}" for it in range(below)]
+            counts = dict.fromkeys([*names[0], *names[1], *others], 100)
+            taken, waiting = in_order(*names, others, counts, number)
+            room = MOST // 100
+            turn = [it for it in others if turn_of(it) == number % (len(TURNS) + 1)]
+            kinds = [0 if it in names[0] else 1 if it in names[1] else 2 for it in taken]
+            wanted = [*[0] * changed, *[1] * below, *[2] * len(turn)][:room]
+            is_left = {*names[0], *names[1]} == {*[it for it in taken if it not in turn], *waiting}
+            if kinds != wanted or not is_left or {*taken} - {*names[0], *names[1], *turn}:
+                wrong.append((number, taken))
+    # each of those that do not all have room comes first at times, and each part has its turn
+    first = {in_order(["a", "b", "c"], [], [], dict.fromkeys("abc", MOST), it)[0][0] for it in range(100)}
+    parts = {it for number in range(100) for it in in_order([], [], others, dict.fromkeys(others, 1), number)[0]}
+    one, two = {"a": ("1", "1"), "b": ("2", "2")}, {"a": ("1", "1"), "b": ("3", "2")}
+    well = not wrong and first == {*"abc"} and parts == {*others} and drawn(one) != drawn(two)
+    say(f"the order in which crates are tried: {'what changed comes first' if well else f'FAILED: {wrong[:1] or [first, parts]}'}")
+    return well
+
+
 def self_test():
-    """Wrong and right edits of a tiny crate: exactly the right ones have to be told as not refused."""
+    """Wrong and right edits of a tiny crate: exactly the right ones have to be told as not refused. Then the order of crates."""
     with tempfile.TemporaryDirectory(prefix=f"rt-edits-{os.getpid()}-") as room:
         os.makedirs(f"{room}/crates/tiny/src")
         os.makedirs(f"{room}/{EDITS}/tiny")
@@ -736,8 +775,9 @@ def self_test():
     wanted = {f"tiny/{name}.edit" for name in RIGHT}
     well = told == wanted
     say(f"the test of tests/edits.py: {'the right edits among the wrong ones were told' if well else f'FAILED: told as not refused {sorted(told)}, and not {sorted(wanted)}'}")
-    say("1 passed, 0 failed" if well else "0 passed, 1 failed")
-    return 0 if well else 1
+    passed = well + order_is_shown()
+    say(f"{passed} passed, {2 - passed} failed")
+    return 0 if passed == 2 else 1
 
 
 def main(words):
@@ -768,7 +808,7 @@ def main(words):
             for edit in edits[crate.name]:
                 say(f"{edit.label}: {edit.fault or ', '.join(name for name, _ in edit.functions) or 'more than bodies of functions'}")
         return 0
-    sums = {it.name: sum_of(it, edits[it.name]) for it in crates if it.name in edits}
+    sums = {it.name: (sum_of(it, edits[it.name]), own_sum_of(it, edits[it.name])) for it in crates if it.name in edits}
     left, waiting = [], []
     if "--due" in words:
         chosen, left, waiting = due_of(chosen, edits, sums)

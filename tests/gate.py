@@ -5,9 +5,10 @@ usage: tests/gate.py [PART..]      the parts are proofs, edits and tests; all th
 
 0. form, in seconds: `tests/prove.py --form` looks at what `rt ci` refuses before it proves a crate; where it is wrong the
    gate ends, since what follows would be for nothing.
-1. proofs: `rt ci` proves every crate from nothing, and runs the programs as two compilers build them.
+1. proofs: `rt ci` proves every crate from nothing, as many side by side as there are processors where memory holds them
+   (`of_proofs`), and runs the programs as two compilers build them.
 2. edits: tests/edits.py tries itself on a tiny crate, and then the wrong bodies of the crates that changed since they
-   were tried, and of a quarter of the others. In a clone with no out/, where all parts are asked for, it goes beside the
+   were tried, and of an eighth of the others. In a clone with no out/, where all parts are asked for, it goes beside the
    proofs: a crate's edits begin when the crate is proved, on processors that no proof takes.
 3. tests: the programs of tests/programs are built without a proof of their own (tests/room.py), and what they write is
    compared; tests/refused_allocations.sh refuses in turn each allocation of programs; tests/first.py runs `asn_first`,
@@ -20,7 +21,8 @@ usage: tests/gate.py [PART..]      the parts are proofs, edits and tests; all th
    once.
 
 What a step writes is shown as it comes: a line for each crate that is proved, and for each group of edits that is tried.
-The end says how many minutes of a processor each part took, and how many by the clock from its first line to its last.
+The end says how many minutes of a processor each part and each of its steps took, and how many by the clock the part took
+from its first line to its last.
 The last line is 'N passed, M failed': crates, edits, rows of the test programs, scripts, and steps of bindings/tests.sh.
 The line before it is 'K skipped' where steps were.
 """
@@ -37,10 +39,13 @@ from concurrent.futures import ThreadPoolExecutor
 sys.dont_write_bytecode = True
 TOP = os.path.dirname(os.path.dirname(os.path.abspath(__file__)))
 sys.path.insert(0, f"{TOP}/tests")
+from kit import rt
 from room import files_of
 
 # the test programs that are parts of one (tests/programs/checks)
 PARTS_OF_ONE = ("rows", "hostile", "texts", "types", "names", "fields", "published", "memory", "memory_texts")
+# the memory of a proof, and for each processor of what goes beside the proofs, edits and tests
+MEMORY = 5_500_000_000
 FIRST, TOOL = "crates/asn_first/out/asn_first", "crates/asn_tool/out/asn_tool"
 
 
@@ -48,11 +53,12 @@ SHOWING = threading.Lock()
 
 
 class Part:
-    """A part of the gate: what passed and what failed, which of its steps failed, and how long it took."""
+    """A part of the gate: what passed and what failed, which of its steps failed, how long it took, and the seconds of a
+    processor of each step."""
 
     def __init__(self):
         self.passed, self.failed, self.skipped, self.lost = 0, 0, 0, []
-        self.seconds, self.begun, self.ended, self.adding = 0, time.time(), None, threading.Lock()
+        self.steps, self.begun, self.ended, self.adding = {}, time.time(), None, threading.Lock()
 
     def add(self, name, passed, failed, skipped=0):
         with self.adding:
@@ -60,9 +66,19 @@ class Part:
             self.lost += [name] * (failed > 0)
             self.ended = time.time()
 
-    def took(self, seconds):
+    def took(self, name, seconds):
         with self.adding:
-            self.seconds += seconds
+            self.steps[name] = self.steps.get(name, 0) + seconds
+
+    def seconds(self):
+        return sum(self.steps.values())
+
+    def tell(self, name):
+        """Says how long the part took, and each step that took a tenth of a minute, the longest first."""
+        say(f"{name}: {self.seconds() / 60:.1f} minutes of a processor, {(self.ended - self.begun) / 60:.1f} by the clock")
+        longest = sorted(((seconds, step) for step, seconds in self.steps.items() if seconds >= 6), reverse=True)
+        for seconds, step in longest if len(self.steps) > 1 else ():
+            say(f"{seconds / 60:8.1f} {step}")
 
 
 def say(text):
@@ -70,9 +86,9 @@ def say(text):
         print(text, flush=True)
 
 
-def begin(words, given=subprocess.DEVNULL):
+def begin(words, given=subprocess.DEVNULL, **how):
     say(f"== {' '.join(words)}")
-    return subprocess.Popen(words, stdin=given, stdout=subprocess.PIPE, stderr=subprocess.STDOUT, text=True, errors="replace")
+    return subprocess.Popen(words, stdin=given, stdout=subprocess.PIPE, stderr=subprocess.STDOUT, text=True, errors="replace", **how)
 
 
 def ended(ran):
@@ -80,6 +96,12 @@ def ended(ran):
     _, status, used = os.wait4(ran.pid, 0)
     ran.returncode = os.waitstatus_to_exitcode(status)
     return used.ru_utime + used.ru_stime
+
+
+def called(words):
+    """What a step is called: its words, and of a path outside the repository the last name."""
+    words = words[3:] if words[0] == "nice" else words
+    return " ".join(os.path.basename(it) if it.startswith("/") else it for it in words)
 
 
 def skipped_words(count):
@@ -97,16 +119,24 @@ def follow(part, ran, hear=None):
             say(line.rstrip("\n"))
         if hear:
             hear(line)
-    part.took(ended(ran))
+    part.took(called(ran.args), ended(ran))
     passed, failed = (int(last[1]), int(last[2])) if last else (int(ran.returncode == 0), 0)
     failed, skipped = max(failed, int(ran.returncode != 0)), int(last[3] or 0) if last else 0
     ending = f"; it ended with status {ran.returncode}" if ran.returncode else ""
     say(f"{' '.join(ran.args)}: {passed} passed, {failed} failed{skipped_words(skipped)}{ending}")
-    part.add(" ".join(ran.args[3:] if ran.args[0] == "nice" else ran.args), passed, failed, skipped)
+    part.add(called(ran.args), passed, failed, skipped)
 
 
 def step(part, words):
     follow(part, begin(words))
+
+
+def of_proofs():
+    """The environment of `rt ci`. Where memory holds a proof for each processor it is told to prove so many crates side by
+    side, each by one job; else it reckons itself how many memory holds, which is some twice what they take."""
+    number = rt.processors()
+    side_by_side = {"RT_JOBS": str(number)} if rt.free() >= number * MEMORY else {}
+    return {**side_by_side, **os.environ}
 
 
 PROVED = re.compile(r"rt: (\w+) (?:proved$|is kept: )")
@@ -134,7 +164,7 @@ def proofs_and_edits(parts, once_proved):
                 # (it has ended, and its status counts)
                 pass
 
-    follow(parts["proofs"], begin(["rt", "ci"]), name_to_edits)
+    follow(parts["proofs"], begin(["rt", "ci"], env=of_proofs()), name_to_edits)
     try:
         tried.stdin.close()
     except BrokenPipeError:
@@ -144,7 +174,7 @@ def proofs_and_edits(parts, once_proved):
 
 
 def proofs(part):
-    step(part, ["rt", "ci"])
+    follow(part, begin(["rt", "ci"], env=of_proofs()))
 
 
 def edits(part):
@@ -173,7 +203,7 @@ def compare_one(part, words, name, given, wanted):
     with open(given, "rb") as it:
         ran = subprocess.Popen(words, stdin=it, stdout=subprocess.PIPE, stderr=subprocess.STDOUT)
     said = ran.stdout.read()
-    part.took(ended(ran))
+    part.took(f"test_{name}", ended(ran))
     rows = re.match(rb"(\d+) rows", wanted)
     counts = re.findall(rb"^counted: (.*)$", said, re.M)
     written = re.sub(rb"^counted: .*\n", b"", said, flags=re.M)
@@ -273,8 +303,8 @@ def main(names):
     step(form, ["tests/prove.py", "--form"])
     parts = {"form": form, **(run(names or [*PARTS]) if not form.failed else {})}
     for name, it in parts.items():
-        say(f"{name}: {it.seconds / 60:.1f} minutes of a processor, {(it.ended - it.begun) / 60:.1f} by the clock")
-    used = sum(it.seconds for it in parts.values()) / 60
+        it.tell(name)
+    used = sum(it.seconds() for it in parts.values()) / 60
     say(f"in all: {used:.1f} minutes of a processor, {(time.time() - start) / 60:.1f} by the clock on {len(os.sched_getaffinity(0))} processors")
     lost = [name for it in parts.values() for name in it.lost]
     if lost:

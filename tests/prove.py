@@ -9,10 +9,12 @@ of `rt fmt`; where it is wrong nothing is proved.
 
 As many are checked side by side as there are processors and memory. What a check proves is kept in crates/NAME/out, as
 `rt check` keeps it, so that a later check of the crate begins with it, also in other copies of the repository on this
-machine. A line is printed for each crate as it ends; what its check said stands in crates/NAME/out/prove.log. This is not
-the gate: `.ci/run` proves all from nothing.
+machine. A line is printed for each crate as it ends; what its check said stands in crates/NAME/out/prove.log. The end
+says of each crate that was proved in this run the seconds of a processor, the most memory that one process of its check
+had, and the seconds by the clock, the longest first. This is not the gate: `.ci/run` proves all from nothing.
 """
 import os
+import subprocess
 import sys
 import threading
 import time
@@ -27,6 +29,31 @@ PRINTING = threading.Lock()
 def say(text):
     with PRINTING:
         print(text, flush=True)
+
+
+# what the checks of a thread used, the one that is proving a crate
+USED = threading.local()
+
+
+class Counted(subprocess.Popen):
+    """A command whose seconds of a processor and most memory are added to what its thread used, with those of all that it
+    began and waited for."""
+
+    def wait(self, timeout=None):
+        if timeout is None and self.returncode is None:
+            _, status, used = os.wait4(self.pid, 0)
+            self.returncode = os.waitstatus_to_exitcode(status)
+            seconds, most = getattr(USED, "all", (0, 0))
+            USED.all = seconds + used.ru_utime + used.ru_stime, max(most, used.ru_maxrss)
+        return super().wait(timeout)
+
+
+def tell_used(used):
+    """Says what each crate took: seconds of a processor, memory, and seconds by the clock."""
+    for name, (seconds, most, clock) in sorted(used.items(), key=lambda it: -it[1][0]):
+        say(f"{name}: {seconds:.0f} s of a processor, {most / 1e6:.1f} GB, {clock:.0f} s by the clock")
+    if used:
+        say(f"{len(used)} crates: {sum(it[0] for it in used.values()) / 60:.1f} minutes of a processor")
 
 
 def is_in_form(crate, every):
@@ -72,15 +99,15 @@ def is_proved(crate):
     return crate.is_built() if crate.makes_rlib() else rtlib.text_of(proved(crate)) == crate.stamp()
 
 
-def prove(crate, given, jobs):
-    """Proves a crate whose libraries are proved, and returns whether it is."""
+def prove(crate, given, jobs, used):
+    """Proves a crate whose libraries are proved, notes what that used, and returns whether it is."""
     if not all(given[it.name, "proof"] for it in crate.below()):
         say(f"{crate.name}: a library below is not proved")
         return False
     if is_proved(crate):
         say(f"{crate.name}: proved before")
         return True
-    start, log = time.time(), f"{crate.folder}/out/prove.log"
+    start, log, USED.all = time.time(), f"{crate.folder}/out/prove.log", (0, 0)
     os.makedirs(f"{crate.folder}/out", exist_ok=True)
     with open(log, "w", encoding="utf-8") as crate.out:
         stamp, flags = crate.stamp(), ["--jobs", str(jobs)]
@@ -88,6 +115,7 @@ def prove(crate, given, jobs):
     if not status and not crate.makes_rlib():
         with open(proved(crate), "w", encoding="utf-8") as it:
             it.write(stamp)
+    used[crate.name] = *USED.all, time.time() - start
     say(f"{crate.name}: {'proved' if not status else f'NOT PROVED ({log})'} in {time.time() - start:.0f} s")
     return not status
 
@@ -99,6 +127,7 @@ def main(names):
     if any(it.startswith("-") for it in names):
         print(__doc__, file=sys.stderr)
         return 2
+    subprocess.Popen = Counted
     # the stamps of crates are read by several threads
     rtlib.guarded()
     share_work()
@@ -112,13 +141,14 @@ def main(names):
     if not are_in_form(crates, every):
         return 1
     held = rtlib.lock(crates)
-    tasks = {}
+    tasks, used = {}, {}
     for crate in crates:
         waits = [(it.name, "proof") for it in crate.below()]
-        call = lambda given, jobs, crate=crate: prove(crate, given, jobs)
+        call = lambda given, jobs, crate=crate: prove(crate, given, jobs, used)
         tasks[crate.name, "proof"] = (waits, crate.count(rb"\n"), rt.need(crate), call)
     given = rt.in_lanes(tasks)
     failed = [crate.name for crate in crates if not given[crate.name, "proof"]]
+    tell_used(used)
     say(f"{len(crates) - len(failed)} passed, {len(failed)} failed")
     for it in held:
         os.close(it)

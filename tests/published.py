@@ -339,24 +339,36 @@ def told_well(ran):
     return status in (0, 1) and out.endswith(b"END\n") or status == 2 and not out and b".asn:" in line or status == 2 and line.startswith(b"not read: ")
 
 
+def measured(program, small, large):
+    """A run of the smaller text and one of the larger, the shorter of two runs where the first of the larger does not show by
+    itself that its time is well."""
+    again = lambda ran, words: min(ran, run(program, words, whole=False), key=lambda it: it[3])
+    one, two = run(program, small, whole=False), run(program, large, whole=False)
+    if two[3] > SECONDS:
+        one = again(one, small)
+    if two[3] > TIMES * one[3] + SECONDS:
+        two = again(two, large)
+    return one, two
+
+
 def hostile(count, program):
     for name, (most, texts) in HOSTILE.items():
-        took = []
-        for size in (most, 2 * most):
-            with tempfile.TemporaryDirectory(prefix="tulvorn-published-") as room:
-                words = ["flatten", "--report", "text", *written(room, texts, size)]
-                ran = min((run(program, words, whole=False) for _ in range(2)), key=lambda it: it[3])
-            took.append(ran)
+        with tempfile.TemporaryDirectory(prefix="tulvorn-published-") as above:
+            rooms = {size: f"{above}/{size}" for size in (most, 2 * most)}
+            for room in rooms.values():
+                os.mkdir(room)
+            words = [["flatten", "--report", "text", *written(room, texts, size)] for size, room in rooms.items()]
+            took = dict(zip(rooms, measured(program, *words)))
+        for size, ran in took.items():
             if name in LINES:
                 first = ran[2].split(b"\n")[0].decode(errors="replace")
-                count.add(first == f"{room}/0.asn:{LINES[name](size)}", f"{name}, {size}: told is {first[:200]}")
+                count.add(first == f"{rooms[size]}/0.asn:{LINES[name](size)}", f"{name}, {size}: told is {first[:200]}")
             count.add(told_well(ran), f"{name}, {size}: status {ran[0]}, {ran[1]}, {ran[2][:200]}")
             if name == "types of a module" and size == most:
                 count.add(ran[3] <= 2 and ran[4] <= 200, f"{size} types: {ran[3]:.2f} s, {ran[4]:.0f} MB")
-        one, two = took
-        told = two[2].split(b"\n")[0].decode(errors="replace").replace(room + "/", "")
-        for it, ran in ((most, one), (2 * most, two)):
-            print(f"{name}, {it}: {ran[3]:.2f} s, {ran[4]:.0f} MB", flush=True)
+            print(f"{name}, {size}: {ran[3]:.2f} s, {ran[4]:.0f} MB", flush=True)
+        one, two = took.values()
+        told = two[2].split(b"\n")[0].decode(errors="replace").replace(rooms[2 * most] + "/", "")
         print(f"    status {two[0]} {told if len(told) < 110 else told[:70] + ' .. ' + told[-40:]}", flush=True)
         count.add(two[3] <= TIMES * one[3] + SECONDS, f"{name}: {one[3]:.2f} s, and twice as much {two[3]:.2f} s")
 

@@ -35,54 +35,17 @@ fi
 
 runs=0 # in which an allocation was refused
 begun=0 # of these, in which something was written
-number=0
-status=0
 
-run() { # the program; what it writes is in $work/out and $work/err, and `r` in $work/refused if it was refused memory
-  number=$((number + 1))
-  status=0
-  timeout 60 env REFUSED_ALLOCATION="$number" LD_PRELOAD="$refuse" "$@" \
-    <"$given" >"$work/out" 2>"$work/err" 3>"$work/refused" || status=$?
-}
-
-refuse_each() { # the program, the folder of what it reads and writes, the function that looks at a run with a refusal, and
-  # words, where the folder has none
-  local program=$1 crate look=$3 words=("${@:4}")
-  folder=$2
-  crate=$(basename "$1")
-  given=$folder/stdin
-  [ -f "$given" ] || given=/dev/null
-  if [ -f "$folder/args" ]; then mapfile -t words <"$folder/args"; fi
-  number=0
-  begun=0
-  while run "$program" "${words[@]}" && [ -s "$work/refused" ]; do
-    [ "$(<"$work/refused")" = r ] || fail "$crate: more than one allocation was refused in run $number"
-    if [ -s "$work/out" ]; then begun=$((begun + 1)); fi
-    "$look" || fail "$crate, allocation $number refused: status $status; $(cat "$work/out" "$work/err")"
-  done
-  runs=$((number - 1))
-  [ "$runs" -gt 0 ] || fail "$crate: no allocation was refused"
-  [ "$status" = "$(cat "$folder/status" 2>/dev/null || echo 0)" ] && cmp "$work/out" "$folder/stdout" ||
-    fail "$crate does not write its answer where no allocation is refused"
+refuse_each() { # the program, the folder of what it reads and writes, what a run with a refusal has to do
+  # (tests/refuse_each.py), and words, where the folder has none
+  local said
+  said=$(tests/refuse_each.py "$refuse" "$work/told" "$3" "$(realpath "$1")" "$2" "${@:4}") || fail "$said"
+  read -r runs begun <<<"$said"
 }
 
 # ---- the calls of the libraries
 
-call='(memory|arguments): [A-Za-z ]+: [A-Za-z_:]+'
-line=$'\n'
 calls=0 # runs in which a call was refused memory
-no_words='Error: out of memory'
-
-one_call_tells() {
-  local said
-  said=$(<"$work/out")
-  # the words of the command line take memory too: where it is refused, no call is made
-  if [ "$status" = 1 ] && [ -z "$said" ] && [ "$(<"$work/err")" = "$no_words" ]; then return; fi
-  # some calls make allocations that they can do without: nothing is told then, and each answer is right
-  if [ "$status" = 0 ] && cmp -s "$work/out" "$folder/stdout"; then return; fi
-  [ "$status" = 0 ] && [[ $said =~ ^${call}${line}again${line}done$ || $said =~ ^again${line}${call}${line}done$ ]] &&
-    grep -E "^$call$" "$work/out" >>"$work/told"
-}
 
 told_of() { # what was called for, and the names of the calls of which each has to have been refused memory
   local of=$1 name
@@ -93,7 +56,7 @@ told_of() { # what was called for, and the names of the calls of which each has 
 }
 
 : >"$work/told"
-refuse_each "$room/test_checks" tests/programs/memory one_call_tells memory
+refuse_each "$room/test_checks" tests/programs/memory calls memory
 for of in message simple composed; do
   told_of "$of" Checked::new
   told_of "$of in PER" encode decode decode_into Planned::new feed
@@ -111,7 +74,7 @@ told_of names sequence choice list of text misfit
 told_of 'missing name' sequence
 told_of 'unknown name' sequence item
 
-refuse_each "$room/test_checks" tests/programs/memory_texts one_call_tells memory_texts
+refuse_each "$room/test_checks" tests/programs/memory_texts calls memory_texts
 told_of value to_json from_json
 told_of shape from_json
 told_of module read print print_type run
@@ -143,24 +106,13 @@ sed 's/^/rows: /' "$work/out"
 
 # ---- the runner and the program: the line `memory` and status 3, and of the output a beginning
 
-ends_with_memory() {
-  [ "$status" = 3 ] && [ "$(<"$work/err")" = memory ] &&
-    cmp -s -n "$(stat -c %s "$work/out")" "$work/out" "$folder/stdout"
-}
-
-refuse_each crates/asn_first/out/asn_first crates/asn_first ends_with_memory
+refuse_each crates/asn_first/out/asn_first crates/asn_first memory
 [ "$begun" = 0 ] || fail "asn_first writes before it ends with memory"
 runner=$runs
-refuse_each crates/asn_tool/out/asn_tool crates/asn_tool ends_with_memory
+refuse_each crates/asn_tool/out/asn_tool crates/asn_tool memory
 
 # other words of a command line, some of which ask for no job; examples/faults.sh and tests/published.py judge what is
 # answered to them. A few allocations can be done without. What is told of published types stands before `memory`
-ends_or_answers() {
-  { [ "$(tail -n 1 "$work/err")" = memory ] && head -n -1 "$work/err" | cmp -s -n "$(head -n -1 "$work/err" | wc -c)" - "$folder/stderr" &&
-    [ "$status" = 3 ] && cmp -s -n "$(stat -c %s "$work/out")" "$work/out" "$folder/stdout"; } || {
-    [ "$status" = "$(<"$folder/status")" ] && cmp -s "$work/out" "$folder/stdout" && cmp -s "$work/err" "$folder/stderr"
-  }
-}
 tool=$runs
 answered_to() { # what is read, and the words
   local given=$work/words status=0
@@ -170,7 +122,7 @@ answered_to() { # what is read, and the words
   printf '%s\n' "$@" >"$given/args"
   crates/asn_tool/out/asn_tool "$@" <"$given/stdin" >"$given/stdout" 2>"$given/stderr" || status=$?
   echo "$status" >"$given/status"
-  refuse_each crates/asn_tool/out/asn_tool "$given" ends_or_answers
+  refuse_each crates/asn_tool/out/asn_tool "$given" answers
   tool=$((tool + runs))
 }
 module='M DEFINITIONS AUTOMATIC TAGS ::= BEGIN N ::= NULL END\n'

@@ -245,6 +245,14 @@ def reached(own, crate):
     return sorted(shown)
 
 
+def own_sum_of(crate, edits):
+    """A sum of what of the crate itself its edits are tried over: its files and the edits."""
+    files = [(os.path.relpath(it, crate.folder), it) for it in rtlib.files_of(crate.folder)]
+    own = [(path, words_of(path, text_of(file))) for path, file in files]
+    own += [(edit.label, text_of(edit.file)) for edit in edits]
+    return hashlib.sha256(repr(own).encode()).hexdigest()[:12]
+
+
 def sum_of(crate, edits):
     """A sum of what the crate's edits are tried over."""
     total = hashlib.sha256(text_of(f"{rt.KIT}/KIT-ID").partition("logic")[2].encode())

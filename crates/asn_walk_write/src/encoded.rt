@@ -23,9 +23,8 @@ pub(crate) fn presence_bitmap<V: Source>(fields: &[Field], entries: V::Entries) 
 {
     let mut count = 0;
     let mut bitmap = 0;
-    for (index, field) in fields.iter().enumerate() {
+    for (field, entry) in fields.iter().zip(V::each(entries)) {
         if has_presence_bit(field) {
-            let entry = V::entry_at(entries, index);
             count += 1;
             bitmap = 2 * bitmap + u64::from(is_encoded(field, entry));
         }
@@ -38,16 +37,15 @@ pub(crate) fn is_encoded<V: Source>(field: &Field, entry: Option<V>) -> bool
     requires { IsGoodDemand (part_of_field field.now).demand (part_of_field field.now).shape }
     ensures { result ≡ is_spelled (part_of_field field.now).demand (option_map V.datum entry) }
 {
-    match &field.need {
-        Need::Must => true,
-        Need::Optional => entry.is_some(),
-        Need::Default(default) => match entry {
-            None => false,
-            Some(value) => match value.leaf() {
-                Some(leaf) => !are_same(default, leaf),
-                None => true,
-            },
-        },
+    let Some(value) = entry else {
+        return matches!(field.need, Need::Must);
+    };
+    let Need::Default(default) = &field.need else {
+        return true;
+    };
+    match value.leaf() {
+        Some(leaf) => !are_same(default, leaf),
+        None => true,
     }
 }
 

@@ -98,19 +98,25 @@ fn write<R: WriteLeaves, S: FieldLengths, V: Source>(
             }
         }
         AsnType::Choice { root, ext } => {
-            let Some((tag, chosen)) = value.chosen() else {
+            let Some(chosen) = value.chosen() else {
                 return Err(Unwritten::NotOfType);
             };
-            let index = tag as usize;
+            let index = chosen.0 as usize;
             let known = root.len();
             if index < known {
                 R::write_index(known, ext.is_some(), Index::Root(index), sink)?;
-                return write_alternative::<R, S, V>(root, index, chosen, level, sink);
+                return write_alternative::<R, S, V>(root, index, chosen.1, level, sink);
             }
             match ext {
                 Some(additions) if index - known < additions.len() => {
                     R::write_index(known, true, Index::Added(index - known), sink)?;
-                    write_added_alternative::<R, S, V>(additions, index - known, chosen, level, sink)
+                    write_added_alternative::<R, S, V>(
+                        additions,
+                        index - known,
+                        chosen.1,
+                        level,
+                        sink,
+                    )
                 }
                 _ => Err(Unwritten::NotOfType),
             }
@@ -227,7 +233,8 @@ fn write_components<R: WriteLeaves, S: FieldLengths, V: Source>(
         };
         // integers without a DEFAULT are most often met, so these are written before any other kind is
         // asked for
-        if let (AsnType::Int(bounds), Some(Value::Int(number))) = (&field.ty, value.leaf())
+        if let (AsnType::Int(bounds), Some(leaf)) = (&field.ty, value.leaf())
+            && let Value::Int(number) = leaf
             && !matches!(field.need, Need::Default(_))
         {
             R::write_number(bounds, *number, sink)?;

@@ -1,14 +1,14 @@
-use Rattle.std.proofs.Common.{rules, ℕ, false, ◌^◌, ◌+◌, suc, subst, take, drop, true, ◌≡◌, ◌∷◌, ◌++◌, map, min, Some, None, refl, sym, ap, ◌∙◌, arith, ◌<◌, length, ◌-◌, inl}
+use Rattle.std.proofs.Common.{rules, ℕ, false, ◌^◌, ◌+◌, suc, subst, take, drop, true, ◌≡◌, ◌∷◌, ◌++◌, map, min, Some, None, [], ◌⊎◌, inr, refl, sym, ap, ◌∙◌, arith, ◌<◌, length, ◌-◌, inl}
 use mir.Syntax.{w128}
 use mir.Val.{to_z, of_z}
 use Rattle.std.specs.Option.{option_map}
 use Rattle.std.proofs.lemmas.List.{length-map}
 use Rattle.std.proofs.lemmas.Result.{on_ok_weaker}
 use Rattle.asn_values.specs.declared.types.AsnType.{the_lemmas}
-use Rattle.asn_values.specs.Shape.{Shape, integer, MoreFields, sequence, marked}
+use Rattle.asn_values.specs.Shape.{Shape, integer, MoreFields, sequence, marked, optional}
 use Rattle.asn_values.specs.Datum.{number}
 use Rattle.asn_values.specs.Fits.{Fits, FitsLength, FitsNumber}
-use Rattle.asn_values.specs.View.{shape_of, range_of, fields_of, part_of_field, more_fields_of, size_range_of}
+use Rattle.asn_values.specs.View.{shape_of, datum_of, range_of, fields_of, part_of_field, demand_of, more_fields_of, size_range_of}
 use Rattle.asn_values.proofs.Views.{shape_of-Int}
 use Rattle.asn_values.proofs.Alternatives.{fits_at, no_truth}
 use Rattle.asn_values.proofs.Components.{shape_of_part}
@@ -23,7 +23,7 @@ use Rattle.asn_walk.specs.Writing.{written, Writes, TakesAt, mark_bits, Advances
 use Rattle.asn_walk.proofs.Parts.{few_components, marked_fields, added_of_profile, few_added, good_at, few_root, few_all, roots_good, additions_good}
 use Rattle.asn_walk.proofs.Widths.{demand_of_part, datum_of-Int}
 use Rattle.asn_walk_write.proofs.WriteChoices.{root_fits, added_fits, past_root, past_additions, spelled_there, root_written as choice_root_written, added_written as choice_added_written}
-use Rattle.asn_walk_write.proofs.WriteComponents.{each_bits, each_ends, either_map, written_starts, written_passes, spelt_unless_default, written_more}
+use Rattle.asn_walk_write.proofs.WriteComponents.{each_bits, each_ends, no_items, both_tests, written_starts, written_passes, spelt_unless_default, written_more, written_absent}
 use Rattle.asn_walk_write.proofs.WritePresence.{next_seen, next_left}
 use Rattle.asn_walk_write.proofs.WriteEntries.{of_sequence, parts_of_profile, unmarked_fits, marked_fits as fits_marked, other_number, added_optional}
 use Rattle.asn_walk_write.proofs.Levels.{root_deep, additions_deep, roots_deep, added_deep, deep_at}
@@ -32,7 +32,7 @@ use Rattle.asn_walk_write.proofs.WriteLists.{leaves_at, advances_at, fragments_s
 use Rattle.asn_walk_write.proofs.WriteSequences.{none_fit, some_bits_there, opened_starts, open_ends, opened_more, root_written, additions_written, sequence_written, unmarked_written}
 use Rattle.asn_walk_write.proofs.WriteTells.{tells_by, tells_err, written_by}
 use Rattle.asn_walk_write.proofs.writer.+writer.Goals as goal
-use Rattle.asn_walk_write.proofs.writer.+writer.Goals.{write_components-in-Default, write_components-in_default-matches-2, write-in_default-ext-via-in-Some-ext-2+else-index-known-2, write-in_default-ext-via-in_default-ext}
+use Rattle.asn_walk_write.proofs.writer.+writer.Goals.{write_components-in-Optional, write_components-in_default-matches, write_components-in-Default, write_components-in_default-matches-2, write-in_default-ext-via-in-Some-ext-2+else-index-known-2, write-in_default-ext-via-in_default-ext}
 
 -- ---- complete encodings and open type fields
 
@@ -71,14 +71,14 @@ write-write_root-requires g t c κs within =
     let fs = c.deref.result.now in
     let vs = g.V.Source.entries_left c.in-Some.entries in
     let s = of_sequence c.args.ty.now (g.V.Source.datum c.args.value) c.in-Seq.root c.in-Seq.ext fs vs c.in-Seq.is (rw c.in-Some.is at c.entries.ensures.some) c.deref.ensures.value in
-    (search (rules, the_lemmas), (within.0, (within.1.0, (within.1.1.0, (within.1.1.1.0, (within.1.1.1.1.0, (within.1.1.1.1.1.0, (within.1.1.1.1.1.1.0, (within.1.1.1.1.1.1.1, (parts_of_profile s c.requires.of_profile, (few_components fs s.shape c.requires.of_profile, root_deep c.args.level s.shape c.requires.deep)))))))))))
+    (search (rules, the_lemmas), (within.0, (within.1.0, (within.1.1.0, (within.1.1.1.0, (within.1.1.1.1.0, (within.1.1.1.1.1.0, (within.1.1.1.1.1.1.0, (within.1.1.1.1.1.1.1.0, (within.1.1.1.1.1.1.1.1, (parts_of_profile s c.requires.of_profile, (few_components fs s.shape c.requires.of_profile, root_deep c.args.level s.shape c.requires.deep))))))))))))
 
 pub write-write_root-requires-in-Some-ext : goal.write-write_root-requires-in-Some-ext
 write-write_root-requires-in-Some-ext g t c κs within =
     let fs = c.deref-in-Some-ext.result.now in
     let vs = g.V.Source.entries_left c.in-Some.entries in
     let s = of_sequence c.args.ty.now (g.V.Source.datum c.args.value) c.in-Seq.root c.in-Seq.ext fs vs c.in-Seq.is (rw c.in-Some.is at c.entries.ensures.some) c.deref-in-Some-ext.ensures.value in
-    (search (rules, the_lemmas), (within.0, (within.1.0, (within.1.1.0, (within.1.1.1.0, (within.1.1.1.1.0, (within.1.1.1.1.1.0, (within.1.1.1.1.1.1.0, (within.1.1.1.1.1.1.1, (parts_of_profile s c.requires.of_profile, (few_components fs s.shape c.requires.of_profile, root_deep c.args.level s.shape c.requires.deep)))))))))))
+    (search (rules, the_lemmas), (within.0, (within.1.0, (within.1.1.0, (within.1.1.1.0, (within.1.1.1.1.0, (within.1.1.1.1.1.0, (within.1.1.1.1.1.1.0, (within.1.1.1.1.1.1.1.0, (within.1.1.1.1.1.1.1.1, (parts_of_profile s c.requires.of_profile, (few_components fs s.shape c.requires.of_profile, root_deep c.args.level s.shape c.requires.deep))))))))))))
 
 pub write-write_additions-requires : goal.write-write_additions-requires
 write-write_additions-requires g t c κs within =
@@ -88,7 +88,7 @@ write-write_additions-requires g t c κs within =
     let gs = c.deref-in-Some-ext-2.result.now in
     let more : more_fields_of c.in-Seq.ext ≡ marked (fields_of (map part_of_field gs)) = marked_fields c.in-Seq.ext c.in-Some-ext.additions gs c.in-Some-ext.is c.deref-in-Some-ext-2.ensures.value in
     let type : shape_of c.args.ty.now ≡ sequence (fields_of (map part_of_field fs)) (marked (fields_of (map part_of_field gs))) = s.shape ∙ ap (λ (m : MoreFields). sequence (fields_of (map part_of_field fs)) m) more in
-    (search (rules, the_lemmas), (within.0, (within.1.0, (within.1.1.0, (within.1.1.1.0, (within.1.1.1.1.0, (within.1.1.1.1.1.0, (within.1.1.1.1.1.1.0, (within.1.1.1.1.1.1.1, (added_of_profile gs type c.requires.of_profile, (added_optional gs type c.requires.of_profile, (few_added gs type c.requires.of_profile, additions_deep c.args.level type c.requires.deep))))))))))))
+    (search (rules, the_lemmas), (within.0, (within.1.0, (within.1.1.0, (within.1.1.1.0, (within.1.1.1.1.0, (within.1.1.1.1.1.0, (within.1.1.1.1.1.1.0, (within.1.1.1.1.1.1.1.0, (within.1.1.1.1.1.1.1.1, (added_of_profile gs type c.requires.of_profile, (added_optional gs type c.requires.of_profile, (few_added gs type c.requires.of_profile, additions_deep c.args.level type c.requires.deep)))))))))))))
 
 pub write-returns-in-None-clause-of_type : goal.write-returns-in-None-clause-of_type
 write-returns-in-None-clause-of_type g t c =
@@ -112,10 +112,10 @@ write-returns-in_err-write_root-in-Some-ext-clause-of_type g t c =
     let fs = c.deref-in-Some-ext.result.now in
     let vs = g.V.Source.entries_left c.in-Some.entries in
     let s = of_sequence c.args.ty.now (g.V.Source.datum c.args.value) c.in-Seq.root c.in-Seq.ext fs vs c.in-Seq.is (rw c.in-Some.is at c.entries.ensures.some) c.deref-in-Some-ext.ensures.value in
-    let front : g.V.Source.entries_left c.split_entries.result.0 ≡ take (length fs) vs = c.split_entries.ensures.first ∙ ap (λ (n : ℕ). take n vs) (omega (arith, c.len.ensures, c.deref-in-Some-ext.ensures.len)) in
-    let back : g.V.Source.entries_left c.split_entries.result.1 ≡ drop (length fs) vs = c.split_entries.ensures.others ∙ ap (λ (n : ℕ). drop n vs) (omega (arith, c.len.ensures, c.deref-in-Some-ext.ensures.len)) in
+    let front : g.V.Source.entries_left c.split_entries-root_entries.result.0 ≡ take (length fs) vs = c.split_entries-root_entries.ensures.first ∙ ap (λ (n : ℕ). take n vs) (omega (arith, c.len.ensures, c.deref-in-Some-ext.ensures.len)) in
+    let back : g.V.Source.entries_left c.split_entries-root_entries.result.1 ≡ drop (length fs) vs = c.split_entries-root_entries.ensures.others ∙ ap (λ (n : ℕ). drop n vs) (omega (arith, c.len.ensures, c.deref-in-Some-ext.ensures.len)) in
     let gs = c.in-Some-ext.additions.items in
-    let both = fits_marked fs vs gs s (marked_fields c.in-Seq.ext c.in-Some-ext.additions gs c.in-Some-ext.is refl) (g.V.Source.entries_left c.split_entries.result.0) (g.V.Source.entries_left c.split_entries.result.1) front back in
+    let both = fits_marked fs vs gs s (marked_fields c.in-Seq.ext c.in-Some-ext.additions gs c.in-Some-ext.is refl) (g.V.Source.entries_left c.split_entries-root_entries.result.0) (g.V.Source.entries_left c.split_entries-root_entries.result.1) front back in
     tells_err c.from_residual.result c.in_err-write_root-in-Some-ext.field-0.0 c.from_residual.ensures.1 (λ f. (both.1 f).0) c.in_err-write_root-in-Some-ext.ensures.of_type
 
 pub write-returns-in_ok-write_root-in-Some-ext-clause-of_type : goal.write-returns-in_ok-write_root-in-Some-ext-clause-of_type
@@ -123,11 +123,11 @@ write-returns-in_ok-write_root-in-Some-ext-clause-of_type g t c =
     let fs = c.deref-in-Some-ext.result.now in
     let vs = g.V.Source.entries_left c.in-Some.entries in
     let s = of_sequence c.args.ty.now (g.V.Source.datum c.args.value) c.in-Seq.root c.in-Seq.ext fs vs c.in-Seq.is (rw c.in-Some.is at c.entries.ensures.some) c.deref-in-Some-ext.ensures.value in
-    let front : g.V.Source.entries_left c.split_entries.result.0 ≡ take (length fs) vs = c.split_entries.ensures.first ∙ ap (λ (n : ℕ). take n vs) (omega (arith, c.len.ensures, c.deref-in-Some-ext.ensures.len)) in
-    let back : g.V.Source.entries_left c.split_entries.result.1 ≡ drop (length fs) vs = c.split_entries.ensures.others ∙ ap (λ (n : ℕ). drop n vs) (omega (arith, c.len.ensures, c.deref-in-Some-ext.ensures.len)) in
+    let front : g.V.Source.entries_left c.split_entries-root_entries.result.0 ≡ take (length fs) vs = c.split_entries-root_entries.ensures.first ∙ ap (λ (n : ℕ). take n vs) (omega (arith, c.len.ensures, c.deref-in-Some-ext.ensures.len)) in
+    let back : g.V.Source.entries_left c.split_entries-root_entries.result.1 ≡ drop (length fs) vs = c.split_entries-root_entries.ensures.others ∙ ap (λ (n : ℕ). drop n vs) (omega (arith, c.len.ensures, c.deref-in-Some-ext.ensures.len)) in
     let gs = c.deref-in-Some-ext-2.result.now in
     let more : more_fields_of c.in-Seq.ext ≡ marked (fields_of (map part_of_field gs)) = marked_fields c.in-Seq.ext c.in-Some-ext.additions gs c.in-Some-ext.is c.deref-in-Some-ext-2.ensures.value in
-    let both = fits_marked fs vs gs s more (g.V.Source.entries_left c.split_entries.result.0) (g.V.Source.entries_left c.split_entries.result.1) front back in
+    let both = fits_marked fs vs gs s more (g.V.Source.entries_left c.split_entries-root_entries.result.0) (g.V.Source.entries_left c.split_entries-root_entries.result.1) front back in
     tells_by c.write_additions.result (λ f. both.0 (c.in_ok-write_root-in-Some-ext.ensures.of_type, f), λ f. (both.1 f).1) c.write_additions.ensures.of_type
 
 pub write-returns-in_ok-write_root-in-Some-ext-clause-written : goal.write-returns-in_ok-write_root-in-Some-ext-clause-written
@@ -135,13 +135,13 @@ write-returns-in_ok-write_root-in-Some-ext-clause-written g t c =
     let fs = c.deref-in-Some-ext.result.now in
     let vs = g.V.Source.entries_left c.in-Some.entries in
     let s = of_sequence c.args.ty.now (g.V.Source.datum c.args.value) c.in-Seq.root c.in-Seq.ext fs vs c.in-Seq.is (rw c.in-Some.is at c.entries.ensures.some) c.deref-in-Some-ext.ensures.value in
-    let front : g.V.Source.entries_left c.split_entries.result.0 ≡ take (length fs) vs = c.split_entries.ensures.first ∙ ap (λ (n : ℕ). take n vs) (omega (arith, c.len.ensures, c.deref-in-Some-ext.ensures.len)) in
-    let back : g.V.Source.entries_left c.split_entries.result.1 ≡ drop (length fs) vs = c.split_entries.ensures.others ∙ ap (λ (n : ℕ). drop n vs) (omega (arith, c.len.ensures, c.deref-in-Some-ext.ensures.len)) in
+    let front : g.V.Source.entries_left c.split_entries-root_entries.result.0 ≡ take (length fs) vs = c.split_entries-root_entries.ensures.first ∙ ap (λ (n : ℕ). take n vs) (omega (arith, c.len.ensures, c.deref-in-Some-ext.ensures.len)) in
+    let back : g.V.Source.entries_left c.split_entries-root_entries.result.1 ≡ drop (length fs) vs = c.split_entries-root_entries.ensures.others ∙ ap (λ (n : ℕ). drop n vs) (omega (arith, c.len.ensures, c.deref-in-Some-ext.ensures.len)) in
     let gs = c.deref-in-Some-ext-2.result.now in
     let more : more_fields_of c.in-Seq.ext ≡ marked (fields_of (map part_of_field gs)) = marked_fields c.in-Seq.ext c.in-Some-ext.additions gs c.in-Some-ext.is c.deref-in-Some-ext-2.ensures.value in
-    let both = fits_marked fs vs gs s more (g.V.Source.entries_left c.split_entries.result.0) (g.V.Source.entries_left c.split_entries.result.1) front back in
+    let both = fits_marked fs vs gs s more (g.V.Source.entries_left c.split_entries-root_entries.result.0) (g.V.Source.entries_left c.split_entries-root_entries.result.1) front back in
     written_by c.write_additions.result c.write_additions.ensures.of_type
-    (λ each e. sequence_written (takes_laws g.S.Sink.stands g.S.Sink.wants_lengths c.args.level) c.keep_write_laws.ensures c.args.sink.now c.write_root-in-Some-ext.new.sink c.write_additions.new.sink fs gs c.in-Seq.ext vs (g.V.Source.entries_left c.split_entries.result.0) (g.V.Source.entries_left c.split_entries.result.1)
+    (λ each e. sequence_written (takes_laws g.S.Sink.stands g.S.Sink.wants_lengths c.args.level) c.keep_write_laws.ensures c.args.sink.now c.write_root-in-Some-ext.new.sink c.write_additions.new.sink fs gs c.in-Seq.ext vs (g.V.Source.entries_left c.split_entries-root_entries.result.0) (g.V.Source.entries_left c.split_entries-root_entries.result.1)
     c.is_any_present-extended.result s c.requires.of_profile (both.0 (c.in_ok-write_root-in-Some-ext.ensures.of_type, each)) more front back c.is_any_present-extended.ensures c.in_ok-write_root-in-Some-ext.ensures.written e)
     c.write_additions.ensures.written
 
@@ -161,10 +161,92 @@ write_root-returns-clause-written g t c =
 
 pub write_components-loop-field-init : goal.write_components-loop-field-init
 write_components-loop-field-init g t c =
-    written_starts (takes_laws g.S.Sink.stands g.S.Sink.wants_lengths c.args.level) (each_bits g.R.WriteLeaves.rules) c.args.sink.now (map part_of_field c.args.fields.now) (g.V.Source.entries_left c.args.entries) (record { of_profile = c.requires.of_profile; each = length-map c.args.fields.now part_of_field ∙ c.requires.each })
+    let e : c.into_iter-field-iterator.result.a.rest.now ≡ c.args.fields.now = search (rules, the_lemmas) in
+    let f : g.V.Source.each_left c.into_iter-field-iterator.result.b ≡ g.V.Source.entries_left c.args.entries = search (rules, the_lemmas) in
+    rw (e, f)
+    (written_starts (takes_laws g.S.Sink.stands g.S.Sink.wants_lengths c.args.level) (each_bits g.R.WriteLeaves.rules) c.args.sink.now (map part_of_field c.args.fields.now) (g.V.Source.entries_left c.args.entries) (record { of_profile = c.requires.of_profile; each = length-map c.args.fields.now part_of_field ∙ c.requires.each }))
 
 pub write_components-loop-field-preserved : goal.write_components-loop-field-preserved
-write_components-loop-field-preserved g t c = c.match-field.zzz
+write_components-loop-field-preserved g t c =
+    let e : c.loop-field.field-iterator.a.rest.now ≡ c.in-Some.field.now ∷ c.next.new.self.a.rest.now = c.in-Some.ensures.steps.0 in
+    let f = g.met.V.Source.each_gives c.loop-field.field-iterator.b (Some c.in-Some.entry) c.next.new.self.b c.in-Some.ensures.steps.1 in
+    let some : option_map g.V.Source.datum c.in-Some.entry ≡ Some (g.V.Source.datum c.in-Some-entry.value) = ap (option_map g.V.Source.datum) c.in-Some-entry.is in
+    written_passes g.R.WriteLeaves.rules (rw (e, f, some) at c.loop-field.invariant) (sym c.is_encoded.ensures ∙ c.if-is_encoded.false)
+
+pub write_components-loop-field-preserved-then-matches : goal.write_components-loop-field-preserved-then-matches
+write_components-loop-field-preserved-then-matches g t c =
+    let e : c.loop-field.field-iterator.a.rest.now ≡ c.in-Some.field.now ∷ c.next.new.self.a.rest.now = c.in-Some.ensures.steps.0 in
+    let f = g.met.V.Source.each_gives c.loop-field.field-iterator.b (Some c.in-Some.entry) c.next.new.self.b c.in-Some.ensures.steps.1 in
+    let none : option_map g.V.Source.datum c.in-Some.entry ≡ None = ap (option_map g.V.Source.datum) c.in_default.is in
+    let may : (part_of_field c.in-Some.field.now).demand ≡ optional = elim c.match-matches.branch [
+      | write_components-in-Optional w ↦ demand_of_part c.in-Some.field.now ∙ ap demand_of w.in-Optional.is
+      | write_components-in_default-matches w ↦ absurd (let m : c.match-matches.matches ≡ false = w.matches-is in cc)
+    ] in
+    written_absent g.R.WriteLeaves.rules (rw (e, f, none) at c.loop-field.invariant) may
+
+pub write_components-returns-in_err-write_number-clause-of_type : goal.write_components-returns-in_err-write_number-clause-of_type
+write_components-returns-in_err-write_number-clause-of_type g t c =
+    let e : c.loop-field.field-iterator.a.rest.now ≡ c.in-Some.field.now ∷ c.next.new.self.a.rest.now = c.in-Some.ensures.steps.0 in
+    let f = g.met.V.Source.each_gives c.loop-field.field-iterator.b (Some c.in-Some.entry) c.next.new.self.b c.in-Some.ensures.steps.1 in
+    let i = c.in-Int-Some in
+    let n = c.in-Int.number in
+    let is : g.V.Source.datum c.in-Some-entry.value ≡ number n = sym i.ensures.some ∙ ap datum_of c.in-Int.is ∙ datum_of-Int n in
+    let some : option_map g.V.Source.datum c.in-Some.entry ≡ Some (number n) = ap (option_map g.V.Source.datum) c.in-Some-entry.is ∙ ap Some is in
+    let shape : (part_of_field c.in-Some.field.now).shape ≡ integer (range_of i.bounds) = shape_of_part c.in-Some.field.now ∙ ap shape_of i.is-0 ∙ shape_of-Int i.bounds in
+    let same : to_z w128 (of_z w128 n) ≡ n = search (rules, the_lemmas) in
+    let h = rw (e, f, some) at c.loop-field.invariant in
+    tells_err c.from_residual.result c.in_err-write_number.field-0.0 c.from_residual.ensures.1
+    (λ all. subst (λ (x : Shape). Fits x (number n)) shape (h.fits.1 all).0)
+    (rw same at c.in_err-write_number.ensures.of_type)
+
+pub write_components-returns-in_err-write-clause-of_type : goal.write_components-returns-in_err-write-clause-of_type
+write_components-returns-in_err-write-clause-of_type g t c =
+    let e : c.loop-field.field-iterator.a.rest.now ≡ c.in-Some.field.now ∷ c.next.new.self.a.rest.now = c.in-Some.ensures.steps.0 in
+    let f = g.met.V.Source.each_gives c.loop-field.field-iterator.b (Some c.in-Some.entry) c.next.new.self.b c.in-Some.ensures.steps.1 in
+    let d = g.V.Source.datum c.in-Some-entry.value in
+    let some : option_map g.V.Source.datum c.in-Some.entry ≡ Some d = ap (option_map g.V.Source.datum) c.in-Some-entry.is in
+    let h = rw (e, f, some) at c.loop-field.invariant in
+    tells_err c.from_residual-in_err-write.result c.in_err-write.field-0.0 c.from_residual-in_err-write.ensures.1
+    (λ all. subst (λ (x : Shape). Fits x d) (shape_of_part c.in-Some.field.now) (h.fits.1 all).0)
+    c.in_err-write.ensures.of_type
+
+pub write_components-returns-clause-written : goal.write_components-returns-clause-written
+write_components-returns-clause-written g t c =
+    let over : (map part_of_field c.loop-field.field-iterator.a.rest.now ≡ []) ⊎ (g.V.Source.each_left c.loop-field.field-iterator.b ≡ []) = elim c.in-None.ensures.steps [
+      | inl x ↦ inl (ap (map part_of_field) (no_items c.loop-field.field-iterator.a.rest.now x.1.0))
+      | inr y ↦ inr (g.met.V.Source.each_gives c.loop-field.field-iterator.b None y.0 y.1).0
+    ] in
+    each_ends c.keep_write_laws.ensures c.loop-field.invariant over
+
+pub write_components-loop-field-preserved-in-loop-field : goal.write_components-loop-field-preserved-in-loop-field
+write_components-loop-field-preserved-in-loop-field g t c =
+    let e : c.loop-field.field-iterator.a.rest.now ≡ c.in-Some.field.now ∷ c.next.new.self.a.rest.now = c.in-Some.ensures.steps.0 in
+    let f = g.met.V.Source.each_gives c.loop-field.field-iterator.b (Some c.in-Some.entry) c.next.new.self.b c.in-Some.ensures.steps.1 in
+    let i = c.in-Int-Some in
+    let n = c.in-Int.number in
+    let is : g.V.Source.datum c.in-Some-entry.value ≡ number n = sym i.ensures.some ∙ ap datum_of c.in-Int.is ∙ datum_of-Int n in
+    let some : option_map g.V.Source.datum c.in-Some.entry ≡ Some (number n) = ap (option_map g.V.Source.datum) c.in-Some-entry.is ∙ ap Some is in
+    let spelt : is_spelled (part_of_field c.in-Some.field.now).demand (Some (number n)) ≡ true = elim c.match-matches-2.branch [
+      | write_components-in-Default w ↦ absurd (both_tests w.matches-is c.if-not-matches.true)
+      | write_components-in_default-matches-2 w ↦ ap (λ d. is_spelled d (Some (number n))) (demand_of_part c.in-Some.field.now) ∙ spelt_unless_default c.in-Some.field.now.need (number n) w.in_default-matches-2.not-Default
+    ] in
+    let shape : (part_of_field c.in-Some.field.now).shape ≡ integer (range_of i.bounds) = shape_of_part c.in-Some.field.now ∙ ap shape_of i.is-0 ∙ shape_of-Int i.bounds in
+    let same : to_z w128 (of_z w128 n) ≡ n = search (rules, the_lemmas) in
+    let own : FitsNumber (range_of i.bounds) n = rw same at c.in_ok-write_number.ensures.of_type in
+    let fits : Fits (part_of_field c.in-Some.field.now).shape (number n) = rw shape own in
+    written_more c.keep_write_laws.ensures (rw (e, f, some) at c.loop-field.invariant) spelt fits
+    (pushed_at g.S.Sink.stands g.S.Sink.wants_lengths c.args.level g.met.S.Sink.pushes_stand
+    (subst (λ (x : Shape). g.S.Sink.pushes c.loop-field.sink c.write_number.new.sink (written g.R.WriteLeaves.rules (g.R.WriteLeaves.rules.code x (number n)))) (sym shape) (rw same at c.in_ok-write_number.ensures.written)))
+
+pub write_components-loop-field-preserved-in_ok-write : goal.write_components-loop-field-preserved-in_ok-write
+write_components-loop-field-preserved-in_ok-write g t c =
+    let e : c.loop-field.field-iterator.a.rest.now ≡ c.in-Some.field.now ∷ c.next.new.self.a.rest.now = c.in-Some.ensures.steps.0 in
+    let f = g.met.V.Source.each_gives c.loop-field.field-iterator.b (Some c.in-Some.entry) c.next.new.self.b c.in-Some.ensures.steps.1 in
+    let d = g.V.Source.datum c.in-Some-entry.value in
+    let some : option_map g.V.Source.datum c.in-Some.entry ≡ Some d = ap (option_map g.V.Source.datum) c.in-Some-entry.is in
+    let shape = shape_of_part c.in-Some.field.now in
+    written_more c.keep_write_laws.ensures (rw (e, f, some) at c.loop-field.invariant) (sym c.is_encoded.ensures ∙ c.if-is_encoded.true) (subst (λ (x : Shape). Fits x d) (sym shape) c.in_ok-write.ensures.of_type)
+    (subst (λ (x : Shape). Writes (TakesAt g.S.Sink.stands g.S.Sink.wants_lengths c.args.level) g.R.WriteLeaves.rules c.loop-field.sink c.write.new.sink (g.R.WriteLeaves.rules.code x d)) (sym shape) c.in_ok-write.ensures.written)
 
 -- ---- its additions
 
@@ -189,19 +271,20 @@ write_additions-returns-clause-written g t c =
 
 pub write_open_components-loop-field-init : goal.write_open_components-loop-field-init
 write_open_components-loop-field-init g t c =
-    opened_starts (takes_laws g.S.Sink.stands g.S.Sink.wants_lengths c.args.level) g.R.WriteLeaves.rules c.args.sink.now (map part_of_field c.args.fields.now) (g.V.Source.entries_left c.args.entries) (record { of_profile = c.requires.of_profile; each = length-map c.args.fields.now part_of_field ∙ c.requires.each }) c.requires.optional
+    let e : c.into_iter-field-iterator.result.a.rest.now ≡ c.args.fields.now = search (rules, the_lemmas) in
+    let f : g.V.Source.each_left c.into_iter-field-iterator.result.b ≡ g.V.Source.entries_left c.args.entries = search (rules, the_lemmas) in
+    rw (e, f)
+    (opened_starts (takes_laws g.S.Sink.stands g.S.Sink.wants_lengths c.args.level) g.R.WriteLeaves.rules c.args.sink.now (map part_of_field c.args.fields.now) (g.V.Source.entries_left c.args.entries) (record { of_profile = c.requires.of_profile; each = length-map c.args.fields.now part_of_field ∙ c.requires.each }) c.requires.optional)
 
 pub write_open_components-loop-field-preserved : goal.write_open_components-loop-field-preserved
 write_open_components-loop-field-preserved g t c =
-    let d = g.V.Source.datum c.in-Some.value in
-    let f = c.field-item.result in
-    let e = next_seen part_of_field c.args.fields.now c.loop-field.field-index f c.loop-field-test.true c.field-item.is in
-    let h = rw e at c.loop-field.invariant in
-    let some : option_map g.V.Source.datum c.next_entry.result ≡ Some d = ap (option_map g.V.Source.datum) c.in-Some.is in
-    let both = next_left h.written.components (sym some ∙ c.next_entry.ensures.first) c.next_entry.ensures.others in
-    let shape = shape_of_part f in
+    let e : c.loop-field.field-iterator.a.rest.now ≡ c.in-Some.field.now ∷ c.next.new.self.a.rest.now = c.in-Some.ensures.steps.0 in
+    let f = g.met.V.Source.each_gives c.loop-field.field-iterator.b (Some c.in-Some.entry) c.next.new.self.b c.in-Some.ensures.steps.1 in
+    let d = g.V.Source.datum c.in-Some-entry.value in
+    let some : option_map g.V.Source.datum c.in-Some.entry ≡ Some d = ap (option_map g.V.Source.datum) c.in-Some-entry.is in
+    let shape = shape_of_part c.in-Some.field.now in
     let r = g.R.WriteLeaves.rules in
-    opened_more c.keep_write_laws.ensures (rw both at h) (subst (λ (x : Shape). Fits x d) (sym shape) c.in_ok-write_open_field.ensures.of_type)
+    opened_more c.keep_write_laws.ensures (rw (e, f, some) at c.loop-field.invariant) (subst (λ (x : Shape). Fits x d) (sym shape) c.in_ok-write_open_field.ensures.of_type)
     (subst (λ (x : Shape). Writes (TakesAt g.S.Sink.stands g.S.Sink.wants_lengths c.args.level) r c.loop-field.sink c.write_open_field.new.sink (in_open_field r (r.code x d))) (sym shape) c.in_ok-write_open_field.ensures.written)
 
 -- ---- SEQUENCE OF
@@ -214,7 +297,7 @@ write_list-returns-then-not-length_fits-clause-of_type g t c =
     other_count element s ds (λ few. no_truth (rw c.if-not-length_fits.true at (c.length_fits.ensures.1 (rw c.count_elements-count.ensures few))))
 
 pub write_list-write_elements-requires : goal.write_list-write_elements-requires
-write_list-write_elements-requires g t c κs within = (search (rules, the_lemmas), (within.0, (within.1.0, (within.1.1.0, (within.1.1.1.0, (within.1.1.1.1.0, (within.1.1.1.1.1.0, (within.1.1.1.1.1.1.0, (within.1.1.1.1.1.1.1, (element_of_profile (shape_of c.args.element.now) (size_range_of c.args.size.now) c.requires.of_profile, omega (arith, c.requires.deep)))))))))))
+write_list-write_elements-requires g t c κs within = (search (rules, the_lemmas), (within.0, (within.1.0, (within.1.1.0, (within.1.1.1.0, (within.1.1.1.1.0, (within.1.1.1.1.1.0, (within.1.1.1.1.1.1.0, (within.1.1.1.1.1.1.1.0, (within.1.1.1.1.1.1.1.1, (element_of_profile (shape_of c.args.element.now) (size_range_of c.args.size.now) c.requires.of_profile, omega (arith, c.requires.deep))))))))))))
 
 pub write_list-returns-in_err-write_elements-clause-of_type : goal.write_list-returns-in_err-write_elements-clause-of_type
 write_list-returns-in_err-write_elements-clause-of_type g t c =
@@ -286,16 +369,20 @@ write-write_index-requires-clause-few g t c =
 pub write-write_alternative-requires : goal.write-write_alternative-requires
 write-write_alternative-requires g t c κs within =
     let alts = c.deref-then-index-known.result.now in
-    let inside : c.in-Some-chosen.tag < length alts = omega (arith, c.if-index-known.true, c.len-known.ensures, c.deref-then-index-known.ensures.len) in
-    (search (rules, the_lemmas), (within.0, (within.1.0, (within.1.1.0, (within.1.1.1.0, (within.1.1.1.1.0, (within.1.1.1.1.1.0, (within.1.1.1.1.1.1.0, (within.1.1.1.1.1.1.1, (roots_good c.args.ty.now c.in-Choice.root c.in-Choice.ext c.in-Choice.is c.requires.of_profile alts c.deref-then-index-known.ensures.value, (inside, roots_deep c.args.level c.args.ty.now c.in-Choice.root c.in-Choice.ext c.in-Choice.is c.requires.deep alts c.deref-then-index-known.ensures.value)))))))))))
+    let inside : c.in-Some-chosen.chosen.0 < length alts = omega (arith, c.if-index-known.true, c.len-known.ensures, c.deref-then-index-known.ensures.len) in
+    (search (rules, the_lemmas), (within.0, (within.1.0, (within.1.1.0, (within.1.1.1.0, (within.1.1.1.1.0, (within.1.1.1.1.1.0, (within.1.1.1.1.1.1.0, (within.1.1.1.1.1.1.1.0, (within.1.1.1.1.1.1.1.1, (roots_good c.args.ty.now c.in-Choice.root c.in-Choice.ext c.in-Choice.is c.requires.of_profile alts c.deref-then-index-known.ensures.value, (inside, roots_deep c.args.level c.args.ty.now c.in-Choice.root c.in-Choice.ext c.in-Choice.is c.requires.deep alts c.deref-then-index-known.ensures.value))))))))))))
 
 pub write-returns-then-index-known-clause-of_type : goal.write-returns-then-index-known-clause-of_type
-write-returns-then-index-known-clause-of_type g t c = c.in-Some-chosen.chosen-in-Some-chosen-1-own.zzz
+write-returns-then-index-known-clause-of_type g t c =
+    tells_by c.write_alternative.result
+    (root_fits c.args.ty.now (g.V.Source.datum c.args.value) c.in-Choice.root c.in-Choice.ext c.in-Some-chosen.chosen.0 (g.V.Source.datum c.in-Some-chosen.chosen.1) c.in-Choice.is c.in-Some-chosen.ensures.some c.len-known.result c.len-known.ensures
+    c.if-index-known.true c.deref-then-index-known.result.now c.deref-then-index-known.ensures.value)
+    c.write_alternative.ensures.of_type
 
 pub write-returns-then-index-known-clause-written : goal.write-returns-then-index-known-clause-written
 write-returns-then-index-known-clause-written g t c =
     on_ok_weaker c.write_alternative.result
-    (λ e. choice_root_written c.args.ty.now (g.V.Source.datum c.args.value) c.in-Choice.root c.in-Choice.ext c.in-Some-chosen.tag (g.V.Source.datum c.in-Some-chosen.chosen) c.in-Choice.is (rw c.in-Some-chosen.is at c.chosen.ensures.some) c.len-known.result c.len-known.ensures (takes_laws g.S.Sink.stands g.S.Sink.wants_lengths c.args.level) c.keep_write_laws.ensures
+    (λ e. choice_root_written c.args.ty.now (g.V.Source.datum c.args.value) c.in-Choice.root c.in-Choice.ext c.in-Some-chosen.chosen.0 (g.V.Source.datum c.in-Some-chosen.chosen.1) c.in-Choice.is c.in-Some-chosen.ensures.some c.len-known.result c.len-known.ensures (takes_laws g.S.Sink.stands g.S.Sink.wants_lengths c.args.level) c.keep_write_laws.ensures
     c.if-index-known.true c.deref-then-index-known.result.now c.args.sink.now c.write_index.new.sink c.write_alternative.new.sink c.is_some.result c.deref-then-index-known.ensures.value c.is_some.ensures (pushed_at g.S.Sink.stands g.S.Sink.wants_lengths c.args.level g.met.S.Sink.pushes_stand c.in_ok-write_index-in-Choice.ensures) e)
     c.write_alternative.ensures.written
 
@@ -311,36 +398,36 @@ write-write_index-requires-in-Some-ext-2-clause-within g t c =
 pub write-write_added_alternative-requires : goal.write-write_added_alternative-requires
 write-write_added_alternative-requires g t c κs within =
     let more = c.deref-in-Some-ext-2-2.result.now in
-    let inside : c.in-Some-chosen.tag - c.len-known.result < length more = omega (arith, c.if-index-known-2.true, c.deref-in-Some-ext-2-2.ensures.len) in
-    (search (rules, the_lemmas), (within.0, (within.1.0, (within.1.1.0, (within.1.1.1.0, (within.1.1.1.1.0, (within.1.1.1.1.1.0, (within.1.1.1.1.1.1.0, (within.1.1.1.1.1.1.1, (additions_good c.args.ty.now c.in-Choice.root c.in-Choice.ext c.in-Choice.is c.requires.of_profile c.in-Some-ext-2.additions more c.in-Some-ext-2.is c.deref-in-Some-ext-2-2.ensures.value, (inside, added_deep c.args.level c.args.ty.now c.in-Choice.root c.in-Choice.ext c.in-Choice.is c.requires.deep c.in-Some-ext-2.additions more c.in-Some-ext-2.is c.deref-in-Some-ext-2-2.ensures.value)))))))))))
+    let inside : c.in-Some-chosen.chosen.0 - c.len-known.result < length more = omega (arith, c.if-index-known-2.true, c.deref-in-Some-ext-2-2.ensures.len) in
+    (search (rules, the_lemmas), (within.0, (within.1.0, (within.1.1.0, (within.1.1.1.0, (within.1.1.1.1.0, (within.1.1.1.1.1.0, (within.1.1.1.1.1.1.0, (within.1.1.1.1.1.1.1.0, (within.1.1.1.1.1.1.1.1, (additions_good c.args.ty.now c.in-Choice.root c.in-Choice.ext c.in-Choice.is c.requires.of_profile c.in-Some-ext-2.additions more c.in-Some-ext-2.is c.deref-in-Some-ext-2-2.ensures.value, (inside, added_deep c.args.level c.args.ty.now c.in-Choice.root c.in-Choice.ext c.in-Choice.is c.requires.deep c.in-Some-ext-2.additions more c.in-Some-ext-2.is c.deref-in-Some-ext-2-2.ensures.value))))))))))))
 
 pub write-returns-in_ok-write_index-in-Some-ext-2-clause-of_type : goal.write-returns-in_ok-write_index-in-Some-ext-2-clause-of_type
 write-returns-in_ok-write_index-in-Some-ext-2-clause-of_type g t c =
     tells_by c.write_added_alternative.result
-    (added_fits c.args.ty.now (g.V.Source.datum c.args.value) c.in-Choice.root c.in-Choice.ext c.in-Some-chosen.tag (g.V.Source.datum c.in-Some-chosen.chosen) c.in-Choice.is (rw c.in-Some-chosen.is at c.chosen.ensures.some) c.len-known.result c.len-known.ensures
+    (added_fits c.args.ty.now (g.V.Source.datum c.args.value) c.in-Choice.root c.in-Choice.ext c.in-Some-chosen.chosen.0 (g.V.Source.datum c.in-Some-chosen.chosen.1) c.in-Choice.is c.in-Some-chosen.ensures.some c.len-known.result c.len-known.ensures
     c.if-index-known.false c.in-Some-ext-2.additions c.deref-in-Some-ext-2-2.result.now c.in-Some-ext-2.is c.deref-in-Some-ext-2-2.ensures.value)
     c.write_added_alternative.ensures.of_type
 
 pub write-returns-in_ok-write_index-in-Some-ext-2-clause-written : goal.write-returns-in_ok-write_index-in-Some-ext-2-clause-written
 write-returns-in_ok-write_index-in-Some-ext-2-clause-written g t c =
     on_ok_weaker c.write_added_alternative.result
-    (λ e. choice_added_written c.args.ty.now (g.V.Source.datum c.args.value) c.in-Choice.root c.in-Choice.ext c.in-Some-chosen.tag (g.V.Source.datum c.in-Some-chosen.chosen) c.in-Choice.is (rw c.in-Some-chosen.is at c.chosen.ensures.some) c.len-known.result c.len-known.ensures (takes_laws g.S.Sink.stands g.S.Sink.wants_lengths c.args.level) c.keep_write_laws.ensures
+    (λ e. choice_added_written c.args.ty.now (g.V.Source.datum c.args.value) c.in-Choice.root c.in-Choice.ext c.in-Some-chosen.chosen.0 (g.V.Source.datum c.in-Some-chosen.chosen.1) c.in-Choice.is c.in-Some-chosen.ensures.some c.len-known.result c.len-known.ensures (takes_laws g.S.Sink.stands g.S.Sink.wants_lengths c.args.level) c.keep_write_laws.ensures
     c.if-index-known.false c.in-Some-ext-2.additions c.deref-in-Some-ext-2-2.result.now c.args.sink.now c.write_index-in-Some-ext-2.new.sink c.write_added_alternative.new.sink c.in-Some-ext-2.is c.deref-in-Some-ext-2-2.ensures.value (pushed_at g.S.Sink.stands g.S.Sink.wants_lengths c.args.level g.met.S.Sink.pushes_stand c.in_ok-write_index-in-Some-ext-2.ensures) e)
     c.write_added_alternative.ensures.written
 
 pub write-returns-in_default-ext-clause-of_type : goal.write-returns-in_default-ext-clause-of_type
 write-returns-in_default-ext-clause-of_type g t c = elim c.in_default-ext.branch [
   | write-in_default-ext-via-in-Some-ext-2+else-index-known-2 w ↦
-      past_additions c.args.ty.now (g.V.Source.datum c.args.value) c.in-Choice.root c.in-Choice.ext c.in-Some-chosen.tag (g.V.Source.datum c.in-Some-chosen.chosen) c.in-Choice.is (rw c.in-Some-chosen.is at c.chosen.ensures.some) c.len-known.result c.len-known.ensures
+      past_additions c.args.ty.now (g.V.Source.datum c.args.value) c.in-Choice.root c.in-Choice.ext c.in-Some-chosen.chosen.0 (g.V.Source.datum c.in-Some-chosen.chosen.1) c.in-Choice.is c.in-Some-chosen.ensures.some c.len-known.result c.len-known.ensures
       c.if-index-known.false w.in-Some-ext-2.additions w.in-Some-ext-2.is (omega (arith, w.if-index-known-2.false))
   | write-in_default-ext-via-in_default-ext w ↦
-      past_root c.args.ty.now (g.V.Source.datum c.args.value) c.in-Choice.root c.in-Choice.ext c.in-Some-chosen.tag (g.V.Source.datum c.in-Some-chosen.chosen) c.in-Choice.is (rw c.in-Some-chosen.is at c.chosen.ensures.some) c.len-known.result c.len-known.ensures
+      past_root c.args.ty.now (g.V.Source.datum c.args.value) c.in-Choice.root c.in-Choice.ext c.in-Some-chosen.chosen.0 (g.V.Source.datum c.in-Some-chosen.chosen.1) c.in-Choice.is c.in-Some-chosen.ensures.some c.len-known.result c.len-known.ensures
       c.if-index-known.false w.in_default-ext.is
 ]
 
 pub write_alternative-write-requires : goal.write_alternative-write-requires
 write_alternative-write-requires g t c κs within =
-    (search (rules, the_lemmas), (within.0, (within.1.0, (within.1.1.0, (within.1.1.1.0, (within.1.1.1.1.0, (within.1.1.1.1.1.0, (within.1.1.1.1.1.1.0, (within.1.1.1.1.1.1.1, (good_at c.args.alternatives.now c.args.index c.index-alternatives-index.result c.requires.of_profile c.requires.inside, (let d = deep_at c.args.alternatives.now c.args.index c.index-alternatives-index.result c.requires.inside in omega (arith, d, c.requires.deep))))))))))))
+    (search (rules, the_lemmas), (within.0, (within.1.0, (within.1.1.0, (within.1.1.1.0, (within.1.1.1.1.0, (within.1.1.1.1.1.0, (within.1.1.1.1.1.1.0, (within.1.1.1.1.1.1.1.0, (within.1.1.1.1.1.1.1.1, (good_at c.args.alternatives.now c.args.index c.index-alternatives-index.result c.requires.of_profile c.requires.inside, (let d = deep_at c.args.alternatives.now c.args.index c.index-alternatives-index.result c.requires.inside in omega (arith, d, c.requires.deep)))))))))))))
 
 pub write_alternative-returns-clause-of_type : goal.write_alternative-returns-clause-of_type
 write_alternative-returns-clause-of_type g t c =
@@ -353,7 +440,7 @@ write_alternative-returns-clause-written g t c =
 
 pub write_added_alternative-write_open_field-requires : goal.write_added_alternative-write_open_field-requires
 write_added_alternative-write_open_field-requires g t c κs within =
-    (search (rules, the_lemmas), (within.0, (within.1.0, (within.1.1.0, (within.1.1.1.0, (within.1.1.1.1.0, (within.1.1.1.1.1.0, (within.1.1.1.1.1.1.0, (within.1.1.1.1.1.1.1, (good_at c.args.alternatives.now c.args.index c.index-alternatives-index.result c.requires.of_profile c.requires.inside, (let d = deep_at c.args.alternatives.now c.args.index c.index-alternatives-index.result c.requires.inside in omega (arith, d, c.requires.deep))))))))))))
+    (search (rules, the_lemmas), (within.0, (within.1.0, (within.1.1.0, (within.1.1.1.0, (within.1.1.1.1.0, (within.1.1.1.1.1.0, (within.1.1.1.1.1.1.0, (within.1.1.1.1.1.1.1.0, (within.1.1.1.1.1.1.1.1, (good_at c.args.alternatives.now c.args.index c.index-alternatives-index.result c.requires.of_profile c.requires.inside, (let d = deep_at c.args.alternatives.now c.args.index c.index-alternatives-index.result c.requires.inside in omega (arith, d, c.requires.deep)))))))))))))
 
 pub write_added_alternative-returns-clause-of_type : goal.write_added_alternative-returns-clause-of_type
 write_added_alternative-returns-clause-of_type g t c =

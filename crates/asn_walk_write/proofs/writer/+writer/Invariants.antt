@@ -9,12 +9,12 @@ use Rattle.asn_walk_write.proofs.writer.+writer.Given as goal
 abbrev pub invariant-write_components-loop-field : goal.invariant-write_components-loop-field
 invariant-write_components-loop-field g l =
     Written (TakesAt g.S.Sink.stands g.S.Sink.wants_lengths l.level) (each_bits g.R.WriteLeaves.rules) (map part_of_field l.fields) (g.V.Source.entries_left l.fn.entries) l.initial.sink l.sink
-    (map part_of_field (drop l.field-index l.fields)) (g.V.Source.entries_left l.left)
+    (map part_of_field l.field-iterator.a.rest.now) (g.V.Source.each_left l.field-iterator.b)
 
 abbrev pub invariant-write_open_components-loop-field : goal.invariant-write_open_components-loop-field
 invariant-write_open_components-loop-field g l =
     Opened (TakesAt g.S.Sink.stands g.S.Sink.wants_lengths l.level) g.R.WriteLeaves.rules (map part_of_field l.fields) (g.V.Source.entries_left l.fn.entries) l.initial.sink l.sink
-    (map part_of_field (drop l.field-index l.fields)) (g.V.Source.entries_left l.left)
+    (map part_of_field l.field-iterator.a.rest.now) (g.V.Source.each_left l.field-iterator.b)
 
 abbrev pub invariant-write_list-loop-fragments : goal.invariant-write_list-loop-fragments
 invariant-write_list-loop-fragments g l =

@@ -1,5 +1,4 @@
-use Rattle.std.proofs.Common.{rules, ◌≡◌, ◌∷◌, map, length, refl, sym, ◌∙◌, ap, Some}
-use Rattle.std.specs.Option.{option_map}
+use Rattle.std.proofs.Common.{rules, ◌≡◌, ◌∷◌, map, sym, ◌∙◌, ap, Some}
 use Rattle.std.proofs.lemmas.List.{length-map}
 use Rattle.asn_values.specs.declared.types.AsnType.{the_lemmas}
 use Rattle.asn_values.specs.View.{part_of_field}

@@ -1,5 +1,5 @@
 -- The octets of the complete encoding stand before those that were after them.
-use Rattle.std.proofs.Common.{◌≡◌, ◌≤◌, ◌++◌, drop, length, ap, arith}
+use Rattle.std.proofs.Common.{◌++◌, drop, ap, arith}
 use Rattle.asn_values.specs.View.{datum_of}
 use Rattle.asn_walk_write.proofs.Deliveries.{placed}
 use Rattle.asn_walk_write.proofs.encoder.encode_into.Goals as goal

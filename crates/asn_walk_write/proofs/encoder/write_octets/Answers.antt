@@ -1,5 +1,5 @@
 -- The octets are those of the complete encoding.
-use Rattle.std.proofs.Common.{◌≡◌, ◌*◌, List, [], length, refl, sym, ap, subst, ◌∙◌, arith}
+use Rattle.std.proofs.Common.{◌≡◌, [], length, refl, sym, ap, subst, ◌∙◌, arith}
 use Rattle.std.specs.Prelude.{⊤}
 use Rattle.asn_values.specs.declared.types.AsnType.{AsnType}
 use Rattle.asn_values.specs.Profile.{InProfile}

@@ -1,5 +1,5 @@
 -- The octets that were counted.
-use Rattle.std.proofs.Common.{◌≡◌, ◌-◌, ◌^◌, min, List, [], length, refl, sym, subst, ◌∙◌, arith}
+use Rattle.std.proofs.Common.{◌≡◌, ◌-◌, ◌^◌, min, [], length, refl, arith}
 use Rattle.std.specs.Prelude.{⊤}
 use Rattle.asn_values.specs.View.{shape_of}
 use Rattle.asn_bits.proofs.Splits.{length-unpacked}

@@ -1,4 +1,4 @@
-use Rattle.std.proofs.Common.{rules, ℕ, false, ◌^◌, ◌+◌, suc, subst, take, drop, true, ◌≡◌, ◌∷◌, ◌++◌, map, min, Some, None, [], ◌⊎◌, inr, refl, sym, ap, ◌∙◌, arith, ◌<◌, length, ◌-◌, inl}
+use Rattle.std.proofs.Common.{rules, ℕ, false, ◌^◌, subst, take, drop, true, ◌≡◌, ◌∷◌, map, min, Some, None, [], ◌⊎◌, inr, refl, sym, ap, ◌∙◌, arith, ◌<◌, length, ◌-◌, inl}
 use mir.Syntax.{w128}
 use mir.Val.{to_z, of_z}
 use Rattle.std.specs.Option.{option_map}
@@ -24,12 +24,11 @@ use Rattle.asn_walk.proofs.Parts.{few_components, marked_fields, added_of_profil
 use Rattle.asn_walk.proofs.Widths.{demand_of_part, datum_of-Int}
 use Rattle.asn_walk_write.proofs.WriteChoices.{root_fits, added_fits, past_root, past_additions, spelled_there, root_written as choice_root_written, added_written as choice_added_written}
 use Rattle.asn_walk_write.proofs.WriteComponents.{each_bits, each_ends, no_items, both_tests, written_starts, written_passes, spelt_unless_default, written_more, written_absent}
-use Rattle.asn_walk_write.proofs.WritePresence.{next_seen, next_left}
 use Rattle.asn_walk_write.proofs.WriteEntries.{of_sequence, parts_of_profile, unmarked_fits, marked_fits as fits_marked, other_number, added_optional}
 use Rattle.asn_walk_write.proofs.Levels.{root_deep, additions_deep, roots_deep, added_deep, deep_at}
 use Rattle.asn_walk_write.proofs.Taking.{takes_laws, takes_pushed, pushed_at, field_taken, open_bits_are, complete_taken}
-use Rattle.asn_walk_write.proofs.WriteLists.{leaves_at, advances_at, fragments_start, elements_start, list_fits, other_count, list_written, elements_next, next_value, no_value, elements_never, elements_end, elements_fit, fewer_left, parts_fit, fragments_next, fragments_end, fragments_fit}
-use Rattle.asn_walk_write.proofs.WriteSequences.{none_fit, some_bits_there, opened_starts, open_ends, opened_more, root_written, additions_written, sequence_written, unmarked_written}
+use Rattle.asn_walk_write.proofs.WriteLists.{leaves_at, advances_at, fragments_start, elements_start, list_fits, other_count, list_written, elements_next, next_value, fewer_left, parts_fit, fragments_next, fragments_end, fragments_fit}
+use Rattle.asn_walk_write.proofs.WriteSequences.{none_fit, some_bits_there, opened_starts, opened_more, root_written, additions_written, sequence_written, unmarked_written}
 use Rattle.asn_walk_write.proofs.WriteTells.{tells_by, tells_err, written_by}
 use Rattle.asn_walk_write.proofs.writer.+writer.Goals as goal
 use Rattle.asn_walk_write.proofs.writer.+writer.Goals.{write_components-in-Optional, write_components-in_default-matches, write_components-in-Default, write_components-in_default-matches-2, write-in_default-ext-via-in-Some-ext-2+else-index-known-2, write-in_default-ext-via-in_default-ext}

@@ -1,4 +1,4 @@
-use Rattle.std.proofs.Common.{map, length, drop}
+use Rattle.std.proofs.Common.{map, length}
 use Rattle.asn_values.specs.View.{part_of_field, shape_of}
 use Rattle.asn_walk.specs.Writing.{TakesAt}
 use Rattle.asn_walk_write.proofs.WriteComponents.{Written, each_bits}

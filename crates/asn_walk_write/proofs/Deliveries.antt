@@ -5,8 +5,7 @@ use Rattle.std.specs.Io.KnownBytes.{Appends}
 use Rattle.std.proofs.lemmas.List.{append-nil, take-append-drop, length-take-le, take_all}
 use Rattle.std.specs.Borrow.{GName}
 use Rattle.asn_values.specs.declared.types.AsnType.{AsnType}
-use Rattle.asn_values.specs.declared.value.Value.{Value}
-use Rattle.asn_values.specs.View.{shape_of, datum_of}
+use Rattle.asn_values.specs.View.{shape_of}
 use Rattle.asn_values.specs.Datum.{Datum}
 use Rattle.asn_values.specs.Shape.{Shape}
 use Rattle.asn_values.specs.Fits.{Fits}
@@ -79,30 +78,30 @@ module _ {c : Coding} (laws : WriteLaws c) (t : Shape) (v : Datum) (good : InPro
       }
 
 -- the length of a complete encoding is told
-module _ {c : Coding} {f : Framing} (laws : WriteLaws c) (fields : OpenLaws f c) (t : AsnType) (v : Value) where
-  pub length_told : (n : ℕ) → IsEncodable c t v → n ≡ length (octets_of c t v) → IsLength c.ruling (shape_of t) (datum_of v) n
+module _ {c : Coding} {f : Framing} (laws : WriteLaws c) (fields : OpenLaws f c) (t : AsnType) (v : Datum) where
+  pub length_told : (n : ℕ) → IsEncodable c t v → n ≡ length (octets_of c t v) → IsLength c.ruling (shape_of t) v n
   length_told n e long =
       record {
         octets = octets_of c t v;
-        are_octets = fields.octets (shape_of t) (datum_of v) e.of_profile e.of_type;
-        encoding = is_encoding laws (shape_of t) (datum_of v) (octets_of c t v) e.of_profile e.of_type refl;
+        are_octets = fields.octets (shape_of t) v e.of_profile e.of_type;
+        encoding = is_encoding laws (shape_of t) v (octets_of c t v) e.of_profile e.of_type refl;
         long = long;
         within = omega (arith, long, e.within);
       }
 
   -- or why there is none
   pub lengths_told : {E : Type 0} (r : Result ℕ E) → OnOk r (IsEncodable c t v) → IfOk r (λ n. n ≡ length (octets_of c t v))
-      → IfOk r (λ n. IsLength c.ruling (shape_of t) (datum_of v) n)
+      → IfOk r (λ n. IsLength c.ruling (shape_of t) v n)
   lengths_told (Ok n) e long = length_told n e long
   lengths_told (Err w) e long = long
 
   -- it was put before other octets
   pub placed : (n : ℕ) (old new : List ℕ) → IsEncodable c t v → n ≡ length (octets_of c t v) → n ≤ length old
-      → new ≡ octets_of c t v ++ drop n old → Placed c.ruling (shape_of t) (datum_of v) n old new
+      → new ≡ octets_of c t v ++ drop n old → Placed c.ruling (shape_of t) v n old new
   placed n old new e long enough same =
       record {
         octets = octets_of c t v;
-        encoding = is_encoding laws (shape_of t) (datum_of v) (octets_of c t v) e.of_profile e.of_type refl;
+        encoding = is_encoding laws (shape_of t) v (octets_of c t v) e.of_profile e.of_type refl;
         long = long;
         within = omega (arith, long, e.within);
         enough = enough;

@@ -1,18 +1,14 @@
 -- The bits of a CHOICE, as a writer puts them in any rules: an index, and the value of the alternative.
 use Rattle.std.proofs.Common.{◌≡◌, ◌↔◌, ◌≤◌, ◌<◌, ◌-◌, ℕ, zero, suc, Bool, true, false, inl, inr, List, [], ◌∷◌, ◌++◌, map, length, get_or, nat_lt, is_some, Option, Some, None, Vec, Global, vec_len, refl, sym, ap, ◌∙◌, arith}
-use Rattle.std.specs.Global.{Box}
 use Rattle.std.proofs.lemmas.Bool.{lt-ltb, le-ltb}
 use Rattle.asn_values.specs.declared.types.Alt.{Alt}
 use Rattle.asn_values.specs.declared.types.AsnType.{AsnType}
 use Rattle.asn_values.specs.declared.types.AsnType as asn_type
-use Rattle.asn_values.specs.declared.value.Value.{Value}
-use Rattle.asn_values.specs.declared.value.Value.TheVariants as value
 use Rattle.asn_values.specs.Datum.{Datum, alternative}
 use Rattle.asn_values.specs.Shape.{Shape, Alternatives, MoreAlternatives, marked_choice, is_marked_choice, choice, count}
 use Rattle.asn_values.specs.Fits.{Fits, FitsAlternative, FitsMoreAlternatives}
-use Rattle.asn_values.specs.View.{shape_of, datum_of, branch_of, alternatives_of, more_alternatives_of}
+use Rattle.asn_values.specs.View.{shape_of, branch_of, alternatives_of, more_alternatives_of}
 use Rattle.asn_values.proofs.Alternatives.{shape_of_branch, fits_nowhere}
-use Rattle.asn_values.proofs.Views.{datum_of-Choice}
 use Rattle.asn_sinks.proofs.Pushing.{pushed_same}
 use Rattle.asn_rules.specs.Chunks.{Chunk, ones}
 use Rattle.asn_walk.specs.Coding.{Coding}
@@ -57,78 +53,73 @@ mark_there : (ext : Option (Vec Alt Global)) → is_marked_choice (more_alternat
 mark_there None = refl
 mark_there (Some more) = refl
 
-module _ (t : AsnType) (v : Value) (root : Vec Alt Global) (ext : Option (Vec Alt Global)) (tag : ℕ) (chosen : Box Value) (is : t ≡ asn_type.Choice root ext) (vs : v ≡ value.Choice tag chosen) (n : ℕ) (en : n ≡ vec_len root) where
-  view : datum_of v ≡ alternative tag (datum_of chosen.value)
-  view = ap datum_of vs ∙ datum_of-Choice tag chosen
-
+module _ (t : AsnType) (v : Datum) (root : Vec Alt Global) (ext : Option (Vec Alt Global)) (tag : ℕ) (chosen : Datum) (is : t ≡ asn_type.Choice root ext) (view : v ≡ alternative tag chosen) (n : ℕ) (en : n ≡ vec_len root) where
   -- a value of the alternative of the root is one of the CHOICE
-  pub root_fits : tag < n → (alts : List Alt) (w : Value) → alts ≡ root.items → w ≡ chosen.value
-      → FitsAlternative (alternatives_of (map branch_of alts)) tag (datum_of w) ↔ Fits (shape_of t) (datum_of v)
-  root_fits h alts w ea ew =
+  pub root_fits : tag < n → (alts : List Alt) → alts ≡ root.items
+      → FitsAlternative (alternatives_of (map branch_of alts)) tag chosen ↔ Fits (shape_of t) v
+  root_fits h alts ea =
       let inside : nat_lt tag (count (alternatives_of (map branch_of root.items))) ≡ true = rw (known_count root n en) (lt-ltb tag n h) in
-      rw (choice_shape t root ext is, view, ea, ew, inside) (λ f. f, λ f. f)
+      rw (choice_shape t root ext is, view, ea, inside) (λ f. f, λ f. f)
 
   module _ (h : n ≤ tag) where
     outside : nat_lt tag (count (alternatives_of (map branch_of root.items))) ≡ false
     outside = rw (known_count root n en) (le-ltb tag n h)
 
     -- and so is one of the addition
-    pub added_fits : (additions : Vec Alt Global) (more : List Alt) (w : Value) → ext ≡ Some additions
-        → more ≡ additions.items → w ≡ chosen.value
-        → FitsAlternative (alternatives_of (map branch_of more)) (tag - n) (datum_of w) ↔ Fits (shape_of t) (datum_of v)
-    added_fits additions more w e em ew =
-        rw (choice_shape t root ext is, view, e, em, ew, outside, known_count root n en) (λ f. f, λ f. f)
+    pub added_fits : (additions : Vec Alt Global) (more : List Alt) → ext ≡ Some additions
+        → more ≡ additions.items
+        → FitsAlternative (alternatives_of (map branch_of more)) (tag - n) chosen ↔ Fits (shape_of t) v
+    added_fits additions more e em =
+        rw (choice_shape t root ext is, view, e, em, outside, known_count root n en) (λ f. f, λ f. f)
 
     -- there is no value after the last one
     pub past_additions : (additions : Vec Alt Global) → ext ≡ Some additions → vec_len additions ≤ tag - n
-        → Fits (shape_of t) (datum_of v) → ⊥
+        → Fits (shape_of t) v → ⊥
     past_additions additions e far f =
-        fits_nowhere additions.items (tag - n) (datum_of chosen.value) (omega (arith, far, additions.ok.0)) ((added_fits additions additions.items chosen.value e refl refl).1 f)
+        fits_nowhere additions.items (tag - n) chosen (omega (arith, far, additions.ok.0)) ((added_fits additions additions.items e refl).1 f)
 
     -- nor after the root, where there is no mark
-    pub past_root : ext ≡ None → Fits (shape_of t) (datum_of v) → ⊥
+    pub past_root : ext ≡ None → Fits (shape_of t) v → ⊥
     past_root e f =
-        let g : FitsMoreAlternatives (more_alternatives_of ext) (tag - n) (datum_of chosen.value) = rw (choice_shape t root ext is, view, outside, known_count root n en) at f in
+        let g : FitsMoreAlternatives (more_alternatives_of ext) (tag - n) chosen = rw (choice_shape t root ext is, view, outside, known_count root n en) at f in
         rw e at g
 
   module _ {Sink : Type 0} {push : Pushing Sink} (pushing : PushLaws push) {c : Coding} (laws : WriteLaws c) where
     -- what is written of an alternative of the root is the value
-    pub root_written : tag < n → (alts : List Alt) (w : Value) (old mid new : Sink) (marked : Bool)
-        → alts ≡ root.items → w ≡ chosen.value → marked ≡ is_some ext
+    pub root_written : tag < n → (alts : List Alt) (old mid new : Sink) (marked : Bool)
+        → alts ≡ root.items → marked ≡ is_some ext
         → WritesUnits push c old mid (c.index n marked (inl tag))
-        → Writes push c mid new (alternative_code c (alternatives_of (map branch_of alts)) tag (datum_of w))
-        → Writes push c old new (c.code (shape_of t) (datum_of v))
-    root_written h alts w old mid new marked ea ew em e f =
+        → Writes push c mid new (alternative_code c (alternatives_of (map branch_of alts)) tag chosen)
+        → Writes push c old new (c.code (shape_of t) v)
+    root_written h alts old mid new marked ea em e f =
         let all = alternatives_of (map branch_of root.items) in
         let more = more_alternatives_of ext in
         let inside : tag < count all = rw (known_count root n en) h in
         pushed_same push old new
-        (ap (λ (l : List Alt). written c (ones (c.index n marked (inl tag)) ++ alternative_code c (alternatives_of (map branch_of l)) tag (datum_of w))) ea
-        ∙ ap (λ (x : Value). written c (ones (c.index n marked (inl tag)) ++ alternative_code c all tag (datum_of x))) ew
-        ∙ ap (λ (m : Bool). written c (ones (c.index n m (inl tag)) ++ alternative_code c all tag (datum_of chosen.value))) (em ∙ sym (mark_there ext))
-        ∙ ap (λ (k : ℕ). written c (ones (c.index k (is_marked_choice more) (inl tag)) ++ alternative_code c all tag (datum_of chosen.value))) (sym (known_count root n en))
-        ∙ ap (λ (cs : List Chunk). written c cs) (sym (code_of_root laws all more tag (datum_of chosen.value) inside))
-        ∙ ap (λ (x : Shape). written c (c.code x (alternative tag (datum_of chosen.value)))) (sym (choice_shape t root ext is))
+        (ap (λ (l : List Alt). written c (ones (c.index n marked (inl tag)) ++ alternative_code c (alternatives_of (map branch_of l)) tag chosen)) ea
+        ∙ ap (λ (m : Bool). written c (ones (c.index n m (inl tag)) ++ alternative_code c all tag chosen)) (em ∙ sym (mark_there ext))
+        ∙ ap (λ (k : ℕ). written c (ones (c.index k (is_marked_choice more) (inl tag)) ++ alternative_code c all tag chosen)) (sym (known_count root n en))
+        ∙ ap (λ (cs : List Chunk). written c cs) (sym (code_of_root laws all more tag chosen inside))
+        ∙ ap (λ (x : Shape). written c (c.code x (alternative tag chosen))) (sym (choice_shape t root ext is))
         ∙ ap (λ (d : Datum). written c (c.code (shape_of t) d)) (sym view))
-        (writes_units pushing laws old mid new (c.index n marked (inl tag)) (alternative_code c (alternatives_of (map branch_of alts)) tag (datum_of w)) e f)
+        (writes_units pushing laws old mid new (c.index n marked (inl tag)) (alternative_code c (alternatives_of (map branch_of alts)) tag chosen) e f)
 
     -- and so it is of an addition
-    pub added_written : n ≤ tag → (additions : Vec Alt Global) (more : List Alt) (w : Value) (old mid new : Sink)
-        → ext ≡ Some additions → more ≡ additions.items → w ≡ chosen.value
+    pub added_written : n ≤ tag → (additions : Vec Alt Global) (more : List Alt) (old mid new : Sink)
+        → ext ≡ Some additions → more ≡ additions.items
         → WritesUnits push c old mid (c.index n true (inr (tag - n)))
         → Writes push c mid new (in_open_field c
-        (alternative_code c (alternatives_of (map branch_of more)) (tag - n) (datum_of w)))
-        → Writes push c old new (c.code (shape_of t) (datum_of v))
-    added_written h additions more w old mid new e em ew f g =
+        (alternative_code c (alternatives_of (map branch_of more)) (tag - n) chosen))
+        → Writes push c old new (c.code (shape_of t) v)
+    added_written h additions more old mid new e em f g =
         let all = alternatives_of (map branch_of root.items) in
         let alts = alternatives_of (map branch_of additions.items) in
         let past : count all ≤ tag = rw (known_count root n en) h in
         pushed_same push old new
-        (ap (λ (l : List Alt). written c (ones (c.index n true (inr (tag - n))) ++ in_open_field c (alternative_code c (alternatives_of (map branch_of l)) (tag - n) (datum_of w)))) em
-        ∙ ap (λ (x : Value). written c (ones (c.index n true (inr (tag - n))) ++ in_open_field c (alternative_code c alts (tag - n) (datum_of x)))) ew
-        ∙ ap (λ (k : ℕ). written c (ones (c.index k true (inr (tag - k))) ++ in_open_field c (alternative_code c alts (tag - k) (datum_of chosen.value)))) (sym (known_count root n en))
-        ∙ ap (λ (cs : List Chunk). written c cs) (sym (code_of_added laws all alts tag (datum_of chosen.value) past))
-        ∙ ap (λ (x : Option (Vec Alt Global)). written c (c.code (choice all (more_alternatives_of x)) (alternative tag (datum_of chosen.value)))) (sym e)
-        ∙ ap (λ (x : Shape). written c (c.code x (alternative tag (datum_of chosen.value)))) (sym (choice_shape t root ext is))
+        (ap (λ (l : List Alt). written c (ones (c.index n true (inr (tag - n))) ++ in_open_field c (alternative_code c (alternatives_of (map branch_of l)) (tag - n) chosen))) em
+        ∙ ap (λ (k : ℕ). written c (ones (c.index k true (inr (tag - k))) ++ in_open_field c (alternative_code c alts (tag - k) chosen))) (sym (known_count root n en))
+        ∙ ap (λ (cs : List Chunk). written c cs) (sym (code_of_added laws all alts tag chosen past))
+        ∙ ap (λ (x : Option (Vec Alt Global)). written c (c.code (choice all (more_alternatives_of x)) (alternative tag chosen))) (sym e)
+        ∙ ap (λ (x : Shape). written c (c.code x (alternative tag chosen))) (sym (choice_shape t root ext is))
         ∙ ap (λ (d : Datum). written c (c.code (shape_of t) d)) (sym view))
-        (writes_units pushing laws old mid new (c.index n true (inr (tag - n))) (in_open_field c (alternative_code c (alternatives_of (map branch_of more)) (tag - n) (datum_of w))) f g)
+        (writes_units pushing laws old mid new (c.index n true (inr (tag - n))) (in_open_field c (alternative_code c (alternatives_of (map branch_of more)) (tag - n) chosen)) f g)

@@ -1,5 +1,5 @@
 -- Where the loops of a writer over the components of a SEQUENCE stand, in any rules.
-use Rattle.std.proofs.Common.{◌≡◌, ◌↔◌, ◌⊎◌, ◌≤◌, ℕ, true, false, List, [], ◌∷◌, ◌++◌, map, Option, Some, None, inl, inr, refl, sym, ◌∙◌, ap, subst, append_assoc, arith}
+use Rattle.std.proofs.Common.{◌≡◌, ◌↔◌, ◌⊎◌, ◌≤◌, ℕ, Bool, true, false, List, [], ◌∷◌, ◌++◌, length, map, Option, Some, None, inl, inr, refl, sym, ◌∙◌, ap, subst, append_assoc, arith}
 use Rattle.std.proofs.lemmas.Bool.{not-false}
 use Rattle.std.proofs.lemmas.List.{append-nil}
 use Rattle.asn_values.specs.Datum.{Datum}
@@ -221,3 +221,12 @@ pub either_map : {A B C D : Type 0} (f : A → B) (g : C → D) {xs : List A} {y
     → (map f xs ≡ []) ⊎ (map g ys ≡ [])
 either_map f g (inl e) = inl (ap (map f) e)
 either_map f g (inr e) = inr (ap (map g) e)
+
+pub no_items : {A : Type 0} (xs : List A) → length xs ≡ 0 → xs ≡ []
+no_items [] h = refl
+no_items (x ∷ xs) h = absurd (omega (arith, h))
+
+-- ---- a test that came out both ways
+
+pub both_tests : {b : Bool} → b ≡ true → b ≡ false → ⊥
+both_tests h k = cc

@@ -1,21 +1,18 @@
--- What a SEQUENCE of the profile and a value of it are made of, as the program holds them.
-use Rattle.std.proofs.Common.{◌≡◌, ◌↔◌, ℕ, min, List, length, map, take, drop, Option, Some, None, is_some, Vec, Global, refl, sym, ap, subst, ◌∙◌}
-use Rattle.std.specs.Option.{option_map}
-use Rattle.std.proofs.lemmas.List.{take-map, drop-map, take_min, drop_min}
+-- What a SEQUENCE of the profile and a value of it are made of.
+use Rattle.std.proofs.Common.{◌≡◌, ◌↔◌, ℕ, List, length, map, take, drop, Option, Some, None, is_some, Vec, Global, refl, sym, ap, subst, ◌∙◌}
+use Rattle.std.proofs.lemmas.List.{length-map}
 use Rattle.asn_values.specs.declared.types.AsnType.{AsnType, Seq}
 use Rattle.asn_values.specs.declared.types.Field.{Field}
-use Rattle.asn_values.specs.declared.value.Value.{Value}
-use Rattle.asn_values.specs.declared.value.Value.TheVariants as value
 use Rattle.asn_values.specs.Datum.{Datum, components, components_of}
 use Rattle.asn_values.specs.Shape.{Shape, Fields, MoreFields, sequence, closed, marked, is_marked, demands}
 use Rattle.asn_values.specs.Fits.{Fits, FitsEach, FitsSequence}
 use Rattle.asn_values.specs.Profile.{InProfile}
 use Rattle.asn_values.specs.Parts.{AreOfProfile}
-use Rattle.asn_values.specs.View.{Part, shape_of, datum_of, fields_of, more_fields_of, part_of_field}
+use Rattle.asn_values.specs.View.{Part, shape_of, fields_of, more_fields_of, part_of_field}
 use Rattle.asn_values.proofs.Parts.{components_of_profile}
 use Rattle.asn_values.proofs.InnerTypes.{additions_optional}
-use Rattle.asn_values.proofs.Views.{component_list-components_of, sequence_of_fields, datum_of-Seq}
-use Rattle.asn_values.proofs.Entries.{each_of_closed}
+use Rattle.asn_values.proofs.Views.{component_list-components_of, sequence_of_fields}
+use Rattle.asn_values.proofs.Entries.{each_of_closed, each_length}
 use Rattle.asn_walk.specs.Writing.{AreOptional}
 use Rattle.asn_walk.proofs.Parts.{count_of_fields}
 
@@ -31,15 +28,11 @@ pub record OfSequence (t : Shape) (d : Datum) (parts : List Part) (more : MoreFi
   pub shape : t ≡ sequence (fields_of parts) more
   pub datum : d ≡ components (components_of entries)
 
-pub of_sequence : (t : AsnType) (v : Value) (root : Vec Field Global) (ext : Option (Vec Field Global))
-    (vs : Vec (Option Value) Global) (fs : List Field) (es : List (Option Value))
-    → t ≡ Seq root ext → v ≡ value.Seq vs → fs ≡ root.items → es ≡ vs.items
-    → OfSequence (shape_of t) (datum_of v) (map part_of_field fs) (more_fields_of ext)
-    (map (option_map datum_of) es)
-of_sequence t v root ext vs fs es p q f e = record {
-  shape = sequence_of_fields t root ext fs p f;
-  datum = ap datum_of q ∙ datum_of-Seq vs ∙ ap (λ (l : List (Option Value)). components (components_of (map (option_map datum_of) l))) (sym e);
-}
+pub of_sequence : (t : AsnType) (d : Datum) (root : Vec Field Global) (ext : Option (Vec Field Global))
+    (fs : List Field) (es : List (Option Datum))
+    → t ≡ Seq root ext → d ≡ components (components_of es) → fs ≡ root.items
+    → OfSequence (shape_of t) d (map part_of_field fs) (more_fields_of ext) es
+of_sequence t d root ext fs es p q f = record { shape = sequence_of_fields t root ext fs p f; datum = q }
 
 module _ {t : Shape} {d : Datum} {parts : List Part} {more : MoreFields} {entries : List (Option Datum)} (s : OfSequence t d parts more entries) where
   pub parts_of_profile : InProfile t → AreOfProfile (fields_of parts)
@@ -58,41 +51,35 @@ module _ {t : Shape} {d : Datum} {parts : List Part} {more : MoreFields} {entrie
 
 -- ---- the entries of the root, and those of the additions
 
-module _ (fs : List Field) (vs : List (Option Value)) where
+module _ (fs : List Field) (es : List (Option Datum)) where
   -- the first ones
-  pub root_entries_are : (root_entries : List (Option Value)) → root_entries ≡ take (length fs) vs
-      → map (option_map datum_of) root_entries
-      ≡ take (length (demands (fields_of (map part_of_field fs)))) (map (option_map datum_of) vs)
-  root_entries_are root_entries e = ap (map (option_map datum_of)) e ∙ sym (take-map (option_map datum_of) (length fs) vs) ∙ ap (λ k. take k (map (option_map datum_of) vs)) (sym (count_of_fields fs))
+  pub root_entries_are : (root_entries : List (Option Datum)) → root_entries ≡ take (length fs) es
+      → root_entries ≡ take (length (demands (fields_of (map part_of_field fs)))) es
+  root_entries_are root_entries e = e ∙ ap (λ k. take k es) (sym (count_of_fields fs))
 
   -- and the others
-  pub addition_entries_are : (addition_entries : List (Option Value)) → addition_entries ≡ drop (length fs) vs
-      → map (option_map datum_of) addition_entries
-      ≡ drop (length (demands (fields_of (map part_of_field fs)))) (map (option_map datum_of) vs)
-  addition_entries_are addition_entries e = ap (map (option_map datum_of)) e ∙ sym (drop-map (option_map datum_of) (length fs) vs) ∙ ap (λ k. drop k (map (option_map datum_of) vs)) (sym (count_of_fields fs))
-
-  -- as far as there are entries, the first are the root's
-  pub first_ones : (root_entries : List (Option Value)) (n : ℕ) → n ≡ min (length fs) (length vs)
-      → root_entries ≡ take n vs → root_entries ≡ take (length fs) vs
-  first_ones root_entries n e o = o ∙ ap (λ k. take k vs) e ∙ take_min (length fs) vs
-
-  pub other_ones : (addition_entries : List (Option Value)) (n : ℕ) → n ≡ min (length fs) (length vs)
-      → addition_entries ≡ drop n vs → addition_entries ≡ drop (length fs) vs
-  other_ones addition_entries n e o = o ∙ ap (λ k. drop k vs) e ∙ drop_min (length fs) vs
+  pub addition_entries_are : (addition_entries : List (Option Datum)) → addition_entries ≡ drop (length fs) es
+      → addition_entries ≡ drop (length (demands (fields_of (map part_of_field fs)))) es
+  addition_entries_are addition_entries e = e ∙ ap (λ k. drop k es) (sym (count_of_fields fs))
 
   -- a SEQUENCE with a mark has the values with one entry for each component and each addition
   pub marked_fits : {t : Shape} {d : Datum} {more : MoreFields} (gs : List Field)
-      → OfSequence t d (map part_of_field fs) more (map (option_map datum_of) vs)
+      → OfSequence t d (map part_of_field fs) more es
       → more ≡ marked (fields_of (map part_of_field gs))
-      → (root_entries addition_entries : List (Option Value)) → root_entries ≡ take (length fs) vs
-      → addition_entries ≡ drop (length fs) vs
-      → (FitsEach (fields_of (map part_of_field fs)) (map (option_map datum_of) root_entries)
-      × FitsEach (fields_of (map part_of_field gs)) (map (option_map datum_of) addition_entries)) ↔ Fits t d
+      → (root_entries addition_entries : List (Option Datum)) → root_entries ≡ take (length fs) es
+      → addition_entries ≡ drop (length fs) es
+      → (FitsEach (fields_of (map part_of_field fs)) root_entries
+      × FitsEach (fields_of (map part_of_field gs)) addition_entries) ↔ Fits t d
   marked_fits {t} {d} gs s m root_entries addition_entries o h =
       let root = fields_of (map part_of_field fs) in
       let added = fields_of (map part_of_field gs) in
-      let both : FitsSequence root (marked added) (map (option_map datum_of) vs) ↔ Fits t d = subst (λ x. FitsSequence root x (map (option_map datum_of) vs) ↔ Fits t d) m (entries_fit s) in
+      let both : FitsSequence root (marked added) es ↔ Fits t d = subst (λ x. FitsSequence root x es ↔ Fits t d) m (entries_fit s) in
       rw (root_entries_are root_entries o, addition_entries_are addition_entries h) both
+
+-- entries of another number are none
+pub other_number : (fs : List Field) (es : List (Option Datum)) → (length fs ≡ length es → ⊥)
+    → FitsEach (fields_of (map part_of_field fs)) es → ⊥
+other_number fs es other each = other (sym (length-map fs part_of_field) ∙ each_length (map part_of_field fs) es each)
 
 -- ---- the additions
 

@@ -1,9 +1,6 @@
--- Where the counting of presence bits stands, and whether an entry has a value.
-use Rattle.std.proofs.Common.{◌≡◌, ◌⊎◌, ◌≤◌, ◌<◌, ◌+◌, ◌*◌, ◌^◌, ℕ, suc, Bool, true, false, List, [], ◌∷◌, ◌++◌, length, map, drop, get_or, Option, Some, None, is_some, inl, inr, refl, sym, ◌∙◌, ap, arith, append_assoc}
-use Rattle.std.specs.List.{list_any, Any, All}
-use Rattle.std.specs.Option.{option_map}
+-- Where the counting of presence bits stands, and which entry is next.
+use Rattle.std.proofs.Common.{◌≡◌, ◌⊎◌, ◌≤◌, ◌<◌, ◌+◌, ◌*◌, ◌^◌, ℕ, suc, Bool, true, false, List, [], ◌∷◌, ◌++◌, length, map, drop, get_or, Option, Some, None, inl, inr, refl, sym, ◌∙◌, ap, arith, append_assoc}
 use Rattle.std.proofs.lemmas.List.{append-nil, at_drop_more}
-use Rattle.std.proofs.lemmas.List.Folds.{list_any-from_Any, list_any_none}
 use Rattle.std.proofs.Math.Nat.{pow-succ'}
 use Rattle.asn_values.specs.Datum.{Datum}
 use Rattle.asn_values.specs.Shape.{Demand, must, optional, default, demands}
@@ -13,7 +10,8 @@ use Rattle.asn_bits.specs.Numbers.{bits}
 use Rattle.asn_bits.specs.Sink.{bit_of}
 use Rattle.asn_bits.proofs.Prefixes.{bit_below}
 use Rattle.asn_bits.proofs.Splits.{digits-join}
-use Rattle.asn_rules.specs.Components.{has_presence_bit, is_spelled, presence, any_present}
+use Rattle.asn_source.specs.Parts.{first_entry}
+use Rattle.asn_rules.specs.Components.{has_presence_bit, is_spelled, presence}
 
 -- the next item of a list and those after it, seen as something else
 pub next_seen : {A B : Type 0} (f : A → B) (xs : List A) (i : ℕ) (x : A) → i < length xs → x ≡ get_or xs i x
@@ -32,6 +30,12 @@ left_good h = h.of_profile.1
 pub left_more : {p : Part} {parts : List Part} {e : Option Datum} {entries : List (Option Datum)}
     → Left (p ∷ parts) (e ∷ entries) → Left parts entries
 left_more h = record { of_profile = h.of_profile.2; each = omega (arith, h.each) }
+
+-- the entry of the next component, and those after it
+pub next_left : {p : Part} {parts : List Part} {entries others : List (Option Datum)} {e : Option Datum}
+    → Left (p ∷ parts) entries → e ≡ first_entry entries → others ≡ drop 1 entries → entries ≡ e ∷ others
+next_left {entries = []} h first rest = absurd (omega (arith, h.each))
+next_left {entries = x ∷ es} h first rest = rw (first, rest) refl
 
 -- there are as many entries as components
 pub left_ends : (parts : List Part) (entries : List (Option Datum)) → Left parts entries → (parts ≡ []) ⊎ (entries ≡ [])
@@ -119,19 +123,3 @@ bitmap_ends {all} {left} {entries} {rest} {count} {bitmap} h e =
     sym (append-nil (bits count bitmap))
     ∙ ap (λ l. bits count bitmap ++ presence (demands (fields_of l)) rest) (sym none.0)
     ∙ h.known
-
--- ---- whether one is present
-
--- a value that is seen as another is there where that is
-present_map : {A B : Type 0} (f : A → B) (es : List (Option A))
-    → list_any is_some (map (option_map f) es) ≡ list_any is_some es
-present_map f [] = refl
-present_map f (None ∷ es) = present_map f es
-present_map f (Some x ∷ es) = refl
-
--- a test whether some entry has a value
-pub present_test : {A : Type 0} (f : A → Datum) (es : List (Option A)) (b : Bool)
-    → (b ≡ true → Any (λ e. is_some e ≡ true) es) → (b ≡ false → All (λ e. is_some e ≡ false) es)
-    → b ≡ any_present (map (option_map f) es)
-present_test f es true some none = sym (present_map f es ∙ list_any-from_Any is_some es (some refl))
-present_test f es false some none = sym (present_map f es ∙ list_any_none is_some es (none refl))

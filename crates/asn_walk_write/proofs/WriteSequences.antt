@@ -1,14 +1,12 @@
 -- The bits of a SEQUENCE as its writer puts them, in any rules: the root, and the extension additions.
 use Rattle.std.proofs.Common.{◌≡◌, ◌⊎◌, ◌<◌, ◌+◌, ℕ, Bool, true, false, List, [], ◌∷◌, ◌++◌, length, map, take, drop, Option, Some, None, Vec, Global, refl, sym, ◌∙◌, ap, subst, arith}
 use Rattle.std.specs.List.{list_all}
-use Rattle.std.specs.Option.{option_map}
 use Rattle.std.proofs.lemmas.List.{append-nil, take_all}
 use Rattle.asn_values.specs.Datum.{Datum, components, components_of}
 use Rattle.asn_values.specs.Shape.{Shape, Demand, must, optional, default, Fields, field, MoreFields, closed, marked, demands, sequence}
 use Rattle.asn_values.specs.declared.types.Field.{Field}
-use Rattle.asn_values.specs.declared.value.Value.{Value}
 use Rattle.asn_values.specs.Fits.{Fits, FitsEach}
-use Rattle.asn_values.specs.View.{Part, datum_of, fields_of, more_fields_of, part_of_field}
+use Rattle.asn_values.specs.View.{Part, fields_of, more_fields_of, part_of_field}
 use Rattle.asn_values.specs.Profile.{InProfile, is_optional}
 use Rattle.asn_values.proofs.Entries.{each_length, length-demands}
 use Rattle.asn_values.proofs.Views.{component_list-components_of}
@@ -150,40 +148,35 @@ module _ {Sink : Type 0} {push : Pushing Sink} (pushing : PushLaws push) {c : Co
 
   -- its root after the extension bit, and its additions
   pub sequence_written : {t : Shape} {d : Datum} (old mid new : Sink) (fs gs : List Field)
-      (ext : Option (Vec Field Global)) (vs root_entries addition_entries : List (Option Value)) (b : Bool)
-      → OfSequence t d (map part_of_field fs) (more_fields_of ext) (map (option_map datum_of) vs) → InProfile t
+      (ext : Option (Vec Field Global)) (es root_entries addition_entries : List (Option Datum)) (b : Bool)
+      → OfSequence t d (map part_of_field fs) (more_fields_of ext) es → InProfile t
       → Fits t d → more_fields_of ext ≡ marked (fields_of (map part_of_field gs))
-      → root_entries ≡ take (length fs) vs → addition_entries ≡ drop (length fs) vs
-      → b ≡ any_present (map (option_map datum_of) addition_entries)
-      → Writes push c old mid (root_code c (mark_bits (Some b)) (fields_of (map part_of_field fs))
-      (map (option_map datum_of) root_entries))
-      → Writes push c mid new (additions_code c (fields_of (map part_of_field gs))
-      (map (option_map datum_of) addition_entries)) → Writes push c old new (c.code t d)
-  sequence_written {t} {d} old mid new fs gs ext vs root_entries addition_entries b s good fits m o h p e f =
+      → root_entries ≡ take (length fs) es → addition_entries ≡ drop (length fs) es
+      → b ≡ any_present addition_entries
+      → Writes push c old mid (root_code c (mark_bits (Some b)) (fields_of (map part_of_field fs)) root_entries)
+      → Writes push c mid new (additions_code c (fields_of (map part_of_field gs)) addition_entries)
+      → Writes push c old new (c.code t d)
+  sequence_written {t} {d} old mid new fs gs ext es root_entries addition_entries b s good fits m o h p e f =
       let root = fields_of (map part_of_field fs) in
       let added = fields_of (map part_of_field gs) in
-      let es = map (option_map datum_of) vs in
       let n = length (demands root) in
-      let us : List (Option Datum) = map (option_map datum_of) root_entries in
-      let hs : List (Option Datum) = map (option_map datum_of) addition_entries in
       pushed_same push old new
-      (ap (λ (i : Bool). written c (root_code c (mark_bits (Some i)) root us ++ additions_code c added hs)) p
-      ∙ ap (λ (l : List (Option Datum)). written c (root_code c (mark_bits (Some (any_present l))) root us ++ additions_code c added l)) (addition_entries_are fs vs addition_entries h)
-      ∙ ap (λ (l : List (Option Datum)). written c (root_code c (mark_bits (Some (any_present (drop n es)))) root l ++ additions_code c added (drop n es))) (root_entries_are fs vs root_entries o)
+      (ap (λ (i : Bool). written c (root_code c (mark_bits (Some i)) root root_entries ++ additions_code c added addition_entries)) p
+      ∙ ap (λ (l : List (Option Datum)). written c (root_code c (mark_bits (Some (any_present l))) root root_entries ++ additions_code c added l)) (addition_entries_are fs es addition_entries h)
+      ∙ ap (λ (l : List (Option Datum)). written c (root_code c (mark_bits (Some (any_present (drop n es)))) root l ++ additions_code c added (drop n es))) (root_entries_are fs es root_entries o)
       ∙ ap (λ (x : MoreFields). written c (sequence_code c root x es)) (sym m)
       ∙ ap (λ (cs : List Chunk). written c cs) (sym (code_of_sequence s good fits)))
-      (writes_both pushing laws old mid new (root_code c (mark_bits (Some b)) root us) (additions_code c added hs) e f)
+      (writes_both pushing laws old mid new (root_code c (mark_bits (Some b)) root root_entries) (additions_code c added addition_entries) e f)
 
   -- its root alone, where there is no extension mark
   pub unmarked_written : {t : Shape} {d : Datum} (old new : Sink) (fs : List Field) (more : MoreFields)
-      (vs : List (Option Value))
-      → OfSequence t d (map part_of_field fs) more (map (option_map datum_of) vs) → InProfile t → Fits t d
-      → more ≡ closed → FitsEach (fields_of (map part_of_field fs)) (map (option_map datum_of) vs)
-      → Writes push c old new (root_code c (mark_bits None) (fields_of (map part_of_field fs))
-      (map (option_map datum_of) vs)) → Writes push c old new (c.code t d)
-  unmarked_written {t} {d} old new fs more vs s good fits none each e =
+      (es : List (Option Datum))
+      → OfSequence t d (map part_of_field fs) more es → InProfile t → Fits t d
+      → more ≡ closed → FitsEach (fields_of (map part_of_field fs)) es
+      → Writes push c old new (root_code c (mark_bits None) (fields_of (map part_of_field fs)) es)
+      → Writes push c old new (c.code t d)
+  unmarked_written {t} {d} old new fs more es s good fits none each e =
       let root = fields_of (map part_of_field fs) in
-      let es = map (option_map datum_of) vs in
       let n = length (demands root) in
       let all : take n es ≡ es = take_all n es (omega (arith, each_length (map part_of_field fs) es each, length-demands (map part_of_field fs))) in
       pushed_same push old new

@@ -19,7 +19,8 @@ use asn_bits::BitSink;
 use asn_rules::{
     EncodeFault, EncodeIntoFault, EncodeToFault, LengthFault, MAX_OCTETS, Output, Unwritten,
 };
-use asn_values::{AsnType, Checked, Value, fits};
+use asn_source::Source;
+use asn_values::{AsnType, Checked, Value};
 use asn_walk::WriteLeaves;
 use asn_window::{Filling, Window};
 use std::alloc::{AllocError, Global};
@@ -38,13 +39,34 @@ pub fn encode<R: WriteLeaves>(
     ensures within { IfOk result (λ o. vec_len o ≤ max_octets) }
     ensures fault { IfErr result (λ why. NotEncoded R.rules.ruling why (shape_of ty.now) (datum_of value.now)) }
 {
+    encode_from::<R, &Value>(alloc, ty, value)
+}
+
+/// The same of a value in any form.
+///
+/// # Errors
+/// As `encode`.
+#[inline(always)]
+pub fn encode_from<R: WriteLeaves, V: Source>(
+    alloc: Global,
+    ty: &Checked,
+    value: V,
+) -> Result<Vec<u8>, EncodeFault>
+    ensures encoding { IfOk result (λ o. IsEncoding R.rules.ruling (shape_of ty.now) (V.datum value) o.items) }
+    ensures within { IfOk result (λ o. vec_len o ≤ max_octets) }
+    ensures fault { IfErr result (λ why. NotEncoded R.rules.ruling why (shape_of ty.now) (V.datum value)) }
+{
     R::keep_write_laws();
-    let octets = match write_octets::<R>(alloc, ty, value) {
+    let octets = match write_octets::<R, V>(alloc, ty, value) {
         Ok(octets) => octets,
         Err(Unwritten::NotOfType) => return Err(EncodeFault::NotOfType),
         // an allocation may fail before all of the value was seen
-        Err(Unwritten::Full(_)) if !fits(ty, value) => return Err(EncodeFault::NotOfType),
-        Err(Unwritten::Full(_)) => return Err(EncodeFault::Memory),
+        Err(Unwritten::Full(_)) => {
+            return match measure::<R, V>(ty.get(), value) {
+                Some(_) => Err(EncodeFault::Memory),
+                None => Err(EncodeFault::NotOfType),
+            };
+        }
     };
     if octets.len() > MAX_OCTETS {
         return Err(EncodeFault::TooLong);
@@ -54,19 +76,19 @@ pub fn encode<R: WriteLeaves>(
 
 /// The octets of the complete encoding of a value, where it is one of the type.
 #[inline(always)]
-fn write_octets<R: WriteLeaves>(
+fn write_octets<R: WriteLeaves, V: Source>(
     alloc: Global,
     ty: &Checked,
-    value: &Value,
+    value: V,
 ) -> Result<Vec<u8>, Unwritten<AllocError>>
-    ensures of_type { TellsWhether result (Fits (shape_of ty.now) (datum_of value.now)) }
-    ensures encoding { IfOk result (λ o. IsEncoding R.rules.ruling (shape_of ty.now) (datum_of value.now) o.items) }
+    ensures of_type { TellsWhether result (Fits (shape_of ty.now) (V.datum value)) }
+    ensures encoding { IfOk result (λ o. IsEncoding R.rules.ruling (shape_of ty.now) (V.datum value) o.items) }
 {
     R::keep_write_laws();
     R::keep_open_laws();
     let inner = ty.get();
     let mut sink = BitSink::with_room(alloc)?;
-    write_complete::<R, BitSink>(inner, value, 0, &mut sink)?;
+    write_complete::<R, BitSink, V>(inner, value, 0, &mut sink)?;
     Ok(sink.into_octets())
 }
 
@@ -79,9 +101,23 @@ pub fn encoded_len<R: WriteLeaves>(ty: &Checked, value: &Value) -> Result<usize,
     ensures length { IfOk result (λ n. IsLength R.rules.ruling (shape_of ty.now) (datum_of value.now) n) }
     ensures fault { IfErr result (λ why. NotMeasured R.rules.ruling why (shape_of ty.now) (datum_of value.now)) }
 {
+    encoded_len_from::<R, &Value>(ty, value)
+}
+
+/// The same of a value in any form.
+///
+/// # Errors
+/// As `encoded_len`.
+pub fn encoded_len_from<R: WriteLeaves, V: Source>(
+    ty: &Checked,
+    value: V,
+) -> Result<usize, LengthFault>
+    ensures length { IfOk result (λ n. IsLength R.rules.ruling (shape_of ty.now) (V.datum value) n) }
+    ensures fault { IfErr result (λ why. NotMeasured R.rules.ruling why (shape_of ty.now) (V.datum value)) }
+{
     R::keep_write_laws();
     R::keep_open_laws();
-    length_of::<R>(ty.get(), value)
+    length_of::<R, V>(ty.get(), value)
 }
 
 /// Gives the complete encoding of a value of the type to an output, piece by piece. It takes no memory, and does not
@@ -106,7 +142,7 @@ pub fn encode_to<R: WriteLeaves, O: Output>(
     R::keep_write_laws();
     R::keep_open_laws();
     let inner = ty.get();
-    length_of::<R>(inner, value)?;
+    length_of::<R, &Value>(inner, value)?;
     match deliver::<R, O>(inner, value, output) {
         Ok(()) => Ok(()),
         Err(sent) => Err(EncodeToFault::Write { sent }),
@@ -132,7 +168,7 @@ pub fn encode_into<R: WriteLeaves>(
     R::keep_write_laws();
     R::keep_open_laws();
     let inner = ty.get();
-    let length = length_of::<R>(inner, value)?;
+    let length = length_of::<R, &Value>(inner, value)?;
     if octets.len() < length {
         return Err(EncodeIntoFault::Short { wanted: length });
     }
@@ -141,14 +177,14 @@ pub fn encode_into<R: WriteLeaves>(
 }
 
 /// How many octets the complete encoding of a value of the type has, where it is not too long.
-fn length_of<R: WriteLeaves>(ty: &AsnType, value: &Value) -> Result<usize, LengthFault>
+fn length_of<R: WriteLeaves, V: Source>(ty: &AsnType, value: V) -> Result<usize, LengthFault>
     requires of_profile { InProfile (shape_of ty.now) }
-    ensures encodable { OnOk result (IsEncodable R.rules ty.now value.now) }
-    ensures length { IfOk result (λ n. n ≡ length (octets_of R.rules ty.now value.now)) }
-    ensures fault { IfErr result (λ why. NotMeasured R.rules.ruling why (shape_of ty.now) (datum_of value.now)) }
+    ensures encodable { OnOk result (IsEncodable R.rules ty.now (V.datum value)) }
+    ensures length { IfOk result (λ n. n ≡ length (octets_of R.rules ty.now (V.datum value))) }
+    ensures fault { IfErr result (λ why. NotMeasured R.rules.ruling why (shape_of ty.now) (V.datum value)) }
 {
     R::keep_write_laws();
-    let Some(length) = measure::<R>(ty, value) else {
+    let Some(length) = measure::<R, V>(ty, value) else {
         return Err(LengthFault::NotOfType);
     };
     if length > MAX_OCTETS as u64 {
@@ -159,9 +195,9 @@ fn length_of<R: WriteLeaves>(ty: &AsnType, value: &Value) -> Result<usize, Lengt
 
 /// Puts the complete encoding of a value into octets, of which there are as many as it has.
 fn fill<R: WriteLeaves>(ty: &AsnType, value: &Value, octets: &mut [u8])
-    requires encodable { IsEncodable R.rules ty.now value.now }
-    requires many { length octets.old ≡ length (octets_of R.rules ty.now value.now) }
-    ensures { octets.new ≡ octets_of R.rules ty.now value.now }
+    requires encodable { IsEncodable R.rules ty.now (datum_of value.now) }
+    requires many { length octets.old ≡ length (octets_of R.rules ty.now (datum_of value.now)) }
+    ensures { octets.new ≡ octets_of R.rules ty.now (datum_of value.now) }
 {
     R::keep_open_laws();
     let mut filling = Filling {
@@ -182,14 +218,14 @@ fn deliver<R: WriteLeaves, O: Output>(
     value: &Value,
     output: &mut O,
 ) -> Result<(), u64>
-    requires { IsEncodable R.rules ty.now value.now }
+    requires { IsEncodable R.rules ty.now (datum_of value.now) }
     ensures ok { OnOk result (Wrote (O.held output.old) (O.held output.new)
-        (unpacked (octets_of R.rules ty.now value.now))) }
+        (unpacked (octets_of R.rules ty.now (datum_of value.now)))) }
     ensures err { IfErr result (λ sent. Broke (O.held output.old) (O.held output.new) sent
-        (unpacked (octets_of R.rules ty.now value.now))) }
+        (unpacked (octets_of R.rules ty.now (datum_of value.now)))) }
 {
     let mut window = Window::over(output);
-    match write_complete::<R, Window<'_, O>>(ty, value, 0, &mut window) {
+    match write_complete::<R, Window<'_, O>, &Value>(ty, value, 0, &mut window) {
         Ok(()) => window.finish(),
         Err(Unwritten::NotOfType) => unreachable!(),
         Err(Unwritten::Full(never)) => match never {},

@@ -9,4 +9,4 @@ mod encoder;
 mod lengths;
 mod writer;
 
-pub use encoder::{encode, encode_into, encode_to, encoded_len};
+pub use encoder::{encode, encode_from, encode_into, encode_to, encoded_len, encoded_len_from};

@@ -1,22 +1,33 @@
-use Rattle.std.proofs.Common.{◌<◌, map, length, None, sym, ◌∙◌, ap, arith}
-use Rattle.std.specs.Option.{option_map}
-use Rattle.std.proofs.lemmas.List.{at_drop_more}
-use Rattle.asn_values.specs.View.{datum_of, part_of_field}
+use Rattle.std.proofs.Common.{rules, ◌≡◌, ◌∷◌, map, sym, ◌∙◌, ap, Some}
+use Rattle.std.proofs.lemmas.List.{length-map}
+use Rattle.asn_values.specs.declared.types.AsnType.{the_lemmas}
+use Rattle.asn_values.specs.View.{part_of_field}
 use Rattle.asn_bits.specs.Sink.{bit_of}
 use Rattle.asn_bits.proofs.Prefixes.{bool_byte-is}
-use Rattle.asn_walk_write.proofs.WritePresence.{next_seen, bitmap_passes, bitmap_more}
-use Rattle.asn_walk_write.proofs.encoded.presence_bitmap.Goals.{then-has_presence_bit, else-has_presence_bit}
+use Rattle.asn_walk_write.proofs.WritePresence.{left_good, bitmap_starts, bitmap_passes, bitmap_more}
 use Rattle.asn_walk_write.proofs.encoded.presence_bitmap.Goals as goal
 
-pub loop-index-preserved : goal.loop-index-preserved
-loop-index-preserved c =
-    let i = c.loop-index.index in
-    let there : i < length c.args.entries.now = omega (arith, c.requires.each, c.loop-index-test.true) in
-    let e = next_seen part_of_field c.args.fields.now i c.index-fields-index.result c.loop-index-test.true c.index-fields-index.is in
-    elim c.if-has_presence_bit.branch [
-      | then-has_presence_bit w ↦ (let f = next_seen (option_map datum_of) c.args.entries.now i w.index-entries-index.result there w.index-entries-index.is in
-          rw (w.count-is, w.bitmap-is) (bitmap_more (rw (e, f) at c.loop-index.invariant) (sym c.has_presence_bit.ensures ∙ w.if-has_presence_bit.true)
-          (w.from.ensures ∙ bool_byte-is w.is_encoded.result ∙ ap bit_of w.is_encoded.ensures)))
-      | else-has_presence_bit w ↦ (let f = at_drop_more (map (option_map datum_of)) c.args.entries.now i None there in
-          rw (w.count-is, w.bitmap-is) (bitmap_passes (rw (e, f) at c.loop-index.invariant) (sym c.has_presence_bit.ensures ∙ w.if-has_presence_bit.false)))
-    ]
+pub loop-field-init : goal.loop-field-init
+loop-field-init g c =
+    let e : c.into_iter-field-iterator.result.a.rest.now ≡ c.args.fields.now = search (rules, the_lemmas) in
+    let f : g.V.Source.each_left c.into_iter-field-iterator.result.b ≡ g.V.Source.entries_left c.args.entries = search (rules, the_lemmas) in
+    rw (e, f) (bitmap_starts (map part_of_field c.args.fields.now) (g.V.Source.entries_left c.args.entries) (record { of_profile = c.requires.of_profile; each = length-map c.args.fields.now part_of_field ∙ c.requires.each }))
+
+pub is_encoded-requires : goal.is_encoded-requires
+is_encoded-requires g c =
+    let e : c.loop-field.field-iterator.a.rest.now ≡ c.in-Some.field.now ∷ c.next.new.self.a.rest.now = c.in-Some.ensures.steps.0 in
+    let f = g.met.V.Source.each_gives c.loop-field.field-iterator.b (Some c.in-Some.entry) c.next.new.self.b c.in-Some.ensures.steps.1 in
+    left_good (rw (e, f) at c.loop-field.invariant.components)
+
+pub loop-field-preserved : goal.loop-field-preserved
+loop-field-preserved g c =
+    let e : c.loop-field.field-iterator.a.rest.now ≡ c.in-Some.field.now ∷ c.next.new.self.a.rest.now = c.in-Some.ensures.steps.0 in
+    let f = g.met.V.Source.each_gives c.loop-field.field-iterator.b (Some c.in-Some.entry) c.next.new.self.b c.in-Some.ensures.steps.1 in
+    bitmap_passes (rw (e, f) at c.loop-field.invariant) (sym c.has_presence_bit.ensures ∙ c.if-has_presence_bit.false)
+
+pub loop-field-preserved-then-has_presence_bit : goal.loop-field-preserved-then-has_presence_bit
+loop-field-preserved-then-has_presence_bit g c =
+    let e : c.loop-field.field-iterator.a.rest.now ≡ c.in-Some.field.now ∷ c.next.new.self.a.rest.now = c.in-Some.ensures.steps.0 in
+    let f = g.met.V.Source.each_gives c.loop-field.field-iterator.b (Some c.in-Some.entry) c.next.new.self.b c.in-Some.ensures.steps.1 in
+    bitmap_more (rw (e, f) at c.loop-field.invariant) (sym c.has_presence_bit.ensures ∙ c.if-has_presence_bit.true)
+    (c.from.ensures ∙ bool_byte-is c.is_encoded.result ∙ ap bit_of c.is_encoded.ensures)

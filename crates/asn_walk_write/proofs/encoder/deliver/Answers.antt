@@ -1,11 +1,10 @@
 -- The window was begun before the output, took all bits of the encoding, and wrote those that waited.
-use Rattle.std.proofs.Common.{◌≡◌, ◌≤◌, ◌<◌, ◌*◌, ◌^◌, ◌++◌, ◌%◌, ℕ, true, List, [], length, length-append, refl, sym, subst, ◌∙◌, arith}
+use Rattle.std.proofs.Common.{◌≡◌, ◌≤◌, ◌<◌, ◌^◌, ◌++◌, ℕ, List, [], length, length-append, refl, sym, subst, ◌∙◌, arith}
 use Rattle.std.proofs.lemmas.List.{append-nil}
 use Rattle.asn_values.specs.View.{shape_of, datum_of}
 use Rattle.asn_bits.specs.Numbers.{unpacked}
 use Rattle.asn_bits.proofs.Splits.{length-unpacked}
 use Rattle.asn_rules.specs.Answer.{max_octets}
-use Rattle.asn_rules.specs.Held.{Held}
 use Rattle.asn_window.specs.Written.{Wrote, Broke}
 use Rattle.asn_window.specs.WindowEnds.{start_of}
 use Rattle.asn_window.specs.Windows.{WindowStands}

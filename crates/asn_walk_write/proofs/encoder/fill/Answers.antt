@@ -10,7 +10,7 @@ pub returns : goal.returns
 returns g c =
     let r = g.R.WriteLeaves.rules in
     let e = c.requires.encodable in
-    let os = octets_of r c.args.ty.now c.args.value.now in
+    let os = octets_of r c.args.ty.now (datum_of c.args.value.now) in
     let f = c.deliver.new.output in
     let small = c.keep_open_laws.ensures.octets (shape_of c.args.ty.now) (datum_of c.args.value.now) e.of_profile e.of_type in
     let same = same_slice c.deliver.result _ f.octets.ghost_name c.args.octets.now f.octets.now (unpacked os) f.count f.faults c.deliver.ensures.ok c.deliver.ensures.err in

@@ -1,9 +1,9 @@
 -- The octets are those of the complete encoding.
-use Rattle.std.proofs.Common.{◌≡◌, ◌*◌, List, [], length, refl, sym, ap, subst, ◌∙◌, arith}
+use Rattle.std.proofs.Common.{◌≡◌, [], length, refl, sym, ap, subst, ◌∙◌, arith}
 use Rattle.std.specs.Prelude.{⊤}
 use Rattle.asn_values.specs.declared.types.AsnType.{AsnType}
 use Rattle.asn_values.specs.Profile.{InProfile}
-use Rattle.asn_values.specs.View.{shape_of, datum_of}
+use Rattle.asn_values.specs.View.{shape_of}
 use Rattle.asn_bits.proofs.Splits.{length-unpacked}
 use Rattle.asn_bits.specs.Numbers.{packed, unpacked}
 use Rattle.asn_sinks.specs.Sink.{Context}
@@ -22,7 +22,7 @@ write_complete-requires-clause-deep g c =
 pub into_octets-requires : goal.into_octets-requires
 into_octets-requires g c =
     let r = g.R.WriteLeaves.rules in
-    let os = r.complete (r.code (shape_of c.get-inner.result.now) (datum_of c.args.value.now)) in
+    let os = r.complete (r.code (shape_of c.get-inner.result.now) (g.V.Source.datum c.args.value)) in
     let here : Context ⊤ = record { origin = tt; around = [] } in
     let all : c.write_complete.new.sink ≡ unpacked os = c.in_ok-write_complete.ensures.written here [] refl (λ w. absurd (cc)) c.in_ok-sink.ensures in
     omega (arith, ap length all, length-unpacked os)
@@ -31,7 +31,7 @@ pub returns-clause-encoding : goal.returns-clause-encoding
 returns-clause-encoding g c =
     let r = g.R.WriteLeaves.rules in
     let t = shape_of c.get-inner.result.now in
-    let v = datum_of c.args.value.now in
+    let v = g.V.Source.datum c.args.value in
     let os = r.complete (r.code t v) in
     let here : Context ⊤ = record { origin = tt; around = [] } in
     let all : c.write_complete.new.sink ≡ unpacked os = c.in_ok-write_complete.ensures.written here [] refl (λ w. absurd (cc)) c.in_ok-sink.ensures in

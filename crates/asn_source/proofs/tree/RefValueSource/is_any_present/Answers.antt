@@ -2,8 +2,8 @@ use Rattle.std.proofs.Common.{rules, ◌≡◌, is_some, true, false}
 use Rattle.std.specs.List.{Any, All}
 use Rattle.std.proofs.iter.runs.Made.{chains}
 use Rattle.asn_values.specs.View.{datum_of}
-use Rattle.asn_walk_write.proofs.WritePresence.{present_test}
-use Rattle.asn_walk_write.proofs.encoded.is_any_present.Goals as goal
+use Rattle.asn_source.proofs.Present.{present_test}
+use Rattle.asn_source.proofs.tree.RefValueSource.is_any_present.Goals as goal
 
 pub returns : goal.returns
 returns c =

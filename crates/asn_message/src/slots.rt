@@ -57,6 +57,8 @@ pub struct Slot {
 pub struct Room {
     pub slots: Vec<Slot>,
     pub octets: Vec<u8>,
+    /// How many components that are absent stand after the last slot, and before the next one of their SEQUENCE.
+    pub absent: u32,
 }
 
 impl Room {
@@ -64,10 +66,12 @@ impl Room {
     pub fn new(alloc: Global) -> Room
         ensures slots { result.slots.items ≡ [] }
         ensures octets { result.octets.items ≡ [] }
+        ensures absent { result.absent ≡ 0 }
     {
         Room {
             slots: Vec::new(alloc),
             octets: Vec::new(alloc),
+            absent: 0,
         }
     }
 
@@ -75,25 +79,29 @@ impl Room {
     pub fn clear(&mut self)
         ensures slots { self.new.slots.items ≡ [] }
         ensures octets { self.new.octets.items ≡ [] }
+        ensures absent { self.new.absent ≡ 0 }
     {
         self.slots.clear();
         self.octets.clear();
+        self.absent = 0;
     }
 
-    /// Adds a slot, and tells where.
+    /// Adds a slot, before which stand the components that are absent, and tells where.
     #[inline(always)]
     pub(crate) fn push(&mut self, content: Content) -> Option<usize>
         ensures octets { self.new.octets ≡ self.old.octets }
+        ensures absent { self.new.absent ≡ 0 }
         ensures at { IfSome result (λ at. at ≡ length self.old.slots.items) }
         ensures slots { IfSome result (λ at. self.new.slots.items
-            ≡ self.old.slots.items ++ record { content = content; absent_before = 0; inside = 0 } ∷ []) }
+            ≡ self.old.slots.items ++ record { content = content; absent_before = self.old.absent; inside = 0 } ∷ []) }
     {
         let at = self.slots.len();
         let slot = Slot {
             content,
-            absent_before: 0,
+            absent_before: self.absent,
             inside: 0,
         };
+        self.absent = 0;
         let Ok(()) = self.slots.push(slot) else {
             return None;
         };
@@ -104,6 +112,7 @@ impl Room {
     #[inline(always)]
     pub(crate) fn replace(&mut self, at: usize, slot: Slot) -> Option<()>
         ensures octets { self.new.octets ≡ self.old.octets }
+        ensures absent { self.new.absent ≡ self.old.absent }
         ensures slots { IsSome result → (xs : List Slot) (old : Slot) (ys : List Slot)
             → self.old.slots.items ≡ xs ++ old ∷ ys → at ≡ length xs → self.new.slots.items ≡ xs ++ slot ∷ ys }
     {
@@ -114,23 +123,25 @@ impl Room {
         Some(())
     }
 
-    /// Puts the slot of a value with parts in its place, once these are there, and tells where.
+    /// Tells of the slot of a value with parts what it is of, once these are there, and where it is.
     #[inline(always)]
     pub(crate) fn close(&mut self, at: usize, content: Content) -> Option<usize>
         ensures octets { self.new.octets ≡ self.old.octets }
+        ensures absent { self.new.absent ≡ self.old.absent }
         ensures at { IfSome result (λ here. here ≡ at) }
         ensures slots { IsSome result → (xs : List Slot) (old : Slot) (ys : List Slot)
             → self.old.slots.items ≡ xs ++ old ∷ ys → at ≡ length xs → self.new.slots.items
-            ≡ xs ++ record { content = content; absent_before = 0; inside = length ys } ∷ ys }
+            ≡ xs ++ record { content = content; absent_before = old.absent_before; inside = length ys } ∷ ys }
     {
         let count = self.slots.len();
         if at >= count {
             return None;
         }
         let inside = u32::try_from(count - at - 1).ok()?;
+        let begun = self.slots[at];
         let slot = Slot {
             content,
-            absent_before: 0,
+            absent_before: begun.absent_before,
             inside,
         };
         self.replace(at, slot)?;
@@ -141,6 +152,7 @@ impl Room {
     #[inline(always)]
     pub(crate) fn push_octets(&mut self, octets: &[u8]) -> Option<Span>
         ensures slots { self.new.slots ≡ self.old.slots }
+        ensures absent { self.new.absent ≡ self.old.absent }
         ensures octets { IsSome result → self.new.octets.items ≡ self.old.octets.items ++ octets.now }
         ensures at { IfSome result (λ s. (more : List ℕ) → octets_at (self.new.octets.items ++ more) s ≡ octets.now) }
     {
@@ -155,6 +167,7 @@ impl Room {
     /// The same of bits, an octet for each.
     pub(crate) fn push_bits(&mut self, bits: &[bool]) -> Option<Span>
         ensures slots { self.new.slots ≡ self.old.slots }
+        ensures absent { self.new.absent ≡ self.old.absent }
         ensures octets { IsSome result → Grows self.old self.new }
         ensures at { IfSome result (λ s. (more : List ℕ) → bits_at (self.new.octets.items ++ more) s ≡ bits.now) }
     {

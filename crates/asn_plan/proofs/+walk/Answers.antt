@@ -1,6 +1,6 @@
 use Rattle.std.proofs.Common.{◌≡◌, ◌/◌, ◌%◌, ◌^◌, refl, sym, ap, ◌∙◌, Some, None, inl, inr, length, arith}
 use Rattle.std.proofs.lemmas.List.{drop_all}
-use Rattle.asn_values.specs.Datum.{number, alternative}
+use Rattle.asn_values.specs.Datum.{truth, number, item, alternative}
 use Rattle.asn_values.specs.Profile.{InProfile}
 use Rattle.asn_values.specs.Shape.{Fields, no_fields, demands, sequence, sequence_of, choice}
 use Rattle.asn_values.specs.View.{datum_of, size_range_of}
@@ -22,8 +22,9 @@ use Rattle.asn_plan.proofs.Alternatives.{alternative_at, each_count, root_read, 
 use Rattle.asn_plan.proofs.Building.{next_node, built_further, goes_ends, absents_are, no_root, no_additions, sequence_read}
 use Rattle.asn_plan.proofs.Entries.{must_entry, present_entry, absent_entry, other_entry, default_entry}
 use Rattle.asn_plan.proofs.Messages.{whole_message, field_read, turned_true, turned_false}
-use Rattle.asn_plan.proofs.NodeKinds.{if_some, number_is, leaf_is, sequence_is, list_is, choice_is}
+use Rattle.asn_plan.proofs.NodeKinds.{if_some, number_is, truth_is, item_is, leaf_is, sequence_is, list_is, choice_is}
 use Rattle.asn_plan.proofs.Rows.{row_begins, row_further, listed_starts, listed_further, listed_ends, list_read}
+use Rattle.asn_plan.specs.Words.{before}
 use Rattle.asn_plan.proofs.+walk.Goals as goal
 
 pub walk::build_at-returns-in-Some-clause-some : goal.walk::build_at-returns-in-Some-clause-some
@@ -40,6 +41,16 @@ walk::build_at-returns-in_default-clause-some g t c = if_some c.build_ranged.res
     let still : c.try_ranged.new.units ≡ c.args.units.now = c.in_default.ensures.none refl in
     rw is (rw still at built))) c.build_ranged.ensures.some
 
+pub walk::build_at-returns-in-Some-in-Truth-clause-some : goal.walk::build_at-returns-in-Some-in-Truth-clause-some
+walk::build_at-returns-in-Some-in-Truth-clause-some g t c s good p =
+    let is = truth_is c.args.nodes.now s (rw c.in-Truth.is at p) in
+    rw is (record { value = truth c.in-Some-in-Truth.is_true; of_value = c.in_ok-part-in-Truth.ensures; read = c.in-Some-in-Truth.ensures.some })
+
+pub walk::build_at-returns-in-Some-in-Item-clause-some : goal.walk::build_at-returns-in-Some-in-Item-clause-some
+walk::build_at-returns-in-Some-in-Item-clause-some g t c s good p =
+    let is = item_is c.args.nodes.now s c.in-Item.items (rw c.in-Item.is at p) in
+    rw is (record { value = item c.in-Some-in-Item.position; of_value = c.in_ok-part-in-Item.ensures; read = c.in-Some-in-Item.ensures.some })
+
 pub walk::build_at-returns-in-Leaf-clause-some : goal.walk::build_at-returns-in-Leaf-clause-some
 walk::build_at-returns-in-Leaf-clause-some g t c = if_some c.build_leaf.result _ _ (λ p built s good plan. (
     let is = leaf_is c.args.nodes.now s c.in-Leaf.leaf (rw c.in-Leaf.is at plan) in
@@ -48,14 +59,29 @@ walk::build_at-returns-in-Leaf-clause-some g t c = if_some c.build_leaf.result _
 pub components::build_components-loop-part-preserved : goal.components::build_components-loop-part-preserved
 components::build_components-loop-part-preserved g t c =
     let h = rw (next_node c.args.parts.now c.loop-part.part-index c.part-item.result c.loop-part-test.true c.part-item.is) at c.loop-part.invariant.0 in
-    let N = g.B.Build.listed c.args.room.now c.build_component.new.room c.build_component.new.entries in
-    let b = c.in_ok-build_component.ensures in
-    (built_further N c.build_component.new.presence.left (g.R.ReadLeaves.rules.to_units c.build_component.new.units) h (rw c.loop-part.invariant.1 at b.some refl c.args.room.now), b.bitmap refl ∙ c.loop-part.invariant.1, b.at_unit refl)
+    let N = g.B.Build.listed c.args.room.now c.build_part.new.room c.build_part.new.entries in
+    let b = c.in_ok-build_part.ensures in
+    (built_further N c.build_part.new.presence.left (before c.build_part.new.word (g.R.ReadLeaves.rules.to_units c.build_part.new.units)) h (rw c.loop-part.invariant.1 at b.some refl c.args.room.now), b.bitmap refl ∙ c.loop-part.invariant.1, b.at_unit refl)
 
 pub components::build_components-returns-clause-some : goal.components::build_components-returns-clause-some
 components::build_components-returns-clause-some g t c root good p width =
+    let r = g.R.ReadLeaves.rules in
     let e = c.loop-part.invariant.0.goes root good p width in
-    record { entries = e.0; of_entries = e.1; read = goes_ends e.2 (drop_all c.loop-part.part-index c.args.parts.now c.loop-part-test.false) }
+    let all = goes_ends e.2 (drop_all c.loop-part.part-index c.args.parts.now c.loop-part-test.false) in
+    let none = c.is_empty.ensures c.if-not-is_empty.false (r.to_units c.loop-part.units) in
+    record { entries = e.0; of_entries = e.1; read = rw none at all }
+
+pub components::build_part-returns-clause-some : goal.components::build_part-returns-clause-some
+components::build_part-returns-clause-some g t c some s =
+    let r = g.R.ReadLeaves.rules in
+    let none = c.is_empty.ensures c.if-not-is_empty.false in
+    rw (c.fill.ensures.same, none (r.to_units c.fill.new.units), none (r.to_units c.build_component.new.units)) (c.build_component.ensures.some some s)
+
+pub components::build_part-returns-in_ok-value-clause-some : goal.components::build_part-returns-in_ok-value-clause-some
+components::build_part-returns-in_ok-value-clause-some g t c some s =
+    let r = g.R.ReadLeaves.rules in
+    let us = r.to_units c.fill.new.units in
+    rw c.fill.ensures.same (must_entry r (g.B.Build.listed s c.args.room.now c.args.entries.now) (g.B.Build.listed s c.present.new.room c.present.new.entries) c.args.nodes.now c.args.part.now c.args.presence.now.bitmap c.args.presence.now.left (before c.fill.new.word us) (before c.build_next.new.word us) (g.B.Build.built c.args.room.now c.build_next.new.room c.in_ok-value.value) (λ es d l q. c.present.ensures some s c.args.room.now es d l q) (c.build_next.ensures.must refl) (λ s good p. (let b = c.in_ok-value.ensures.some s us good p in (b.value, b.of_value, b.read))))
 
 pub components::build_component-returns-in_ok-value-in-Must-clause-some : goal.components::build_component-returns-in_ok-value-in-Must-clause-some
 components::build_component-returns-in_ok-value-in-Must-clause-some g t c some s =

@@ -37,7 +37,7 @@ components_of-loop-field-preserved t c =
     let os = c.kind_of.new.nodes.items in
     let add = c.in_ok-kind.ensures.added in
     let plan : IsPlan os (part_of_field x).shape c.in_ok-kind.kind = rw shape_of_part c.in_ok-kind.ensures.plan in
-    rw (seen_next c.args.fields.now c.loop-field.field-index x c.loop-field-test.true c.field-item.is, c.in_ok-push.ensures.items) (planned_more c.loop-field.invariant (part_of_field x) (record { presence = c.in_ok-presence.presence; kind = c.in_ok-kind.kind }) os add.0 add.1 c.in_ok-presence.ensures plan)
+    rw (seen_next c.args.fields.now c.loop-field.field-index x c.loop-field-test.true c.field-item.is, c.in_ok-push.ensures.items) (planned_more c.loop-field.invariant (part_of_field x) (record { presence = c.in_ok-presence.presence; kind = c.in_ok-kind.kind; run = c.run_of-run.result }) os add.0 add.1 c.in_ok-presence.ensures plan)
 
 pub kind_of-components_of-requires : goal.kind_of-components_of-requires
 kind_of-components_of-requires t c =

@@ -203,6 +203,20 @@ present_more r s t u e f p es d x y h k read os slots same within count at taken
       all = ap (λ (l : List (Option Datum)). l ++ Some d ∷ []) h.all ∙ append_assoc h.first (absents e.absent) (Some d ∷ []) ∙ sym (append-nil (h.first ++ more)) ∙ ap (λ (n : ℕ). (h.first ++ more) ++ absents n) (sym absent);
     }
 
+-- where none is absent before it, its slot stays as it is
+pub present_next : (r s t : Room) (e f : Entries) (p : ℕ) (es : List (Option Datum)) (d : Datum) → AreEntries r s e es
+    → IsPut s t p d → e.absent ≡ 0 → f.at ≡ e.at → f.taken ≡ e.taken + 1 → f.absent ≡ 0
+    → AreEntries r t f (es ++ Some d ∷ [])
+present_next r s t e f p es d h k none at taken absent =
+    let before : es ≡ h.first ++ absents e.absent = h.all in
+    let all : es ≡ h.first = rw none at before ∙ append-nil h.first in
+    record {
+      first = h.first ++ Some d ∷ [];
+      inside = rw at (put_inside r s t e.at p h.first d h.inside k);
+      count = omega (arith, taken, h.count, length-append h.first (Some d ∷ []));
+      all = rw absent (ap (λ (l : List (Option Datum)). l ++ Some d ∷ []) all ∙ sym (append-nil (h.first ++ Some d ∷ [])));
+    }
+
 pub sequence_put : (r s t : Room) (e : Entries) (p : ℕ) (es : List (Option Datum)) → AreEntries r s e es
     → t.octets ≡ s.octets
     → ((xs : List Slot) (old : Slot) (ys : List Slot) → s.slots.items ≡ xs ++ old ∷ ys → e.at ≡ length xs

@@ -101,6 +101,15 @@ impl Build for Flat {
 
     #[inline(always)]
     fn present(room: &mut Room, entries: &mut Entries, part: usize) -> Option<()> {
+        if entries.absent == 0 {
+            let taken = entries.taken.checked_add(1)?;
+            *entries = Entries {
+                at: entries.at,
+                taken,
+                absent: 0,
+            };
+            return Some(());
+        }
         if part >= room.slots.len() {
             return None;
         }

@@ -188,7 +188,7 @@ pub record BuildsComponents {P : Type 0} (c : Coding) (listed : P → List (Opti
     (bitmap left : ℕ) (p : P) (old new : List ℕ) : Type 0 where
   pub entries : List (Option Datum)
   pub of_entries : listed p entries
-  pub read : Reads c (Listed c.code root (bits left bitmap)) entries old new
+  pub read : Spells c.ruling.fielding (Listed c.code root (bits left bitmap)) entries old new
 
 -- a prefix of the units is a spelling of elements, of which this was built
 pub record BuildsList {P : Type 0} (c : Coding) (rowed : P → List Datum → Type 0)

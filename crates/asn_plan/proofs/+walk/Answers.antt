@@ -6,13 +6,14 @@ use Rattle.asn_values.specs.Shape.{Fields, no_fields, demands, sequence, sequenc
 use Rattle.asn_values.specs.View.{datum_of, size_range_of}
 use Rattle.asn_values.proofs.InnerTypes.{element_of_profile}
 use Rattle.asn_values.proofs.Parts.{components_of_profile}
+use Rattle.asn_values.proofs.Views.{shape_of-Bool}
 use Rattle.asn_bits.proofs.Above.{kept}
 use Rattle.asn_bits.specs.Sink.{bit_of}
 use Rattle.asn_rules.specs.Languages.{Spells}
 use Rattle.asn_rules.specs.Laws.{AreOctets}
 use Rattle.asn_rules.specs.Listed.{Spelt}
 use Rattle.asn_walk.specs.Ahead.{Next}
-use Rattle.asn_walk.specs.Coding.{IndexOf}
+use Rattle.asn_walk.specs.Coding.{IndexOf, PreambleOf}
 use Rattle.asn_walk.specs.Views.{preamble_seen}
 use Rattle.asn_walk.proofs.Decoding.{units_fill}
 use Rattle.asn_walk.proofs.OpenRead.{content_of}
@@ -41,15 +42,27 @@ walk::build_at-returns-in_default-clause-some g t c = if_some c.build_ranged.res
     let still : c.try_ranged.new.units ≡ c.args.units.now = c.in_default.ensures.none refl in
     rw is (rw still at built))) c.build_ranged.ensures.some
 
-pub walk::build_at-returns-in-Some-in-Truth-clause-some : goal.walk::build_at-returns-in-Some-in-Truth-clause-some
-walk::build_at-returns-in-Some-in-Truth-clause-some g t c s good p =
+pub walk::build_at-returns-in-Some-try_truth-clause-some : goal.walk::build_at-returns-in-Some-try_truth-clause-some
+walk::build_at-returns-in-Some-try_truth-clause-some g t c s good p =
     let is = truth_is c.args.nodes.now s (rw c.in-Truth.is at p) in
-    rw is (record { value = truth c.in-Some-in-Truth.is_true; of_value = c.in_ok-part-in-Truth.ensures; read = c.in-Some-in-Truth.ensures.some })
+    rw is (record { value = truth c.in-Some-try_truth.is_true; of_value = c.in_ok-part-in-Truth.ensures; read = c.in-Some-try_truth.ensures.some })
 
-pub walk::build_at-returns-in-Some-in-Item-clause-some : goal.walk::build_at-returns-in-Some-in-Item-clause-some
-walk::build_at-returns-in-Some-in-Item-clause-some g t c s good p =
+pub walk::build_at-returns-in-Some-try_item-clause-some : goal.walk::build_at-returns-in-Some-try_item-clause-some
+walk::build_at-returns-in-Some-try_item-clause-some g t c s good p =
     let is = item_is c.args.nodes.now s c.in-Item.items (rw c.in-Item.is at p) in
-    rw is (record { value = item c.in-Some-in-Item.position; of_value = c.in_ok-part-in-Item.ensures; read = c.in-Some-in-Item.ensures.some })
+    rw is (record { value = item c.in-Some-try_item.position; of_value = c.in_ok-part-in-Item.ensures; read = c.in-Some-try_item.ensures.some })
+
+pub walk::build_at-returns-in_default-try_truth-clause-some : goal.walk::build_at-returns-in_default-try_truth-clause-some
+walk::build_at-returns-in_default-try_truth-clause-some g t c = if_some c.build_other.result _ _ (λ p built s good plan. (
+    let is = truth_is c.args.nodes.now s (rw c.in-Truth.is at plan) in
+    let still : c.try_truth.new.units ≡ c.args.units.now = c.in_default-try_truth.ensures.none refl in
+    rw is (rw (still, shape_of-Bool) at built))) c.build_other.ensures.some
+
+pub walk::build_at-returns-in_default-try_item-clause-some : goal.walk::build_at-returns-in_default-try_item-clause-some
+walk::build_at-returns-in_default-try_item-clause-some g t c = if_some c.build_other-in-Item.result _ _ (λ p built s good plan. (
+    let is = item_is c.args.nodes.now s c.in-Item.items (rw c.in-Item.is at plan) in
+    let still : c.try_item.new.units ≡ c.args.units.now = c.in_default-try_item.ensures.none refl in
+    rw is (rw still at built))) c.build_other-in-Item.ensures.some
 
 pub walk::build_at-returns-in-Leaf-clause-some : goal.walk::build_at-returns-in-Leaf-clause-some
 walk::build_at-returns-in-Leaf-clause-some g t c = if_some c.build_leaf.result _ _ (λ p built s good plan. (
@@ -77,11 +90,11 @@ components::build_part-returns-clause-some g t c some s =
     let none = c.is_empty.ensures c.if-not-is_empty.false in
     rw (c.fill.ensures.same, none (r.to_units c.fill.new.units), none (r.to_units c.build_component.new.units)) (c.build_component.ensures.some some s)
 
-pub components::build_part-returns-in_ok-value-clause-some : goal.components::build_part-returns-in_ok-value-clause-some
-components::build_part-returns-in_ok-value-clause-some g t c some s =
+pub components::build_part-returns-then-not-is_empty-clause-some : goal.components::build_part-returns-then-not-is_empty-clause-some
+components::build_part-returns-then-not-is_empty-clause-some g t c some s =
     let r = g.R.ReadLeaves.rules in
     let us = r.to_units c.fill.new.units in
-    rw c.fill.ensures.same (must_entry r (g.B.Build.listed s c.args.room.now c.args.entries.now) (g.B.Build.listed s c.present.new.room c.present.new.entries) c.args.nodes.now c.args.part.now c.args.presence.now.bitmap c.args.presence.now.left (before c.fill.new.word us) (before c.build_next.new.word us) (g.B.Build.built c.args.room.now c.build_next.new.room c.in_ok-value.value) (λ es d l q. c.present.ensures some s c.args.room.now es d l q) (c.build_next.ensures.must refl) (λ s good p. (let b = c.in_ok-value.ensures.some s us good p in (b.value, b.of_value, b.read))))
+    rw c.fill.ensures.same (must_entry r (g.B.Build.listed s c.args.room.now c.args.entries.now) (g.B.Build.listed s c.present.new.room c.present.new.entries) c.args.nodes.now c.args.part.now c.args.presence.now.bitmap c.args.presence.now.left (before c.fill.new.word us) (before c.build_next.new.word us) (g.B.Build.built c.args.room.now c.build_next.new.room c.in_ok-value.value) (λ es d l q. c.present.ensures some s c.args.room.now es d l q) (c.in_ok-value.ensures.must refl) (λ s good p. (let b = c.in_ok-value.ensures.some s us good p in (b.value, b.of_value, b.read))))
 
 pub components::build_component-returns-in_ok-value-in-Must-clause-some : goal.components::build_component-returns-in_ok-value-in-Must-clause-some
 components::build_component-returns-in_ok-value-in-Must-clause-some g t c some s =
@@ -102,17 +115,19 @@ components::build_sequence-returns-then-not-preamble-clause-some g t c s good p 
     let q = sequence_is c.args.nodes.now s c.args.parts.now p in
     let r = g.R.ReadLeaves.rules in
     let inside : InProfile (sequence q.root q.more) = rw q.is at good in
+    let told : Spells r.ruling.fielding (PreambleOf r c.args.parts.now.width c.args.parts.now.additions) (preamble_seen c.in_ok-preamble.preamble) (r.to_units c.args.units.now) (before c.read_preamble.new.word (r.to_units c.read_preamble.new.units)) = rw (← c.take_word-word.ensures.taken) at c.in_ok-preamble.ensures.some in
     let es = c.in_ok-entries.ensures.some q.root (components_of_profile q.root q.more inside) q.plans q.width in
     let all = c.in_ok-add_absent.ensures refl c.args.room.now es.entries es.of_entries in
-    rw q.is (record { value = _; of_value = c.in_ok-whole.ensures c.args.room.now _ all; read = sequence_read r c.keep_laws.ensures q.root q.more inside c.args.parts.now.width c.args.parts.now.additions q.width q.additions (preamble_seen c.in-Ok.preamble) (r.to_units c.args.units.now) (r.to_units c.read_preamble.new.units) (r.to_units c.build_components.new.units) c.in-Ok.ensures.done es.entries es.read (turned_true c.in-Ok.preamble.extended c.if-not-preamble.true) _ (absents_are _ _ q.more q.others) })
+    rw q.is (record { value = _; of_value = c.in_ok-whole.ensures c.args.room.now _ all; read = sequence_read r c.keep_laws.ensures q.root q.more inside c.args.parts.now.width c.args.parts.now.additions q.width q.additions (preamble_seen c.in_ok-preamble.preamble) (r.to_units c.args.units.now) (before c.read_preamble.new.word (r.to_units c.read_preamble.new.units)) (r.to_units c.build_components.new.units) told es.entries es.read (turned_true c.in_ok-preamble.preamble.extended c.if-not-preamble.true) _ (absents_are _ _ q.more q.others) })
 
 pub components::build_sequence-returns-clause-some : goal.components::build_sequence-returns-clause-some
 components::build_sequence-returns-clause-some g t c s good p =
     let q = sequence_is c.args.nodes.now s c.args.parts.now p in
     let r = g.R.ReadLeaves.rules in
     let inside : InProfile (sequence q.root q.more) = rw q.is at good in
+    let told : Spells r.ruling.fielding (PreambleOf r c.args.parts.now.width c.args.parts.now.additions) (preamble_seen c.in_ok-preamble.preamble) (r.to_units c.args.units.now) (before c.read_preamble.new.word (r.to_units c.read_preamble.new.units)) = rw (← c.take_word-word.ensures.taken) at c.in_ok-preamble.ensures.some in
     let es = c.in_ok-entries.ensures.some q.root (components_of_profile q.root q.more inside) q.plans q.width in
-    let all = extended_read r c.keep_laws.ensures q.root q.more inside c.args.parts.now.width c.args.parts.now.additions q.width q.additions (preamble_seen c.in-Ok.preamble) (r.to_units c.args.units.now) (r.to_units c.read_preamble.new.units) (r.to_units c.build_components.new.units) (r.to_units c.build_additions.new.units) c.in-Ok.ensures.done es.entries es.read (turned_false c.in-Ok.preamble.extended c.if-not-preamble.false) _ _ q.others (g.B.Build.listed c.args.room.now c.build_components.new.room c.in_ok-entries.entries) (g.B.Build.listed c.args.room.now c.build_additions.new.room c.build_additions.new.entries) es.of_entries (λ fs a plans. c.in_ok-build_additions.ensures.some refl c.args.room.now fs a plans) in
+    let all = extended_read r c.keep_laws.ensures q.root q.more inside c.args.parts.now.width c.args.parts.now.additions q.width q.additions (preamble_seen c.in_ok-preamble.preamble) (r.to_units c.args.units.now) (before c.read_preamble.new.word (r.to_units c.read_preamble.new.units)) (r.to_units c.build_components.new.units) (r.to_units c.build_additions.new.units) told es.entries es.read (turned_false c.in_ok-preamble.preamble.extended c.if-not-preamble.false) _ _ q.others (g.B.Build.listed c.args.room.now c.build_components.new.room c.in_ok-entries.entries) (g.B.Build.listed c.args.room.now c.build_additions.new.room c.build_additions.new.entries) es.of_entries (λ fs a plans. c.in_ok-build_additions.ensures.some refl c.args.room.now fs a plans) in
     rw q.is (record { value = _; of_value = c.in_ok-part.ensures c.args.room.now all.0 all.1; read = all.2 })
 
 pub components::build_additions-returns-clause-some : goal.components::build_additions-returns-clause-some

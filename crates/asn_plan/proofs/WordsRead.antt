@@ -1,5 +1,5 @@
 -- Numbers that are told by bits taken at once, by PER.
-use Rattle.std.proofs.Common.{◌≡◌, ◌≤◌, ◌<◌, ◌+◌, ◌++◌, ◌∷◌, [], ◌/◌, ◌%◌, ◌^◌, ℕ, zero, suc, Bool, true, false, nat_lt, length, List, Option, Some, None, refl, sym, ap, subst, ◌∙◌, append_assoc, arith}
+use Rattle.std.proofs.Common.{◌≡◌, ◌≤◌, ◌<◌, ◌+◌, ◌++◌, ◌∷◌, [], ◌/◌, ◌%◌, ◌^◌, ℕ, zero, suc, true, false, nat_lt, length, List, Option, Some, None, refl, sym, ap, subst, ◌∙◌, append_assoc, arith}
 use Rattle.std.proofs.lemmas.Bool.{true≢false}
 use Rattle.asn_values.specs.Datum.{truth, item}
 use Rattle.asn_values.specs.Shape.{Shape, boolean, enumerated, has_more_labels}
@@ -13,7 +13,6 @@ use Rattle.asn_rules.specs.Languages.{Spells}
 use Rattle.asn_rules.specs.Listed.{Spelt}
 use Rattle.asn_rules.proofs.Languages.Parts.{contents-ones}
 use Rattle.asn_rules.proofs.Live.Flat.{flat-ones}
-use Rattle.asn_walk.specs.AtOnce.{MarkedFirst}
 use Rattle.asn_walk.specs.Coding.{PreambleOf}
 use Rattle.asn_per.specs.Kinds.{position_of}
 use Rattle.asn_per.specs.Per.{per, per_fields, spelled}

@@ -1,4 +1,3 @@
-use Rattle.std.proofs.Common.{◌≡◌}
 use Rattle.asn_plan.proofs.NodeKinds.{if_some}
 use Rattle.asn_plan.proofs.packed.build_next.Goals as goal
 

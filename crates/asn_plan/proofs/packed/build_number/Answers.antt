@@ -1,4 +1,3 @@
-use Rattle.std.proofs.Common.{◌≡◌, ap, ◌∙◌}
 use Rattle.asn_values.specs.Datum.{truth, number, item}
 use Rattle.asn_bits.proofs.Above.{kept}
 use Rattle.asn_plan.proofs.NodeKinds.{number_is, truth_is, item_is}

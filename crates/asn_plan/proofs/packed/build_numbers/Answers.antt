@@ -1,4 +1,4 @@
-use Rattle.std.proofs.Common.{◌≡◌, refl, drop, ap, ◌∙◌, arith}
+use Rattle.std.proofs.Common.{refl, arith}
 use Rattle.std.proofs.lemmas.List.{drop_all}
 use Rattle.asn_plan.specs.Words.{before}
 use Rattle.asn_plan.proofs.Building.{built_starts, built_further, goes_ends, next_node}

@@ -1,4 +1,4 @@
-use Rattle.std.proofs.Common.{◌≡◌, ◌≤◌, ◌++◌, [], ℕ, List, Bool, true, false, Option, Some, None, is_some, refl, sym, ap, subst, ◌∙◌, append-nil, arith}
+use Rattle.std.proofs.Common.{◌≡◌, [], ℕ, false, Option, Some, None, is_some, refl, sym, ap, subst, ◌∙◌, append-nil, arith}
 use Rattle.std.proofs.lemmas.Bool.{true≢false}
 use Rattle.asn_values.specs.Datum.{components, components_of}
 use Rattle.asn_values.specs.Profile.{InProfile}

@@ -60,6 +60,18 @@ impl Build for Flat {
     }
 
     #[inline(always)]
+    fn truth(room: &mut Room, is_true: bool) -> Option<usize> {
+        let at = put_slot(room, Content::Truth(is_true))?;
+        Some(at)
+    }
+
+    #[inline(always)]
+    fn item(room: &mut Room, position: u32) -> Option<usize> {
+        let at = put_slot(room, Content::Item(position))?;
+        Some(at)
+    }
+
+    #[inline(always)]
     fn value(room: &mut Room, value: Value) -> Option<usize> {
         put_alone(room, &value)
     }

@@ -1,5 +1,5 @@
 //! The slots of a value.
-ghost use Rattle.std.specs.Prelude.{◌≡◌, ◌++◌, ◌∷◌, [], ℕ, List, length, IfSome, IsSome};
+ghost use Rattle.std.specs.Prelude.{◌≡◌, ◌<◌, ◌++◌, ◌∷◌, [], ℕ, List, length, vec_len, vec_capacity, IfSome, IsSome};
 ghost use Rattle.asn_message.specs.declared.slots.Slot.{Slot};
 ghost use Rattle.asn_message.specs.Building.{Grows};
 ghost use Rattle.asn_message.specs.Slots.{octets_at, bits_at};
@@ -102,9 +102,8 @@ impl Room {
             inside: 0,
         };
         self.absent = 0;
-        let Ok(()) = self.slots.push(slot) else {
-            return None;
-        };
+        make_room(&mut self.slots)?;
+        self.slots.push_reserved(slot);
         Some(at)
     }
 
@@ -180,4 +179,29 @@ impl Room {
         }
         Some(Span { begin, length })
     }
+}
+
+/// Sees to it that there is room for one slot more; `None` where memory is wanting.
+#[inline(always)]
+fn make_room(slots: &mut Vec<Slot>) -> Option<()>
+    ensures same { slots.new.items ≡ slots.old.items }
+    ensures room { IsSome result → vec_len slots.new < vec_capacity slots.new }
+{
+    if slots.len() < slots.capacity() {
+        return Some(());
+    }
+    grow(slots)
+}
+
+/// Takes more memory for slots.
+#[cold]
+#[inline(never)]
+fn grow(slots: &mut Vec<Slot>) -> Option<()>
+    ensures same { slots.new.items ≡ slots.old.items }
+    ensures room { IsSome result → vec_len slots.new < vec_capacity slots.new }
+{
+    let Ok(()) = slots.reserve(1) else {
+        return None;
+    };
+    Some(())
 }

@@ -239,12 +239,20 @@ impl Build for Values {
 
     #[inline(always)]
     fn absent(_room: &mut (), entries: &mut Vec<Option<Value>>) -> Option<()> {
-        entries.push(None).ok()
+        if entries.len() >= entries.capacity() {
+            return None;
+        }
+        entries.push_reserved(None);
+        Some(())
     }
 
     #[inline(always)]
     fn present(_room: &mut (), entries: &mut Vec<Option<Value>>, part: Value) -> Option<()> {
-        entries.push(Some(part)).ok()
+        if entries.len() >= entries.capacity() {
+            return None;
+        }
+        entries.push_reserved(Some(part));
+        Some(())
     }
 
     #[inline(always)]

@@ -168,15 +168,7 @@ pub(crate) fn build_ranged<R: ReadLeaves, B: Build>(
         Builds R.rules (B.built room.old room.new) (ranged range.now) p units.old units.new) }
 {
     let ty = type_of(range);
-    if let Some(value) = R::try_simple(alloc, &ty, units) {
-        let part = B::value(room, value)?;
-        return Some(part);
-    }
-    let Ok(value) = R::read_simple(alloc, &ty, units) else {
-        return None;
-    };
-    let part = B::value(room, value)?;
-    Some(part)
+    build_other::<R, B>(alloc, &ty, units, room)
 }
 
 /// Reads a value of the type of a component that is present though it has this DEFAULT, which is then another value.

@@ -25,15 +25,16 @@ Grows r s = (more : List ℕ) × (s.octets.items ≡ r.octets.items ++ more)
 abbrev pub IsNumberAlone : Content → ℤ → Type 0
 IsNumberAlone c z = (entries_inside c ≡ 0) × ((os : List ℕ) (es : List (Option Datum)) → value_at os c es ≡ number z)
 
--- a value was put into slots, of which the first one is here
+-- a value was put into slots, of which the first one is here, after components that are absent
 pub record IsPut (r s : Room) (at : ℕ) (d : Datum) : Type 0 where
   pub grows : Grows r s
   pub first : Slot
   pub inside : List Slot
   pub slots : s.slots.items ≡ r.slots.items ++ first ∷ inside
   pub here : at ≡ length r.slots.items
-  pub alone : first.absent_before ≡ 0
-  pub stand : Stand s.octets.items (first ∷ inside) (Some d ∷ [])
+  pub before : first.absent_before ≡ r.absent
+  pub over : s.absent ≡ 0
+  pub stand : Stand s.octets.items (first ∷ inside) (absents r.absent ++ Some d ∷ [])
   pub nest : Nest s.octets.items (first ∷ inside)
 
 -- values were put after a slot that is for what they are inside of; `es` stand in their slots
@@ -43,6 +44,7 @@ pub record AreInside (r s : Room) (at : ℕ) (es : List (Option Datum)) : Type 0
   pub inside : List Slot
   pub slots : s.slots.items ≡ r.slots.items ++ first ∷ inside
   pub here : at ≡ length r.slots.items
+  pub before : first.absent_before ≡ r.absent
   pub stand : Stand s.octets.items inside es
   pub nest : Nest s.octets.items inside
 
@@ -50,14 +52,15 @@ pub record AreInside (r s : Room) (at : ℕ) (es : List (Option Datum)) : Type 0
 pub record AreEntries (r s : Room) (e : Entries) (es : List (Option Datum)) : Type 0 where
   pub first : List (Option Datum)
   pub inside : AreInside r s e.at first
-  pub count : e.taken ≡ length first
-  pub all : es ≡ first ++ absents e.absent
+  pub count : e.count ≡ length es
+  pub all : es ≡ first ++ absents s.absent
 
 -- these elements of a SEQUENCE OF
 pub record AreElements (r s : Room) (e : Elements) (ds : List Datum) : Type 0 where
   pub inside : AreInside r s e.at (map (λ d. Some d) ds)
   pub count : e.count ≡ length ds
+  pub over : s.absent ≡ 0
 
 -- the slot of a CHOICE, whose alternative is not there yet
 abbrev pub IsBegun : Room → Room → ℕ → ℕ → Type 0
-IsBegun r s at place = AreInside r s at []
+IsBegun r s at place = AreInside r s at [] × s.absent ≡ 0

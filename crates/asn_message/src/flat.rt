@@ -21,10 +21,8 @@ pub struct Flat;
 pub struct Entries {
     /// Where its slot is.
     pub(crate) at: usize,
-    /// How many entries there are up to the last one that is present.
-    pub(crate) taken: u32,
-    /// How many there are after it.
-    pub(crate) absent: u32,
+    /// How many entries there are.
+    pub(crate) count: u32,
 }
 
 /// A SEQUENCE OF whose elements are not all there.
@@ -62,6 +60,18 @@ impl Build for Flat {
     }
 
     #[inline(always)]
+    fn truth(room: &mut Room, is_true: bool) -> Option<usize> {
+        let at = put_slot(room, Content::Truth(is_true))?;
+        Some(at)
+    }
+
+    #[inline(always)]
+    fn item(room: &mut Room, position: u32) -> Option<usize> {
+        let at = put_slot(room, Content::Item(position))?;
+        Some(at)
+    }
+
+    #[inline(always)]
     fn value(room: &mut Room, value: Value) -> Option<usize> {
         put_alone(room, &value)
     }
@@ -69,53 +79,28 @@ impl Build for Flat {
     #[inline(always)]
     fn entries(_alloc: Global, room: &mut Room, _count: usize) -> Option<Entries> {
         let at = room.push(Content::Null)?;
-        Some(Entries {
-            at,
-            taken: 0,
-            absent: 0,
-        })
+        Some(Entries { at, count: 0 })
     }
 
     #[inline(always)]
-    fn absent(_room: &mut Room, entries: &mut Entries) -> Option<()> {
-        let absent = entries.absent.checked_add(1)?;
-        *entries = Entries {
-            at: entries.at,
-            taken: entries.taken,
-            absent,
-        };
+    fn absent(room: &mut Room, entries: &mut Entries) -> Option<()> {
+        entries.count = entries.count.checked_add(1)?;
+        room.absent = room.absent.checked_add(1)?;
         Some(())
     }
 
     #[inline(always)]
-    fn present(room: &mut Room, entries: &mut Entries, part: usize) -> Option<()> {
-        if part >= room.slots.len() {
-            return None;
-        }
-        let before = entries.taken.checked_add(entries.absent)?;
-        let taken = before.checked_add(1)?;
-        let slot = room.slots[part];
-        let slot = Slot {
-            content: slot.content,
-            absent_before: entries.absent,
-            inside: slot.inside,
-        };
-        room.replace(part, slot)?;
-        *entries = Entries {
-            at: entries.at,
-            taken,
-            absent: 0,
-        };
+    fn present(_room: &mut Room, entries: &mut Entries, _part: usize) -> Option<()> {
+        entries.count = entries.count.checked_add(1)?;
         Some(())
     }
 
     #[inline(always)]
     fn sequence(room: &mut Room, entries: Entries) -> Option<usize> {
-        let content = Content::Sequence {
-            taken: entries.taken,
-            absent: entries.absent,
-        };
-        let part = room.close(entries.at, content)?;
+        let absent = room.absent;
+        let taken = entries.count.checked_sub(absent)?;
+        room.absent = 0;
+        let part = room.close(entries.at, Content::Sequence { taken, absent })?;
         Some(part)
     }
 
@@ -127,8 +112,7 @@ impl Build for Flat {
 
     #[inline(always)]
     fn element(_room: &mut Room, row: &mut Elements, _part: usize) -> Option<()> {
-        let count = row.count.checked_add(1)?;
-        *row = Elements { at: row.at, count };
+        row.count = row.count.checked_add(1)?;
         Some(())
     }
 
@@ -161,7 +145,7 @@ impl Build for Flat {
 #[inline(always)]
 fn put_slot(room: &mut Room, content: Content) -> Option<usize>
     ensures { IfSome result (λ at. (r : Room) (d : Datum) → Grows r room.old → room.old.slots ≡ r.slots
-        → entries_inside content ≡ 0
+        → room.old.absent ≡ r.absent → entries_inside content ≡ 0
         → ((more : List ℕ) (es : List (Option Datum)) → value_at (room.old.octets.items ++ more) content es ≡ d)
         → IsPut r room.new at d) }
 {

@@ -47,6 +47,7 @@ impl Message {
     fn take_room(&mut self) -> Room
         ensures slots { result.slots.items ≡ [] }
         ensures octets { result.octets.items ≡ [] }
+        ensures absent { result.absent ≡ 0 }
         ensures left { value_seen self.new ≡ nothing }
     {
         let alloc = *self.room.slots.allocator();

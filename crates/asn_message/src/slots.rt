@@ -1,5 +1,5 @@
 //! The slots of a value.
-ghost use Rattle.std.specs.Prelude.{◌≡◌, ◌++◌, ◌∷◌, [], ℕ, List, length, IfSome, IsSome};
+ghost use Rattle.std.specs.Prelude.{◌≡◌, ◌<◌, ◌++◌, ◌∷◌, [], ℕ, List, length, vec_len, vec_capacity, IfSome, IsSome};
 ghost use Rattle.asn_message.specs.declared.slots.Slot.{Slot};
 ghost use Rattle.asn_message.specs.Building.{Grows};
 ghost use Rattle.asn_message.specs.Slots.{octets_at, bits_at};
@@ -57,6 +57,8 @@ pub struct Slot {
 pub struct Room {
     pub slots: Vec<Slot>,
     pub octets: Vec<u8>,
+    /// How many components that are absent stand after the last slot, and before the next one of their SEQUENCE.
+    pub absent: u32,
 }
 
 impl Room {
@@ -64,10 +66,12 @@ impl Room {
     pub fn new(alloc: Global) -> Room
         ensures slots { result.slots.items ≡ [] }
         ensures octets { result.octets.items ≡ [] }
+        ensures absent { result.absent ≡ 0 }
     {
         Room {
             slots: Vec::new(alloc),
             octets: Vec::new(alloc),
+            absent: 0,
         }
     }
 
@@ -75,28 +79,31 @@ impl Room {
     pub fn clear(&mut self)
         ensures slots { self.new.slots.items ≡ [] }
         ensures octets { self.new.octets.items ≡ [] }
+        ensures absent { self.new.absent ≡ 0 }
     {
         self.slots.clear();
         self.octets.clear();
+        self.absent = 0;
     }
 
-    /// Adds a slot, and tells where.
+    /// Adds a slot, before which stand the components that are absent, and tells where.
     #[inline(always)]
     pub(crate) fn push(&mut self, content: Content) -> Option<usize>
         ensures octets { self.new.octets ≡ self.old.octets }
+        ensures absent { self.new.absent ≡ 0 }
         ensures at { IfSome result (λ at. at ≡ length self.old.slots.items) }
         ensures slots { IfSome result (λ at. self.new.slots.items
-            ≡ self.old.slots.items ++ record { content = content; absent_before = 0; inside = 0 } ∷ []) }
+            ≡ self.old.slots.items ++ record { content = content; absent_before = self.old.absent; inside = 0 } ∷ []) }
     {
         let at = self.slots.len();
         let slot = Slot {
             content,
-            absent_before: 0,
+            absent_before: self.absent,
             inside: 0,
         };
-        let Ok(()) = self.slots.push(slot) else {
-            return None;
-        };
+        self.absent = 0;
+        make_room(&mut self.slots)?;
+        self.slots.push_reserved(slot);
         Some(at)
     }
 
@@ -104,6 +111,7 @@ impl Room {
     #[inline(always)]
     pub(crate) fn replace(&mut self, at: usize, slot: Slot) -> Option<()>
         ensures octets { self.new.octets ≡ self.old.octets }
+        ensures absent { self.new.absent ≡ self.old.absent }
         ensures slots { IsSome result → (xs : List Slot) (old : Slot) (ys : List Slot)
             → self.old.slots.items ≡ xs ++ old ∷ ys → at ≡ length xs → self.new.slots.items ≡ xs ++ slot ∷ ys }
     {
@@ -114,23 +122,25 @@ impl Room {
         Some(())
     }
 
-    /// Puts the slot of a value with parts in its place, once these are there, and tells where.
+    /// Tells of the slot of a value with parts what it is of, once these are there, and where it is.
     #[inline(always)]
     pub(crate) fn close(&mut self, at: usize, content: Content) -> Option<usize>
         ensures octets { self.new.octets ≡ self.old.octets }
+        ensures absent { self.new.absent ≡ self.old.absent }
         ensures at { IfSome result (λ here. here ≡ at) }
         ensures slots { IsSome result → (xs : List Slot) (old : Slot) (ys : List Slot)
             → self.old.slots.items ≡ xs ++ old ∷ ys → at ≡ length xs → self.new.slots.items
-            ≡ xs ++ record { content = content; absent_before = 0; inside = length ys } ∷ ys }
+            ≡ xs ++ record { content = content; absent_before = old.absent_before; inside = length ys } ∷ ys }
     {
         let count = self.slots.len();
         if at >= count {
             return None;
         }
         let inside = u32::try_from(count - at - 1).ok()?;
+        let begun = self.slots[at];
         let slot = Slot {
             content,
-            absent_before: 0,
+            absent_before: begun.absent_before,
             inside,
         };
         self.replace(at, slot)?;
@@ -141,6 +151,7 @@ impl Room {
     #[inline(always)]
     pub(crate) fn push_octets(&mut self, octets: &[u8]) -> Option<Span>
         ensures slots { self.new.slots ≡ self.old.slots }
+        ensures absent { self.new.absent ≡ self.old.absent }
         ensures octets { IsSome result → self.new.octets.items ≡ self.old.octets.items ++ octets.now }
         ensures at { IfSome result (λ s. (more : List ℕ) → octets_at (self.new.octets.items ++ more) s ≡ octets.now) }
     {
@@ -155,6 +166,7 @@ impl Room {
     /// The same of bits, an octet for each.
     pub(crate) fn push_bits(&mut self, bits: &[bool]) -> Option<Span>
         ensures slots { self.new.slots ≡ self.old.slots }
+        ensures absent { self.new.absent ≡ self.old.absent }
         ensures octets { IsSome result → Grows self.old self.new }
         ensures at { IfSome result (λ s. (more : List ℕ) → bits_at (self.new.octets.items ++ more) s ≡ bits.now) }
     {
@@ -167,4 +179,29 @@ impl Room {
         }
         Some(Span { begin, length })
     }
+}
+
+/// Sees to it that there is room for one slot more; `None` where memory is wanting.
+#[inline(always)]
+fn make_room(slots: &mut Vec<Slot>) -> Option<()>
+    ensures same { slots.new.items ≡ slots.old.items }
+    ensures room { IsSome result → vec_len slots.new < vec_capacity slots.new }
+{
+    if slots.len() < slots.capacity() {
+        return Some(());
+    }
+    grow(slots)
+}
+
+/// Takes more memory for slots.
+#[cold]
+#[inline(never)]
+fn grow(slots: &mut Vec<Slot>) -> Option<()>
+    ensures same { slots.new.items ≡ slots.old.items }
+    ensures room { IsSome result → vec_len slots.new < vec_capacity slots.new }
+{
+    let Ok(()) = slots.reserve(1) else {
+        return None;
+    };
+    Some(())
 }

@@ -21,6 +21,8 @@ same_row ns more a b l h = ap (take (b - a)) (drop-append-le a ns more (omega (a
 
 pub plan_more : (ns more : List Node) (t : Shape) (k : Kind) → IsPlan ns t k → IsPlan (ns ++ more) t k
 plan_more ns more (sequence root others) (kind.Number b) p = absurd p
+plan_more ns more (sequence root others) kind.Truth p = absurd p
+plan_more ns more (sequence root others) (kind.Item e) p = absurd p
 plan_more ns more (sequence root others) (kind.Leaf l) p = absurd p
 plan_more ns more (sequence root others) (kind.Sequence s) p =
     let before : take s.begin (ns ++ more) ≡ take s.begin ns = take-append-le s.begin ns more (omega (arith, p.0, p.1, p.2)) in
@@ -30,6 +32,8 @@ plan_more ns more (sequence root others) (kind.Sequence s) p =
 plan_more ns more (sequence root others) (kind.List l) p = absurd p
 plan_more ns more (sequence root others) (kind.Choice a) p = absurd p
 plan_more ns more (sequence_of t s) (kind.Number b) p = absurd p
+plan_more ns more (sequence_of t s) kind.Truth p = absurd p
+plan_more ns more (sequence_of t s) (kind.Item e) p = absurd p
 plan_more ns more (sequence_of t s) (kind.Leaf l) p = absurd p
 plan_more ns more (sequence_of t s) (kind.Sequence q) p = absurd p
 plan_more ns more (sequence_of t s) (kind.List l) p =
@@ -38,6 +42,8 @@ plan_more ns more (sequence_of t s) (kind.List l) p =
     (omega (arith, p.0, length-append ns more), p.1, p.2, p.3 ++ more, from, rw before p.5)
 plan_more ns more (sequence_of t s) (kind.Choice a) p = absurd p
 plan_more ns more (choice root others) (kind.Number b) p = absurd p
+plan_more ns more (choice root others) kind.Truth p = absurd p
+plan_more ns more (choice root others) (kind.Item e) p = absurd p
 plan_more ns more (choice root others) (kind.Leaf l) p = absurd p
 plan_more ns more (choice root others) (kind.Sequence s) p = absurd p
 plan_more ns more (choice root others) (kind.List l) p = absurd p

@@ -9,3 +9,5 @@ pub mod Messages
 pub mod NodeKinds
 pub mod RangedRead
 pub mod Rows
+pub mod Ordered
+pub mod WordsRead

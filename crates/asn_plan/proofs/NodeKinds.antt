@@ -3,7 +3,7 @@ use Rattle.std.proofs.Common.{◌≡◌, ◌<◌, ◌+◌, ◌∷◌, ◌∙◌,
 use Rattle.std.specs.Prelude.{IfSome}
 use Rattle.std.proofs.Math.Seq.{drop-cons}
 use Rattle.std.proofs.Math.Numerals.{add-one}
-use Rattle.asn_values.specs.Shape.{Shape, Fields, MoreFields, Alternatives, MoreAlternatives, sequence, sequence_of, choice}
+use Rattle.asn_values.specs.Shape.{Shape, Fields, MoreFields, Alternatives, MoreAlternatives, boolean, sequence, sequence_of, choice}
 use Rattle.asn_values.specs.View.{shape_of, size_range_of}
 use Rattle.asn_rules.specs.Listed.{bitmap_length}
 use Rattle.asn_walk.specs.Coding.{added, added_alternatives}
@@ -12,6 +12,7 @@ use Rattle.asn_plan.specs.declared.plan.AlternativeRows.{AlternativeRows}
 use Rattle.asn_plan.specs.declared.plan.Between.{Between}
 use Rattle.asn_plan.specs.declared.plan.ComponentRows.{ComponentRows}
 use Rattle.asn_plan.specs.declared.plan.ElementRow.{ElementRow}
+use Rattle.asn_plan.specs.declared.plan.Items.{Items}
 use Rattle.asn_plan.specs.declared.plan.Kind.TheVariants as kind
 use Rattle.asn_plan.specs.declared.plan.Leaf.{Leaf}
 use Rattle.asn_plan.specs.declared.plan.Node.{Node}
@@ -27,6 +28,18 @@ number_is ns (sequence root more) b p = absurd p
 number_is ns (sequence_of u s) b p = absurd p
 number_is ns (choice root more) b p = absurd p
 number_is ns t b p = p
+
+pub truth_is : (ns : List Node) (t : Shape) → IsPlan ns t kind.Truth → t ≡ boolean
+truth_is ns (sequence root more) p = absurd p
+truth_is ns (sequence_of u s) p = absurd p
+truth_is ns (choice root more) p = absurd p
+truth_is ns t p = p
+
+pub item_is : (ns : List Node) (t : Shape) (e : Items) → IsPlan ns t (kind.Item e) → t ≡ shape_of e.of.ty
+item_is ns (sequence root more) e p = absurd p
+item_is ns (sequence_of u s) e p = absurd p
+item_is ns (choice root more) e p = absurd p
+item_is ns t e p = p
 
 pub leaf_is : (ns : List Node) (t : Shape) (l : Leaf) → IsPlan ns t (kind.Leaf l) → t ≡ shape_of l.ty
 leaf_is ns (sequence root more) l p = absurd p

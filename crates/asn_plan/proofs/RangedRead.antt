@@ -1,13 +1,12 @@
 -- A number between two bounds, by what was worked out of them.
-use Rattle.std.proofs.Common.{◌≡◌, ◌≤◌, ◌+◌, ◌++◌, ℕ, suc, ℤ, pos, ◌+ℤ◌, ◌≤ℤ◌, Bool, false, List, None, refl, sym, ap, ◌∙◌, arith}
+use Rattle.std.proofs.Common.{◌≡◌, ◌≤◌, ◌++◌, ℕ, suc, pos, ◌+ℤ◌, ◌≤ℤ◌, false, List, None, refl, sym, ap, ◌∙◌, arith}
 use Rattle.std.proofs.lemmas.Int.{ints}
 use mir.Syntax.{w128}
 use mir.Val.{to_z, of_z}
 use Rattle.asn_values.specs.Datum.{number}
-use Rattle.asn_values.specs.Fits.{Fits, lowest_integer, highest_integer}
-use Rattle.asn_values.specs.Profile.{InProfile}
+use Rattle.asn_values.specs.Fits.{lowest_integer, highest_integer}
 use Rattle.asn_values.specs.Shape.{integer}
-use Rattle.asn_bits.specs.Numbers.{above, bits, width}
+use Rattle.asn_bits.specs.Numbers.{above, bits}
 use Rattle.asn_bits.specs.Sink.{bit_of}
 use Rattle.asn_bits.proofs.Above.{above-add, add_within, kept}
 use Rattle.asn_rules.specs.Components.{extension_bit}

@@ -13,6 +13,8 @@ use Rattle.asn_rules.specs.Languages.{Spells}
 use Rattle.asn_rules.specs.Listed.{Listed, bitmap_length}
 use Rattle.asn_walk.specs.Coding.{Coding, OpenOf, OpenListed, added, added_alternatives}
 use Rattle.asn_plan.specs.Ranged.{ranged}
+use Rattle.asn_plan.specs.Words.{before}
+use Rattle.asn_plan.specs.declared.word.Word.{Word}
 use Rattle.asn_walk.specs.Reading.{Reads, ValuesOf}
 use Rattle.asn_plan.specs.declared.plan.Plan.{Plan}
 use Rattle.asn_plan.specs.declared.plan.Node.{Node}
@@ -26,6 +28,8 @@ use Rattle.asn_plan.specs.declared.plan.Kind.TheVariants as kind
 -- of a type without parts a node says its bounds, or holds it
 abbrev pub IsLeafPlan : Kind → Shape → Type 0
 IsLeafPlan (kind.Number b) t = t ≡ ranged b.range
+IsLeafPlan kind.Truth t = t ≡ boolean
+IsLeafPlan (kind.Item e) t = t ≡ shape_of e.of.ty
 IsLeafPlan (kind.Leaf l) t = t ≡ shape_of l.ty
 IsLeafPlan (kind.Sequence s) t = ⊥
 IsLeafPlan (kind.List l) t = ⊥
@@ -53,6 +57,8 @@ abbrev mutual
   IsPlan ns (restricted a s) k = IsLeafPlan k (restricted a s)
   IsPlan ns utf8_string k = IsLeafPlan k utf8_string
   IsPlan ns (sequence root more) (kind.Number b) = ⊥
+  IsPlan ns (sequence root more) kind.Truth = ⊥
+  IsPlan ns (sequence root more) (kind.Item e) = ⊥
   IsPlan ns (sequence root more) (kind.Leaf l) = ⊥
   IsPlan ns (sequence root more) (kind.Sequence s) =
       (s.begin ≤ s.middle) × (s.middle ≤ s.end) × (s.end ≤ length ns)
@@ -62,12 +68,16 @@ abbrev mutual
   IsPlan ns (sequence root more) (kind.List l) = ⊥
   IsPlan ns (sequence root more) (kind.Choice a) = ⊥
   IsPlan ns (sequence_of t s) (kind.Number b) = ⊥
+  IsPlan ns (sequence_of t s) kind.Truth = ⊥
+  IsPlan ns (sequence_of t s) (kind.Item e) = ⊥
   IsPlan ns (sequence_of t s) (kind.Leaf l) = ⊥
   IsPlan ns (sequence_of t s) (kind.Sequence p) = ⊥
   IsPlan ns (sequence_of t s) (kind.List l) = (l.element < length ns) × (s ≡ size_range_of l.size) × (m : Node)
       × (rest : List Node) × (drop l.element ns ≡ m ∷ rest) × IsPlan (take l.element ns) t m.kind
   IsPlan ns (sequence_of t s) (kind.Choice a) = ⊥
   IsPlan ns (choice root more) (kind.Number b) = ⊥
+  IsPlan ns (choice root more) kind.Truth = ⊥
+  IsPlan ns (choice root more) (kind.Item e) = ⊥
   IsPlan ns (choice root more) (kind.Leaf l) = ⊥
   IsPlan ns (choice root more) (kind.Sequence s) = ⊥
   IsPlan ns (choice root more) (kind.List l) = ⊥
@@ -120,6 +130,20 @@ pub record Builds {P : Type 0} (c : Coding) (built : P → Datum → Type 0) (t 
   pub of_value : built p value
   pub read : Reads c (ValuesOf c t) value old new
 
+-- from a word, after which these units stand, a value of the type was read, of which this part was built
+pub record BuildsNext {P : Type 0} (c : Coding) (built : P → Datum → Type 0) (t : Shape) (p : P) (old new : Word)
+    (us : List ℕ) : Type 0 where
+  pub value : Datum
+  pub of_value : built p value
+  pub read : Spells c.ruling.fielding (ValuesOf c t) value (before old us) (before new us)
+
+-- the same of components that all have to be there
+pub record BuildsNumbers {P : Type 0} (c : Coding) (listed : P → List (Option Datum) → Type 0) (root : Fields) (p : P)
+    (old new : Word) (us : List ℕ) : Type 0 where
+  pub entries : List (Option Datum)
+  pub of_entries : listed p entries
+  pub read : Spells c.ruling.fielding (Listed c.code root []) entries (before old us) (before new us)
+
 -- Of components, of which the first is one that the node is of, an entry was read, and put after those that were there
 -- before. P says which these were, N which there are now; left is how many presence bits there were, after how many
 -- there are now.
@@ -164,7 +188,7 @@ pub record BuildsComponents {P : Type 0} (c : Coding) (listed : P → List (Opti
     (bitmap left : ℕ) (p : P) (old new : List ℕ) : Type 0 where
   pub entries : List (Option Datum)
   pub of_entries : listed p entries
-  pub read : Reads c (Listed c.code root (bits left bitmap)) entries old new
+  pub read : Spells c.ruling.fielding (Listed c.code root (bits left bitmap)) entries old new
 
 -- a prefix of the units is a spelling of elements, of which this was built
 pub record BuildsList {P : Type 0} (c : Coding) (rowed : P → List Datum → Type 0)

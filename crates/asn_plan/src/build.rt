@@ -1,6 +1,6 @@
 //! What the walk of a plan builds of the values that it reads: nothing, where it only checks, or values.
 ghost use Rattle.std.specs.Prelude.{◌≡◌, ℕ, ◌<◌, ◌^◌, ◌++◌, ◌∷◌, [], map, List, Option, Some, None, IfSome, IsSome, ⊤};
-ghost use Rattle.asn_values.specs.Datum.{Datum, number, components, components_of, elements, elements_of, alternative};
+ghost use Rattle.asn_values.specs.Datum.{Datum, truth, number, item, components, components_of, elements, elements_of, alternative};
 ghost use Rattle.asn_values.specs.View.{datum_of, entries_seen};
 ghost use Rattle.asn_walk.specs.Integers.{IsOfProfile};
 
@@ -38,6 +38,14 @@ pub trait Build {
     fn number(room: &mut Self::Room, integer: i128) -> Option<Self::Part>
         requires { IsOfProfile integer }
         ensures { IfSome result (λ p. built room.old room.new p (number integer)) };
+
+    /// Of a BOOLEAN.
+    fn truth(room: &mut Self::Room, is_true: bool) -> Option<Self::Part>
+        ensures { IfSome result (λ p. built room.old room.new p (truth is_true)) };
+
+    /// Of an ENUMERATED: the item at this position, counted from 0.
+    fn item(room: &mut Self::Room, position: u32) -> Option<Self::Part>
+        ensures { IfSome result (λ p. built room.old room.new p (item position)) };
 
     /// Of a value without parts; it may give up at another.
     fn value(room: &mut Self::Room, value: Value) -> Option<Self::Part>
@@ -122,6 +130,16 @@ impl Build for Nothing {
     }
 
     #[inline(always)]
+    fn truth(_room: &mut (), _is_true: bool) -> Option<()> {
+        Some(())
+    }
+
+    #[inline(always)]
+    fn item(_room: &mut (), _position: u32) -> Option<()> {
+        Some(())
+    }
+
+    #[inline(always)]
     fn value(_room: &mut (), _value: Value) -> Option<()> {
         Some(())
     }
@@ -200,6 +218,16 @@ impl Build for Values {
     }
 
     #[inline(always)]
+    fn truth(_room: &mut (), is_true: bool) -> Option<Value> {
+        Some(Value::Bool(is_true))
+    }
+
+    #[inline(always)]
+    fn item(_room: &mut (), position: u32) -> Option<Value> {
+        Some(Value::Enum(position))
+    }
+
+    #[inline(always)]
     fn value(_room: &mut (), value: Value) -> Option<Value> {
         Some(value)
     }
@@ -211,12 +239,20 @@ impl Build for Values {
 
     #[inline(always)]
     fn absent(_room: &mut (), entries: &mut Vec<Option<Value>>) -> Option<()> {
-        entries.push(None).ok()
+        if entries.len() >= entries.capacity() {
+            return None;
+        }
+        entries.push_reserved(None);
+        Some(())
     }
 
     #[inline(always)]
     fn present(_room: &mut (), entries: &mut Vec<Option<Value>>, part: Value) -> Option<()> {
-        entries.push(Some(part)).ok()
+        if entries.len() >= entries.capacity() {
+            return None;
+        }
+        entries.push_reserved(Some(part));
+        Some(())
     }
 
     #[inline(always)]

@@ -5,20 +5,25 @@ ghost use Rattle.asn_values.specs.Parts.{AreOfProfile};
 ghost use Rattle.asn_values.specs.Profile.{InProfile};
 ghost use Rattle.asn_values.specs.Shape.{Shape, Fields, MoreFields, demands, sequence, no_fields, more_fields};
 ghost use Rattle.asn_bits.specs.Numbers.{bits};
+ghost use Rattle.asn_rules.specs.Languages.{Spells};
 ghost use Rattle.asn_rules.specs.Listed.{bitmap_length};
-ghost use Rattle.asn_walk.specs.Coding.{OpenListed, AdditionsOf, added};
+ghost use Rattle.asn_walk.specs.Coding.{OpenListed, AdditionsOf, PreambleOf, added};
+ghost use Rattle.asn_walk.specs.Views.{preamble_seen};
 ghost use Rattle.asn_plan.specs.declared.plan.Kind.TheVariants as kind;
 ghost use Rattle.asn_plan.specs.Plans.{IsPlan, ArePlans, Builds, BuildsEntry, BuildsComponents, BuildsMore, BuildsAddition, absents};
+ghost use Rattle.asn_plan.specs.Words.{before};
 
 use crate::build::Build;
 use crate::copies::copy_default;
 use crate::leaves::read_other;
 use crate::open::build_open;
+use crate::packed::build_next;
 use crate::plan::{ComponentRows, Node, Presence};
 use crate::rules::PlanLeaves;
 use crate::walk::build_at;
+use crate::word::Word;
 use asn_bits::BitCursor;
-use asn_walk::PresenceBits;
+use asn_walk::{Preamble, PresenceBits};
 use std::alloc::Global;
 
 /// What is built of the SEQUENCE with which the units begin, and which is taken.
@@ -50,15 +55,16 @@ pub(crate) fn build_sequence<R: PlanLeaves, B: Build>(
     let before = &nodes[..parts.begin];
     let root = &nodes[parts.begin..parts.middle];
     let added = &nodes[parts.middle..parts.end];
-    let Ok(preamble) = R::read_preamble(parts.width, parts.additions, units) else {
-        return None;
-    };
+    let mut word = R::take_word(parts.head, units);
+    let preamble = read_preamble::<R>(parts.width, parts.additions, &mut word, units)?;
     let presence = PresenceBits {
         bitmap: preamble.bitmap,
         left: parts.width,
     };
     let count = parts.end - parts.begin;
-    let mut entries = build_components::<R, B>(alloc, before, root, presence, count, units, room)?;
+    let mut entries = build_components::<R, B>(
+        alloc, before, root, presence, word, count, units, room,
+    )?;
     if !preamble.extended {
         add_absent::<B>(added, &mut entries, room)?;
         let whole = B::sequence(room, entries)?;
@@ -67,6 +73,31 @@ pub(crate) fn build_sequence<R: PlanLeaves, B: Build>(
     build_additions::<R, B>(alloc, before, added, &mut entries, units, room)?;
     let part = B::sequence(room, entries)?;
     Some(part)
+}
+
+/// Reads the extension bit, where there is an extension mark with this many additions, and a presence bitmap of `count`
+/// bits, from the word, where one was taken.
+#[inline(always)]
+fn read_preamble<R: PlanLeaves>(
+    count: u32,
+    additions: Option<usize>,
+    word: &mut Word,
+    units: &mut BitCursor<'_>,
+) -> Option<Preamble>
+    requires at_unit { R.rules.at_unit units.old }
+    requires few { count ≤ 64 }
+    ensures at_unit { IsSome result → R.rules.at_unit units.new }
+    ensures some { IfSome result (λ p.
+        Spells R.rules.ruling.fielding (PreambleOf R.rules count additions) (preamble_seen p)
+        (before word.old (R.rules.to_units units.old)) (before word.new (R.rules.to_units units.new))) }
+{
+    if !word.is_empty() {
+        return R::next_preamble(count, additions, word);
+    }
+    let Ok(preamble) = R::read_preamble(count, additions, units) else {
+        return None;
+    };
+    Some(preamble)
 }
 
 /// What is built of the SEQUENCE with neither components nor extension additions with which the units begin, and which
@@ -105,6 +136,7 @@ fn build_components<R: PlanLeaves, B: Build>(
     nodes: &[Node],
     parts: &[Node],
     presence: PresenceBits,
+    word: Word,
     count: usize,
     units: &mut BitCursor<'_>,
     room: &mut B::Room,
@@ -114,14 +146,72 @@ fn build_components<R: PlanLeaves, B: Build>(
     ensures at_unit { IsSome result → R.rules.at_unit units.new }
     ensures some { IfSome result (λ p. (root : Fields) → AreOfProfile root → ArePlans nodes.now parts.now root
         → presence.left ≡ bitmap_length root
-        → BuildsComponents R.rules (B.listed room.old room.new) root presence.bitmap presence.left p units.old units.new) }
+        → BuildsComponents R.rules (B.listed room.old room.new) root presence.bitmap presence.left p
+        (before word (R.rules.to_units units.old)) (R.rules.to_units units.new)) }
 {
     let mut presence = presence;
+    let mut word = word;
     let mut entries = B::entries(alloc, room, count)?;
     for part in parts {
-        build_component::<R, B>(alloc, nodes, part, &mut presence, &mut entries, units, room)?;
+        build_part::<R, B>(
+            alloc,
+            nodes,
+            part,
+            &mut presence,
+            &mut word,
+            &mut entries,
+            units,
+            room,
+        )?;
+    }
+    if !word.is_empty() {
+        return None;
     }
     Some(entries)
+}
+
+/// Takes so many units into the word, where it is empty and they are at hand.
+#[inline(always)]
+fn fill<R: PlanLeaves>(run: u32, word: &mut Word, units: &mut BitCursor<'_>)
+    requires at_unit { R.rules.at_unit units.old }
+    ensures at_unit { R.rules.at_unit units.new }
+    ensures same { before word.old (R.rules.to_units units.old) ≡ before word.new (R.rules.to_units units.new) }
+{
+    if run == 0 || !word.is_empty() {
+        return;
+    }
+    *word = R::take_word(run, units);
+}
+
+/// Adds the entry of a component, which is taken from the word, where it has bits, and else where the presence bits tell
+/// that it is there.
+#[inline(always)]
+#[cycle(walk)]
+fn build_part<R: PlanLeaves, B: Build>(
+    alloc: Global,
+    nodes: &[Node],
+    part: &Node,
+    presence: &mut PresenceBits,
+    word: &mut Word,
+    entries: &mut B::Entries,
+    units: &mut BitCursor<'_>,
+    room: &mut B::Room,
+) -> Option<()>
+    requires at_unit { R.rules.at_unit units.old }
+    requires few { presence.old.left ≤ 64 }
+    ensures at_unit { IsSome result → R.rules.at_unit units.new }
+    ensures bitmap { IsSome result → presence.new.bitmap ≡ presence.old.bitmap }
+    ensures some { IsSome result → (s : B.Room)
+        → BuildsEntry R.rules (B.listed s room.old entries.old) (B.listed s room.new entries.new)
+        nodes.now part.now presence.old.bitmap presence.old.left presence.new.left
+        (before word.old (R.rules.to_units units.old)) (before word.new (R.rules.to_units units.new)) }
+{
+    fill::<R>(part.run, word, units);
+    if !word.is_empty() {
+        let value = build_next::<R, B>(alloc, nodes, part, word, room)?;
+        return B::present(room, entries, value);
+    }
+    build_component::<R, B>(alloc, nodes, part, presence, entries, units, room)
 }
 
 /// Adds the entry of a component, which is taken where the presence bits tell that it is there.

@@ -90,6 +90,16 @@ impl Build for Counting {
     }
 
     #[inline(always)]
+    fn truth(_room: &mut (), _is_true: bool) -> Option<Taken> {
+        Some(Taken::of_string(0))
+    }
+
+    #[inline(always)]
+    fn item(_room: &mut (), _position: u32) -> Option<Taken> {
+        Some(Taken::of_string(0))
+    }
+
+    #[inline(always)]
     fn value(_room: &mut (), value: Value) -> Option<Taken> {
         taken_alone(&value)
     }

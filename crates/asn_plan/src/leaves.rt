@@ -1,16 +1,22 @@
 //! What the rules read by themselves, for one node of a plan.
-ghost use Rattle.std.specs.Prelude.{◌≡◌, ◌≤◌, ◌<◌, IfSome, IsSome, true};
+ghost use Rattle.std.specs.Prelude.{◌≡◌, ◌≤◌, ◌<◌, IfSome, IsNone, IsSome, true};
+ghost use Rattle.asn_values.specs.Datum.{truth, item};
 ghost use Rattle.asn_walk.specs.Coding.{AreFew};
 ghost use Rattle.asn_values.specs.Profile.{InProfile, most_alternatives};
-ghost use Rattle.asn_values.specs.Shape.{integer};
+ghost use Rattle.asn_values.specs.Shape.{boolean, integer};
 ghost use Rattle.asn_values.specs.View.{shape_of, range_of};
 ghost use Rattle.asn_plan.specs.Ranged.{ranged, IsRanged};
-ghost use Rattle.asn_walk.specs.Reading.{ReadsOther};
+ghost use Rattle.asn_walk.specs.Laws.{IsSimple};
+ghost use Rattle.asn_walk.specs.Reading.{Reads, ReadsOther, ValuesOf};
+ghost use Rattle.asn_plan.specs.Enumerations.{IsEnumeration};
 ghost use Rattle.asn_plan.specs.Plans.{Builds};
 
 use crate::build::Build;
+use crate::enumeration::Enumeration;
 use crate::plan::{Between, Leaf, WithDefault};
 use crate::ranged::Ranged;
+use crate::rules::PlanLeaves;
+use crate::word::Word;
 use asn_bits::BitCursor;
 use asn_bits::internal::{wide_offset_from, width};
 use asn_values::profile::MAX_ALTERNATIVES;
@@ -41,6 +47,75 @@ pub(crate) fn build_leaf<R: ReadLeaves, B: Build>(
     };
     let part = B::value(room, value)?;
     Some(part)
+}
+
+/// What is built of a value of a type that the rules read by themselves, with which the units begin, and which is taken.
+/// `None` where they begin with none, where they are too few or memory is wanting.
+#[inline(never)]
+pub(crate) fn build_other<R: ReadLeaves, B: Build>(
+    alloc: Global,
+    ty: &AsnType,
+    units: &mut BitCursor<'_>,
+    room: &mut B::Room,
+) -> Option<B::Part>
+    requires at_unit { R.rules.at_unit units.old }
+    requires of_profile { InProfile (shape_of ty.now) }
+    requires simple { IsSimple (shape_of ty.now) }
+    ensures at_unit { IsSome result → R.rules.at_unit units.new }
+    ensures some { IfSome result (λ p.
+        Builds R.rules (B.built room.old room.new) (shape_of ty.now) p units.old units.new) }
+{
+    if let Some(value) = R::try_simple(alloc, ty, units) {
+        let part = B::value(room, value)?;
+        return Some(part);
+    }
+    let Ok(value) = R::read_simple(alloc, ty, units) else {
+        return None;
+    };
+    let part = B::value(room, value)?;
+    Some(part)
+}
+
+/// Reads a BOOLEAN, where it is at hand; otherwise takes nothing.
+#[inline(always)]
+pub(crate) fn try_truth<R: PlanLeaves>(units: &mut BitCursor<'_>) -> Option<bool>
+    requires at_unit { R.rules.at_unit units.old }
+    ensures at_unit { R.rules.at_unit units.new }
+    ensures some { IfSome result (λ b.
+        Reads R.rules (ValuesOf R.rules boolean) (truth b) units.old units.new) }
+    ensures none { IsNone result → units.new ≡ units.old }
+{
+    let start = units.copied();
+    let mut word = R::take_word(1, units);
+    if let Some(is_true) = R::next_truth(&mut word)
+        && word.is_empty()
+    {
+        return Some(is_true);
+    }
+    *units = start;
+    None
+}
+
+/// Reads an ENUMERATED of the type and gives the position of the item, where it is at hand and one of the root;
+/// otherwise takes nothing.
+#[inline(always)]
+pub(crate) fn try_item<R: PlanLeaves>(items: &Enumeration, units: &mut BitCursor<'_>) -> Option<u32>
+    requires at_unit { R.rules.at_unit units.old }
+    requires items { IsEnumeration items.now }
+    ensures at_unit { R.rules.at_unit units.new }
+    ensures some { IfSome result (λ p.
+        Reads R.rules (ValuesOf R.rules (shape_of items.now.ty)) (item p) units.old units.new) }
+    ensures none { IsNone result → units.new ≡ units.old }
+{
+    let start = units.copied();
+    let mut word = R::take_word(items.bits, units);
+    if let Some(position) = R::next_item(items, &mut word)
+        && word.is_empty()
+    {
+        return Some(position);
+    }
+    *units = start;
+    None
 }
 
 /// The INTEGER of these bounds, if there are two, and the offsets between them have at most 64 bits with the extension
@@ -93,15 +168,7 @@ pub(crate) fn build_ranged<R: ReadLeaves, B: Build>(
         Builds R.rules (B.built room.old room.new) (ranged range.now) p units.old units.new) }
 {
     let ty = type_of(range);
-    if let Some(value) = R::try_simple(alloc, &ty, units) {
-        let part = B::value(room, value)?;
-        return Some(part);
-    }
-    let Ok(value) = R::read_simple(alloc, &ty, units) else {
-        return None;
-    };
-    let part = B::value(room, value)?;
-    Some(part)
+    build_other::<R, B>(alloc, &ty, units, room)
 }
 
 /// Reads a value of the type of a component that is present though it has this DEFAULT, which is then another value.

@@ -7,27 +7,35 @@ mod choices;
 mod components;
 mod copies;
 mod counting;
+mod enumeration;
+mod items;
 mod leaves;
 mod lists;
 mod message;
 mod of;
 mod open;
+mod packed;
 mod plan;
 mod planned;
 mod ranged;
 mod rules;
+mod runs;
+mod taking;
 mod walk;
+mod word;
 
 pub use budget::{Budget, Taken, WithinFault};
 pub use build::{Build, Nothing, Values};
 pub use counting::Counting;
+pub use enumeration::Enumeration;
 pub use message::build_octets;
 pub use of::plan_of;
 pub use plan::{
-    AlternativeRows, Between, ComponentRows, ElementRow, Kind, Leaf, Node, Plan, Presence,
+    AlternativeRows, Between, ComponentRows, ElementRow, Items, Kind, Leaf, Node, Plan, Presence,
     WithDefault,
 };
 pub use planned::Planned;
 pub use ranged::Ranged;
 pub use rules::{PlanLeaves, PlanRules};
 pub use walk::build_at;
+pub use word::Word;

@@ -12,10 +12,12 @@ ghost use Rattle.asn_plan.specs.SimpleTypes.{is_simple};
 ghost use Rattle.asn_plan.specs.Plans.{IsLeafPlan, IsPresence, IsPlan, IsPlanOf, ArePlans, ArePlansOfMore, ArePlansOfEach, ArePlansOfOthers};
 
 use crate::copies::copy_simple;
+use crate::items::items_of;
 use crate::leaves::between_of;
 use crate::plan::{
     AlternativeRows, ComponentRows, ElementRow, Kind, Leaf, Node, Plan, Presence, WithDefault,
 };
+use crate::runs::{head_of, run_of};
 use asn_values::{Alt, AsnType, Checked, Field, Need, Size};
 use asn_walk::bitmap_width;
 use std::alloc::{AllocError, Global};
@@ -88,10 +90,15 @@ fn components_of(
     ensures plans { IfOk result (λ parts. ArePlans nodes.new.items parts.items (fields_seen fields.now)) }
 {
     let mut parts = Vec::with_capacity(alloc, fields.len())?;
-    for field in fields {
+    for (place, field) in fields.iter().enumerate() {
         let kind = kind_of(alloc, &field.ty, nodes)?;
         let presence = presence_of(alloc, field)?;
-        parts.push(Node { presence, kind })?;
+        let run = run_of(&fields[place..]);
+        parts.push(Node {
+            presence,
+            kind,
+            run,
+        })?;
     }
     Ok(parts)
 }
@@ -112,6 +119,7 @@ fn place_components(
     let mut first = first;
     let mut rest = rest;
     let begin = nodes.len();
+    let head = head_of(first.as_slice(), additions, width);
     nodes.append(&mut first)?;
     let middle = nodes.len();
     nodes.append(&mut rest)?;
@@ -122,6 +130,7 @@ fn place_components(
         end,
         additions,
         width,
+        head,
     }))
 }
 
@@ -136,6 +145,7 @@ fn place_element(kind: Kind, size: Size, nodes: &mut Vec<Node>) -> Result<Kind, 
     nodes.push(Node {
         presence: Presence::Must,
         kind,
+        run: 0,
     })?;
     Ok(Kind::List(ElementRow { size, element }))
 }
@@ -158,6 +168,7 @@ fn alternatives_of(
         parts.push(Node {
             presence: Presence::Must,
             kind,
+            run: 0,
         })?;
     }
     Ok(parts)
@@ -217,6 +228,12 @@ fn leaf_of(alloc: Global, ty: &AsnType) -> Result<Kind, AllocError>
         if let Some(number) = between_of(bounds) {
             return Ok(Kind::Number(number));
         }
+    }
+    if let AsnType::Bool = ty {
+        return Ok(Kind::Truth);
+    }
+    if let Some(items) = items_of(alloc, ty)? {
+        return Ok(Kind::Item(items));
     }
     let ty = copy_simple(alloc, ty)?;
     Ok(Kind::Leaf(Leaf { ty }))

@@ -2,10 +2,12 @@
 ghost use Rattle.std.specs.Prelude.{◌≡◌, true};
 ghost use Rattle.asn_values.specs.Profile.{InProfile, good_default};
 ghost use Rattle.asn_values.specs.View.{shape_of, datum_of, size_range_of};
+ghost use Rattle.asn_plan.specs.Enumerations.{IsEnumeration};
 ghost use Rattle.asn_plan.specs.Ranged.{IsRanged};
 ghost use Rattle.asn_walk.specs.Laws.{IsSizeOfProfile};
 ghost use Rattle.asn_plan.specs.SimpleTypes.{is_simple};
 
+use crate::enumeration::Enumeration;
 use crate::ranged::Ranged;
 use asn_values::{AsnType, Size, Value};
 
@@ -14,6 +16,13 @@ use asn_values::{AsnType, Size, Value};
 pub struct Between {
     pub range: Ranged,
     ghost is_ranged: { IsRanged range },
+}
+
+/// An ENUMERATED whose items stand in the order of their numbers, with what is worked out of them.
+#[derive(Debug, Drop)]
+pub struct Items {
+    pub of: Enumeration,
+    ghost is_enumeration: { IsEnumeration of },
 }
 
 /// A type that is neither SEQUENCE, SEQUENCE OF nor CHOICE.
@@ -45,6 +54,9 @@ pub struct ComponentRows {
     pub additions: Option<usize>,
     /// How many presence bits the root has.
     pub width: u32,
+    /// How many bits may be taken at once, where values are told by numbers of bits: the extension bit, the presence bits,
+    /// and the run of the first component.
+    pub head: u32,
 }
 
 /// How many elements a SEQUENCE OF has, and where the node of their type stands among those of the plan, counted from
@@ -73,6 +85,10 @@ pub struct AlternativeRows {
 pub enum Kind {
     /// An INTEGER with two bounds, whose numbers between them have few enough bits.
     Number(Between),
+    /// A BOOLEAN.
+    Truth,
+    /// An ENUMERATED whose items stand in the order of their numbers.
+    Item(Items),
     /// A value of a type that the rules read by themselves.
     Leaf(Leaf),
     /// A SEQUENCE.
@@ -96,6 +112,9 @@ pub enum Presence {
 pub struct Node {
     pub presence: Presence,
     pub kind: Kind,
+    /// How many bits may be taken at once from here on, where values are told by numbers of bits: those of this component
+    /// and of the next ones, as far as each has to be there and is a number, or a SEQUENCE of such components.
+    pub run: u32,
 }
 
 /// A plan of a type: the nodes of its parts, and what is to be read of the type, before which all of these stand.

@@ -1,25 +1,91 @@
 //! Encoding rules by which a plan is read.
-ghost use Rattle.std.specs.Prelude.{◌≡◌, IfSome, IsNone};
-ghost use Rattle.asn_values.specs.Datum.{number};
+ghost use Rattle.std.specs.Prelude.{◌≡◌, ◌≤◌, ℕ, List, IfSome, IsNone};
+ghost use Rattle.asn_values.specs.Datum.{truth, number, item};
+ghost use Rattle.asn_values.specs.Shape.{boolean};
+ghost use Rattle.asn_values.specs.View.{shape_of};
+ghost use Rattle.asn_rules.specs.Languages.{Spells};
+ghost use Rattle.asn_walk.specs.Coding.{PreambleOf};
+ghost use Rattle.asn_walk.specs.Views.{preamble_seen};
 ghost use Rattle.asn_walk.specs.Integers.{IsOfProfile};
 ghost use Rattle.asn_walk.specs.Reading.{Reads, ValuesOf};
 ghost use Rattle.asn_per.specs.Walk.{per_coding};
 ghost use Rattle.asn_oer.specs.Walk.{oer_coding};
+ghost use Rattle.asn_plan.specs.Enumerations.{IsEnumeration};
 ghost use Rattle.asn_plan.specs.Ranged.{ranged, IsRanged};
 ghost use Rattle.asn_plan.specs.Rules.{per_parts, oer_parts};
+ghost use Rattle.asn_plan.specs.Words.{before};
 
+use crate::enumeration::Enumeration;
 use crate::ranged::Ranged;
+use crate::word::Word;
 use asn_bits::BitCursor;
 use asn_bits::internal::at_offset;
 use asn_oer::Oer;
 use asn_per::Per;
 use asn_rules::Rules;
 use asn_rules::internal::{NumberSet, try_number};
-use asn_walk::ReadLeaves;
+use asn_walk::{Preamble, ReadLeaves};
 
 /// What a plan asks of a set of rules beside the parts that any walk asks for: values by what was worked out of their
 /// types once.
 pub trait PlanLeaves: ReadLeaves {
+    /// Takes this many units at once, where a value begins with a number of bits and they are at hand: otherwise none.
+    #[inline(always)]
+    fn take_word(_count: u32, _units: &mut BitCursor<'_>) -> Word
+        requires at_unit { Self.rules.at_unit _units.old }
+        ensures at_unit { Self.rules.at_unit _units.new }
+        ensures taken { Self.rules.to_units _units.old ≡ before result (Self.rules.to_units _units.new) }
+    {
+        Word::none()
+    }
+
+    /// Reads the extension bit, where there is an extension mark with this many additions, and a presence bitmap of
+    /// `count` bits from a word; `None` where they do not stand in it.
+    #[inline(always)]
+    fn next_preamble(_count: u32, _additions: Option<usize>, _word: &mut Word) -> Option<Preamble>
+        requires few { _count ≤ 64 }
+        ensures some { IfSome result (λ p. (us : List ℕ)
+            → Spells Self.rules.ruling.fielding (PreambleOf Self.rules _count _additions) (preamble_seen p)
+            (before _word.old us) (before _word.new us)) }
+    {
+        None
+    }
+
+    /// Reads an INTEGER of the type from a word; `None` where none stands in it, and perhaps if the value lies outside
+    /// the extension root.
+    #[inline(always)]
+    fn next_ranged(_range: &Ranged, _word: &mut Word) -> Option<i128>
+        requires ranged { IsRanged _range.now }
+        ensures some { IfSome result (λ z. (us : List ℕ)
+            → Spells Self.rules.ruling.fielding (ValuesOf Self.rules (ranged _range.now)) (number z)
+            (before _word.old us) (before _word.new us)) }
+        ensures of_integers { IfSome result IsOfProfile }
+    {
+        None
+    }
+
+    /// Reads a BOOLEAN from a word; `None` where none stands in it.
+    #[inline(always)]
+    fn next_truth(_word: &mut Word) -> Option<bool>
+        ensures { IfSome result (λ b. (us : List ℕ)
+            → Spells Self.rules.ruling.fielding (ValuesOf Self.rules boolean) (truth b)
+            (before _word.old us) (before _word.new us)) }
+    {
+        None
+    }
+
+    /// Reads an ENUMERATED of the type from a word, and gives the position of the item; `None` where none stands in it,
+    /// and for an item that is no one of the root.
+    #[inline(always)]
+    fn next_item(_items: &Enumeration, _word: &mut Word) -> Option<u32>
+        requires { IsEnumeration _items.now }
+        ensures { IfSome result (λ p. (us : List ℕ)
+            → Spells Self.rules.ruling.fielding (ValuesOf Self.rules (shape_of _items.now.ty)) (item p)
+            (before _word.old us) (before _word.new us)) }
+    {
+        None
+    }
+
     /// Reads an INTEGER of the type, or gives `None` and leaves the cursor where it is: if its encoding is not complete
     /// or not valid, and perhaps if the value lies outside the extension root.
     fn try_ranged(range: &Ranged, units: &mut BitCursor<'_>) -> Option<i128>
@@ -34,6 +100,69 @@ pub trait PlanLeaves: ReadLeaves {
 
 #[tactic(auto, unfolding(asn_per::specs::Walk::per_coding, asn_per::specs::Rules::per_ruling))]
 impl PlanLeaves for Per {
+    #[inline(always)]
+    fn take_word(count: u32, units: &mut BitCursor<'_>) -> Word {
+        if count > 63 {
+            return Word::none();
+        }
+        let Some(bits) = units.peek_number(count) else {
+            return Word::none();
+        };
+        match Word::of(bits, count) {
+            Some(word) => {
+                units.pass(count);
+                word
+            }
+            None => Word::none(),
+        }
+    }
+
+    #[inline(always)]
+    fn next_preamble(count: u32, additions: Option<usize>, word: &mut Word) -> Option<Preamble> {
+        let Some(listed) = additions else {
+            let alone = word.take(count)?;
+            return Some(Preamble {
+                extended: false,
+                bitmap: alone,
+            });
+        };
+        let mark = word.take(1)?;
+        let most = u64::from(listed > 0);
+        if mark > most {
+            return None;
+        }
+        let bitmap = word.take(count)?;
+        Some(Preamble {
+            extended: mark > 0,
+            bitmap,
+        })
+    }
+
+    #[inline(always)]
+    fn next_ranged(range: &Ranged, word: &mut Word) -> Option<i128> {
+        let offset = word.take(range.bits)?;
+        if offset > range.highest {
+            return None;
+        }
+        Some(at_offset(range.low, offset))
+    }
+
+    #[inline(always)]
+    fn next_truth(word: &mut Word) -> Option<bool> {
+        let bit = word.take(1)?;
+        Some(bit > 0)
+    }
+
+    #[inline(always)]
+    fn next_item(items: &Enumeration, word: &mut Word) -> Option<u32> {
+        let index = word.take(items.bits)?;
+        let last = u64::from(items.highest);
+        if index > last {
+            return None;
+        }
+        Some(index as u32)
+    }
+
     /// The extension bit, where there is a mark, is read as the highest bit of the offset: so it is 0.
     #[inline(always)]
     fn try_ranged(range: &Ranged, units: &mut BitCursor<'_>) -> Option<i128> {

@@ -11,11 +11,12 @@ ghost use Rattle.asn_plan.specs.Plans.{IsPlan, Builds};
 use crate::build::Build;
 use crate::choices::build_choice;
 use crate::components::build_sequence;
-use crate::leaves::{build_leaf, build_ranged};
+use crate::leaves::{build_leaf, build_other, build_ranged, try_item, try_truth};
 use crate::lists::build_list;
 use crate::plan::{Kind, Node};
 use crate::rules::PlanLeaves;
 use asn_bits::BitCursor;
+use asn_values::AsnType;
 use std::alloc::Global;
 
 /// What is built of the value of the type with which the units begin, and which is taken.
@@ -40,6 +41,20 @@ pub fn build_at<R: PlanLeaves, B: Build>(
                 return Some(part);
             }
             build_ranged::<R, B>(alloc, &number.range, units, room)
+        }
+        Kind::Truth => {
+            if let Some(is_true) = try_truth::<R>(units) {
+                let part = B::truth(room, is_true)?;
+                return Some(part);
+            }
+            build_other::<R, B>(alloc, &AsnType::Bool, units, room)
+        }
+        Kind::Item(items) => {
+            if let Some(position) = try_item::<R>(&items.of, units) {
+                let part = B::item(room, position)?;
+                return Some(part);
+            }
+            build_other::<R, B>(alloc, &items.of.ty, units, room)
         }
         Kind::Leaf(leaf) => build_leaf::<R, B>(alloc, leaf, units, room),
         Kind::Sequence(parts) => build_sequence::<R, B>(alloc, nodes, parts, units, room),

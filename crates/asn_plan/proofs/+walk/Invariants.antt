@@ -4,6 +4,7 @@ use Rattle.asn_values.specs.Shape.{Shape}
 use Rattle.asn_rules.specs.Languages.{Row}
 use Rattle.asn_walk.specs.Reading.{ValuesOf}
 use Rattle.asn_plan.specs.Plans.{IsPlan, BuildsRow}
+use Rattle.asn_plan.specs.Words.{before}
 use Rattle.asn_plan.proofs.Rows.{ListedUpTo}
 use Rattle.asn_plan.proofs.Additions.{AddedUpTo}
 use Rattle.asn_plan.proofs.Building.{BuiltUpTo}
@@ -15,15 +16,18 @@ decreases-walk::build_at g l = 8 * length l.nodes.now + 1
 abbrev pub decreases-components::build_component : goal.decreases-components::build_component
 decreases-components::build_component g l = 8 * length l.nodes.now + 2
 
+abbrev pub decreases-components::build_part : goal.decreases-components::build_part
+decreases-components::build_part g l = 8 * length l.nodes.now + 3
+
 abbrev pub decreases-components::build_components : goal.decreases-components::build_components
-decreases-components::build_components g l = 8 * length l.nodes.now + 3
+decreases-components::build_components g l = 8 * length l.nodes.now + 4
 
 abbrev pub decreases-components::build_sequence : goal.decreases-components::build_sequence
 decreases-components::build_sequence g l = 8 * length l.nodes.now
 
 abbrev pub invariant-components::build_components-loop-part : goal.invariant-components::build_components-loop-part
 invariant-components::build_components-loop-part g l =
-    BuiltUpTo g.R.ReadLeaves.rules (g.B.Build.listed l.fn.room l.room l.entries) l.nodes l.parts (drop l.part-index l.parts) l.fn.presence.left l.fn.presence.bitmap l.presence.left (g.R.ReadLeaves.rules.to_units l.fn.units) (g.R.ReadLeaves.rules.to_units l.units)
+    BuiltUpTo g.R.ReadLeaves.rules (g.B.Build.listed l.fn.room l.room l.entries) l.nodes l.parts (drop l.part-index l.parts) l.fn.presence.left l.fn.presence.bitmap l.presence.left (before l.fn.word (g.R.ReadLeaves.rules.to_units l.fn.units)) (before l.word (g.R.ReadLeaves.rules.to_units l.units))
     × (l.presence.bitmap ≡ l.fn.presence.bitmap) × g.R.ReadLeaves.rules.at_unit l.units
 
 abbrev pub decreases-lists::build_list : goal.decreases-lists::build_list

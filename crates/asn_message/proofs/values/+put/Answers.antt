@@ -21,7 +21,7 @@ put-returns-in_ok-part-in-Choice t c =
     let p = c.in_ok-begun-in-Choice.ensures in
     let q = c.in_ok-part-in-Choice.ensures in
     let b = begun c.args.room.now c.push.new.self content.Null _ p.octets p.slots p.at in
-    let whole = choice_put c.args.room.now c.push.new.self c.put.new.room c.close.new.self _ _ _ c.in-Choice.tag (datum_of c.deref.result.now) b c.in_ok-inside-in-Choice.ensures q.octets (q.slots refl) q.at in
+    let whole = choice_put c.args.room.now c.push.new.self c.put.new.room c.close.new.self _ _ _ c.in-Choice.tag (datum_of c.deref.result.now) b p.absent c.in_ok-inside-in-Choice.ensures q.octets q.absent (q.slots refl) q.at in
     of_same _ _ _ _ _ (ap datum_of c.in-Choice.is ∙ datum_of-Choice c.in-Choice.tag c.in-Choice.chosen ∙ ap (λ v. alternative c.in-Choice.tag (datum_of v)) (sym c.deref.ensures)) whole
 
 pub put_elements-loop-element-preserved : goal.put_elements-loop-element-preserved

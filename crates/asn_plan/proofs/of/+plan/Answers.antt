@@ -20,24 +20,24 @@ use Rattle.asn_plan.proofs.of.+plan.Goals as goal
 
 pub components_of-kind_of-requires : goal.components_of-kind_of-requires
 components_of-kind_of-requires t c =
-    let good : InProfile (part_of_field c.field-item.result).shape = rw (← c.field-item.is) at (field_good c.args.fields.now c.loop-field.field-index c.field-item.result c.loop-field-test.true c.requires.of_profile).0 in
+    let good : InProfile (part_of_field c.index-fields-place.result).shape = rw (← c.index-fields-place.is) at (field_good c.args.fields.now c.loop-place.place c.index-fields-place.result c.loop-place-test.true c.requires.of_profile).0 in
     (search (rules, the_lemmas), rw shape_of_part at good)
 
 pub components_of-presence_of-requires-clause-of_profile : goal.components_of-presence_of-requires-clause-of_profile
 components_of-presence_of-requires-clause-of_profile t c =
-    rw (← c.field-item.is) at (field_good c.args.fields.now c.loop-field.field-index c.field-item.result c.loop-field-test.true c.requires.of_profile).0
+    rw (← c.index-fields-place.is) at (field_good c.args.fields.now c.loop-place.place c.index-fields-place.result c.loop-place-test.true c.requires.of_profile).0
 
 pub components_of-presence_of-requires-clause-good : goal.components_of-presence_of-requires-clause-good
 components_of-presence_of-requires-clause-good t c =
-    rw (← c.field-item.is) at (field_good c.args.fields.now c.loop-field.field-index c.field-item.result c.loop-field-test.true c.requires.of_profile).1
+    rw (← c.index-fields-place.is) at (field_good c.args.fields.now c.loop-place.place c.index-fields-place.result c.loop-place-test.true c.requires.of_profile).1
 
-pub components_of-loop-field-preserved : goal.components_of-loop-field-preserved
-components_of-loop-field-preserved t c =
-    let x = c.field-item.result in
+pub components_of-loop-place-preserved : goal.components_of-loop-place-preserved
+components_of-loop-place-preserved t c =
+    let x = c.index-fields-place.result in
     let os = c.kind_of.new.nodes.items in
     let add = c.in_ok-kind.ensures.added in
     let plan : IsPlan os (part_of_field x).shape c.in_ok-kind.kind = rw shape_of_part c.in_ok-kind.ensures.plan in
-    rw (seen_next c.args.fields.now c.loop-field.field-index x c.loop-field-test.true c.field-item.is, c.in_ok-push.ensures.items) (planned_more c.loop-field.invariant (part_of_field x) (record { presence = c.in_ok-presence.presence; kind = c.in_ok-kind.kind }) os add.0 add.1 c.in_ok-presence.ensures plan)
+    rw (seen_next c.args.fields.now c.loop-place.place x c.loop-place-test.true c.index-fields-place.is, c.in_ok-push.ensures.items) (planned_more c.loop-place.invariant (part_of_field x) (record { presence = c.in_ok-presence.presence; kind = c.in_ok-kind.kind; run = c.run_of-run.result }) os add.0 add.1 c.in_ok-presence.ensures plan)
 
 pub kind_of-components_of-requires : goal.kind_of-components_of-requires
 kind_of-components_of-requires t c =

@@ -3,9 +3,9 @@ use Rattle.asn_values.specs.View.{part_of_field, branch_of}
 use Rattle.asn_plan.proofs.Growing.{PlannedUpTo, PlannedEach}
 use Rattle.asn_plan.proofs.of.+plan.Given as goal
 
-abbrev pub invariant-components_of-loop-field : goal.invariant-components_of-loop-field
-invariant-components_of-loop-field l =
-    PlannedUpTo l.fn.nodes.items (map part_of_field (take l.field-index l.fields)) l.nodes.items l.parts.items
+abbrev pub invariant-components_of-loop-place : goal.invariant-components_of-loop-place
+invariant-components_of-loop-place l =
+    PlannedUpTo l.fn.nodes.items (map part_of_field (take l.place l.fields)) l.nodes.items l.parts.items
 
 abbrev pub invariant-alternatives_of-loop-alternative : goal.invariant-alternatives_of-loop-alternative
 invariant-alternatives_of-loop-alternative l =

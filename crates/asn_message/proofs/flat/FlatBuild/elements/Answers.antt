@@ -6,4 +6,4 @@ use Rattle.asn_message.proofs.flat.FlatBuild.elements.Goals as goal
 pub returns : goal.returns
 returns c =
     let p = c.in_ok-at.ensures in
-    no_elements c.args.room.now c.push.new.self _ content.Null p.octets p.slots p.at refl
+    no_elements c.args.room.now c.push.new.self _ content.Null p.octets p.absent p.slots p.at refl

@@ -6,4 +6,4 @@ use Rattle.asn_message.proofs.flat.FlatBuild.entries.Goals as goal
 pub returns : goal.returns
 returns c =
     let p = c.in_ok-at.ensures in
-    no_entries c.args.room.now c.push.new.self _ content.Null p.octets p.slots p.at refl refl
+    no_entries c.args.room.now c.push.new.self _ content.Null p.octets p.absent p.slots p.at refl

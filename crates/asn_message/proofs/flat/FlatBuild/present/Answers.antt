@@ -4,4 +4,4 @@ use Rattle.asn_message.proofs.flat.FlatBuild.present.Goals as goal
 
 pub returns : goal.returns
 returns c some s m es d h k =
-    present_more s m c.args.room.now c.replace.new.self c.args.entries.now _ c.args.part es d c.index-slot.result.now _ h k c.index-slot.ensures c.in_ok-replace.ensures.octets (c.in_ok-replace.ensures.slots refl) refl refl refl refl (omega (arith, c.in_ok-before.ensures, c.in_ok-taken.ensures)) refl
+    present_more s m c.args._room.now c.args.entries.now _ c.args._part es d h k refl (omega (arith, c.in_ok-entries.ensures))

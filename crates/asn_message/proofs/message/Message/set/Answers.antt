@@ -8,4 +8,4 @@ invariant_of-drop c =
 
 pub returns-in-Some-clause-set : goal.returns-in-Some-clause-set
 returns-in-Some-clause-set c some =
-    whole_value c.take_room-room.result c.put.new.room c.in-Some.at (datum_of c.args.value.now) c.take_room-room.ensures.slots c.in-Some.ensures
+    whole_value c.take_room-room.result c.put.new.room c.in-Some.at (datum_of c.args.value.now) c.take_room-room.ensures.slots c.take_room-room.ensures.absent c.in-Some.ensures

@@ -1,0 +1,94 @@
+-- Numbers that are told by bits taken at once, by PER.
+use Rattle.std.proofs.Common.{◌≡◌, ◌≤◌, ◌<◌, ◌+◌, ◌++◌, ◌∷◌, [], ◌/◌, ◌%◌, ◌^◌, ℕ, zero, suc, true, false, nat_lt, length, List, Option, Some, None, refl, sym, ap, subst, ◌∙◌, append_assoc, arith}
+use Rattle.std.proofs.lemmas.Bool.{true≢false}
+use Rattle.asn_values.specs.Datum.{truth, item}
+use Rattle.asn_values.specs.Shape.{Shape, boolean, enumerated, has_more_labels}
+use Rattle.asn_values.specs.Profile.{InProfile}
+use Rattle.asn_values.specs.View.{shape_of}
+use Rattle.asn_bits.specs.Numbers.{bits, width}
+use Rattle.asn_bits.specs.Sink.{bit_of}
+use Rattle.asn_bits.proofs.Splits.{digits-add, digits-mod}
+use Rattle.asn_rules.specs.Chunks.{ones}
+use Rattle.asn_rules.specs.Languages.{Spells}
+use Rattle.asn_rules.specs.Listed.{Spelt}
+use Rattle.asn_rules.proofs.Languages.Parts.{contents-ones}
+use Rattle.asn_rules.proofs.Live.Flat.{flat-ones}
+use Rattle.asn_walk.specs.Coding.{PreambleOf}
+use Rattle.asn_per.specs.Kinds.{position_of}
+use Rattle.asn_per.specs.Per.{per, per_fields, spelled}
+use Rattle.asn_per.specs.Walk.{per_coding}
+use Rattle.asn_per.proofs.Read.AtOnce.{item_first}
+use Rattle.asn_per.proofs.Read.ItemIndexes.{root_items}
+use Rattle.asn_per.proofs.Read.PreambleReading.{marked_preamble}
+use Rattle.asn_per.proofs.Types.Ranks.{place_back}
+use Rattle.asn_plan.specs.Enumerations.{IsEnumeration, is_enumerated, root_items_of, other_items_of}
+use Rattle.asn_plan.specs.declared.enumeration.Enumeration.{Enumeration}
+
+-- the first of the bits that are left
+pub taken_first : (m left after count n : ℕ) (us : List ℕ) → after + count ≡ left → n ≡ m / 2 ^ after % 2 ^ count
+    → bits left m ++ us ≡ bits count n ++ (bits after m ++ us)
+taken_first m left after count n us e is =
+    let all : left ≡ count + after = omega (arith, e) in
+    let split : bits left m ≡ bits count (m / 2 ^ after) ++ bits after m = ap (λ (k : ℕ). bits k m) all ∙ digits-add 2 count after m in
+    let same : bits count n ≡ bits count (m / 2 ^ after) = ap (bits count) is ∙ digits-mod 2 (omega arith) count (m / 2 ^ after) in
+    ap (λ (t : List ℕ). t ++ us) split ∙ append_assoc (bits count (m / 2 ^ after)) (bits after m) us ∙ ap (λ (t : List ℕ). t ++ (bits after m ++ us)) (sym same)
+
+-- one bit
+pub bit_first : (n : ℕ) → n < 2 → bits 1 n ≡ bit_of (nat_lt 0 n) ∷ []
+bit_first zero h = refl
+bit_first (suc zero) h = refl
+bit_first (suc (suc n)) h = absurd (omega (arith, h))
+
+-- presence bits without an extension bit
+pub unmarked_first : (n m : ℕ) (us r : List ℕ) → m < 2 ^ n → us ≡ bits n m ++ r
+    → Spells per_fields (PreambleOf per_coding n None) (false, m) us r
+unfolding per_coding
+unmarked_first n m us r fits e = record {
+  chunks = ones (bits n m);
+  spelt = record { fits = (fits, λ one. absurd (true≢false (sym one))); same = refl };
+  contents = contents-ones per_fields (bits n m);
+  split = e ∙ ap (λ (t : List ℕ). t ++ r) (sym (flat-ones spelled (bits n m)));
+}
+
+some_additions : (k n : ℕ) → n ≤ bit_of (nat_lt 0 k) → nat_lt 0 n ≡ true → 0 < k
+some_additions zero zero h one = absurd (true≢false (sym one))
+some_additions zero (suc n) h one = absurd (omega (arith, h))
+some_additions (suc k) n h one = omega arith
+
+-- and with one
+pub marked_first : (n k mark m : ℕ) (a : Option ℕ) (us vs r : List ℕ) → a ≡ Some k → mark < 2 → mark ≤ bit_of (nat_lt 0 k)
+    → us ≡ bits 1 mark ++ vs → m < 2 ^ n → vs ≡ bits n m ++ r
+    → Spells per_fields (PreambleOf per_coding n a) (nat_lt 0 mark, m) us r
+marked_first n k mark m a us vs r is one few e fits f =
+    let front : us ≡ bit_of (nat_lt 0 mark) ∷ (bits n m ++ r) = e ∙ ap (λ (t : List ℕ). t ++ vs) (bit_first mark one) ∙ ap (λ (t : List ℕ). bit_of (nat_lt 0 mark) ∷ t) f in
+    marked_preamble n a (nat_lt 0 mark, m) us r (record { listed = k; mark = is; some = λ h. some_additions k mark few h; fits = fits; split = front })
+
+-- a BOOLEAN
+pub truth_first : (n : ℕ) (us r : List ℕ) → n < 2 → us ≡ bits 1 n ++ r
+    → Spells per_fields (Spelt per None boolean) (truth (nat_lt 0 n)) us r
+truth_first n us r few e = record {
+  chunks = per boolean (truth (nat_lt 0 n));
+  spelt = record { fits = (tt, tt); same = refl };
+  contents = contents-ones per_fields (bit_of (nat_lt 0 n) ∷ []);
+  split = e ∙ ap (λ (t : List ℕ). t ++ r) (bit_first n few);
+}
+
+pub enumerated_is : (t : Shape) → is_enumerated t ≡ true → t ≡ enumerated (root_items_of t) (other_items_of t)
+enumerated_is (enumerated root more) e = refl
+enumerated_is _ e = absurd (true≢false (sym e))
+
+-- an item of the root, where these stand in the order of their numbers
+pub ordered_first : (e : Enumeration) (n : ℕ) (us r : List ℕ) → IsEnumeration e → n ≤ e.highest → us ≡ bits e.bits n ++ r
+    → Spells per_fields (Spelt per None (shape_of e.ty)) (item n) us r
+ordered_first e n us r good few split =
+    let root = root_items_of (shape_of e.ty) in
+    let more = other_items_of (shape_of e.ty) in
+    let type_is = enumerated_is (shape_of e.ty) good.is in
+    let inside_profile : InProfile (enumerated root more) = subst InProfile type_is good.of_profile in
+    let items = root_items root more inside_profile in
+    let inside : n < length root = omega (arith, few, good.count) in
+    let place : position_of root n ≡ n = ap (position_of root) (sym (good.ordered n inside)) ∙ place_back root items.once n inside in
+    let front : us ≡ bits (bit_of (has_more_labels more) + width (length root)) n ++ r = split ∙ ap (λ (k : ℕ). bits k n ++ r) good.bits in
+    let read : Spells per_fields (Spelt per None (enumerated root more)) (item (position_of root n)) us r = item_first root more (bit_of (has_more_labels more)) n us r inside_profile refl inside front in
+    let same : Spells per_fields (Spelt per None (enumerated root more)) (item n) us r = subst (λ (p : ℕ). Spells per_fields (Spelt per None (enumerated root more)) (item p) us r) place read in
+    subst (λ (t : Shape). Spells per_fields (Spelt per None t) (item n) us r) (sym type_is) same

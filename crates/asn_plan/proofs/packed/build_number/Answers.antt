@@ -1,0 +1,21 @@
+use Rattle.asn_values.specs.Datum.{truth, number, item}
+use Rattle.asn_bits.proofs.Above.{kept}
+use Rattle.asn_plan.proofs.NodeKinds.{number_is, truth_is, item_is}
+use Rattle.asn_plan.proofs.packed.build_number.Goals as goal
+
+pub returns-in_ok-part-in-Number : goal.returns-in_ok-part-in-Number
+returns-in_ok-part-in-Number g c t us good p =
+    let is = number_is c.args.nodes.now t c.in-Number.number (rw c.in-Number.is at p) in
+    let z = c.in_ok-integer-in-Number.integer in
+    let of_z = c.in_ok-integer-in-Number.ensures.of_integers in
+    rw is (record { value = number z; of_value = rw (kept z of_z.0 of_z.1) at c.in_ok-part-in-Number.ensures; read = c.in_ok-integer-in-Number.ensures.some us })
+
+pub returns-in_ok-part-in-Truth : goal.returns-in_ok-part-in-Truth
+returns-in_ok-part-in-Truth g c t us good p =
+    let is = truth_is c.args.nodes.now t (rw c.in-Truth.is at p) in
+    rw is (record { value = truth c.in_ok-is_true-in-Truth.is_true; of_value = c.in_ok-part-in-Truth.ensures; read = c.in_ok-is_true-in-Truth.ensures us })
+
+pub returns-in_ok-part-in-Item : goal.returns-in_ok-part-in-Item
+returns-in_ok-part-in-Item g c t us good p =
+    let is = item_is c.args.nodes.now t c.in-Item.items (rw c.in-Item.is at p) in
+    rw is (record { value = item c.in_ok-position-in-Item.position; of_value = c.in_ok-part-in-Item.ensures; read = c.in_ok-position-in-Item.ensures us })

@@ -1,0 +1,23 @@
+use Rattle.std.proofs.Common.{refl, arith}
+use Rattle.std.proofs.lemmas.List.{drop_all}
+use Rattle.asn_plan.specs.Words.{before}
+use Rattle.asn_plan.proofs.Building.{built_starts, built_further, goes_ends, next_node}
+use Rattle.asn_plan.proofs.Entries.{must_entry}
+use Rattle.asn_plan.proofs.packed.build_numbers.Goals as goal
+
+pub loop-part-init : goal.loop-part-init
+loop-part-init g c us =
+    built_starts g.R.ReadLeaves.rules (g.B.Build.listed c.args.room.now c.entries.new.room c.in_ok-entries.entries) c.args.nodes.now c.args.parts.now 0 0 (before c.args.word.now us) (omega arith) c.in_ok-entries.ensures
+
+pub loop-part-preserved : goal.loop-part-preserved
+loop-part-preserved g c us =
+    let r = g.R.ReadLeaves.rules in
+    let h = rw (next_node c.args.parts.now c.loop-part.part-index c.part-item.result c.loop-part-test.true c.part-item.is) at (c.loop-part.invariant us) in
+    let N = g.B.Build.listed c.args.room.now c.present.new.room c.present.new.entries in
+    let b = must_entry r (g.B.Build.listed c.args.room.now c.loop-part.room c.loop-part.entries) N c.args.nodes.now c.part-item.result 0 0 (before c.loop-part.word us) (before c.build_number.new.word us) (g.B.Build.built c.loop-part.room c.build_number.new.room c.in_ok-value.value) (λ es d l q. c.in_ok-present.ensures refl c.args.room.now c.loop-part.room es d l q) c.in-Must.is (λ s good p. (let v = c.in_ok-value.ensures s us good p in (v.value, v.of_value, v.read))) in
+    built_further N 0 (before c.build_number.new.word us) h b
+
+pub returns : goal.returns
+returns g c root us good p width =
+    let e = (c.loop-part.invariant us).goes root good p width in
+    record { entries = e.0; of_entries = e.1; read = goes_ends e.2 (drop_all c.loop-part.part-index c.args.parts.now c.loop-part-test.false) }

@@ -1,0 +1,124 @@
+//! The walk of a plan in a word, which holds the bits of several values.
+ghost use Rattle.std.specs.Prelude.{◌≡◌, ℕ, List, IfSome, IsSome};
+ghost use Rattle.asn_values.specs.Profile.{InProfile};
+ghost use Rattle.asn_values.specs.Parts.{AreOfProfile};
+ghost use Rattle.asn_values.specs.Shape.{Shape, Fields};
+ghost use Rattle.asn_rules.specs.Listed.{bitmap_length};
+ghost use Rattle.asn_plan.specs.declared.plan.Kind.TheVariants as kind;
+ghost use Rattle.asn_plan.specs.declared.plan.Presence.TheVariants as presence;
+ghost use Rattle.asn_plan.specs.Plans.{IsPlan, ArePlans, BuildsNext, BuildsNumbers};
+
+use crate::build::Build;
+use crate::plan::{ComponentRows, Kind, Node, Presence};
+use crate::rules::PlanLeaves;
+use crate::word::Word;
+use std::alloc::Global;
+
+/// What is built of the value of a component that has to be there, which is taken from a word. `None` where none stands
+/// in it.
+#[inline(always)]
+pub(crate) fn build_next<R: PlanLeaves, B: Build>(
+    alloc: Global,
+    nodes: &[Node],
+    part: &Node,
+    word: &mut Word,
+    room: &mut B::Room,
+) -> Option<B::Part>
+    ensures must { IsSome result → part.now.presence ≡ presence.Must }
+    ensures some { IfSome result (λ p. (t : Shape) (us : List ℕ) → InProfile t → IsPlan nodes.now t part.now.kind
+        → BuildsNext R.rules (B.built room.old room.new) t p word.old word.new us) }
+{
+    let Presence::Must = &part.presence else {
+        return None;
+    };
+    match &part.kind {
+        Kind::Sequence(parts) => build_row::<R, B>(alloc, nodes, parts, word, room),
+        _ => build_number::<R, B>(nodes, part, word, room),
+    }
+}
+
+/// What is built of a SEQUENCE of numbers, each of which has to be there, which is taken from a word. `None` where none
+/// stands in it.
+#[inline(always)]
+fn build_row<R: PlanLeaves, B: Build>(
+    alloc: Global,
+    nodes: &[Node],
+    rows: &ComponentRows,
+    word: &mut Word,
+    room: &mut B::Room,
+) -> Option<B::Part>
+    ensures { IfSome result (λ p. (t : Shape) (us : List ℕ) → InProfile t → IsPlan nodes.now t (kind.Sequence rows.now)
+        → BuildsNext R.rules (B.built room.old room.new) t p word.old word.new us) }
+{
+    R::keep_laws();
+    if rows.begin >= rows.middle || rows.middle < rows.end || rows.middle > nodes.len() {
+        return None;
+    }
+    if rows.width > 0 || rows.additions.is_some() {
+        return None;
+    }
+    let preamble = R::next_preamble(0, None, word)?;
+    if preamble.extended {
+        return None;
+    }
+    let before = &nodes[..rows.begin];
+    let root = &nodes[rows.begin..rows.middle];
+    let entries = build_numbers::<R, B>(alloc, before, root, word, room)?;
+    let part = B::sequence(room, entries)?;
+    Some(part)
+}
+
+/// What is built of the numbers of components, each of which has to be there, which are taken from a word. `None` where
+/// these do not stand in it.
+#[inline(always)]
+fn build_numbers<R: PlanLeaves, B: Build>(
+    alloc: Global,
+    nodes: &[Node],
+    parts: &[Node],
+    word: &mut Word,
+    room: &mut B::Room,
+) -> Option<B::Entries>
+    ensures { IfSome result (λ p. (root : Fields) (us : List ℕ) → AreOfProfile root → ArePlans nodes.now parts.now root
+        → 0 ≡ bitmap_length root → BuildsNumbers R.rules (B.listed room.old room.new) root p word.old word.new us) }
+{
+    let mut entries = B::entries(alloc, room, parts.len())?;
+    for part in parts {
+        let Presence::Must = &part.presence else {
+            return None;
+        };
+        let value = build_number::<R, B>(nodes, part, word, room)?;
+        B::present(room, &mut entries, value)?;
+    }
+    Some(entries)
+}
+
+/// What is built of a number, which is taken from a word. `None` where none stands in it.
+#[inline(always)]
+fn build_number<R: PlanLeaves, B: Build>(
+    nodes: &[Node],
+    part: &Node,
+    word: &mut Word,
+    room: &mut B::Room,
+) -> Option<B::Part>
+    ensures { IfSome result (λ p. (t : Shape) (us : List ℕ) → InProfile t → IsPlan nodes.now t part.now.kind
+        → BuildsNext R.rules (B.built room.old room.new) t p word.old word.new us) }
+{
+    match &part.kind {
+        Kind::Number(number) => {
+            let integer = R::next_ranged(&number.range, word)?;
+            let part = B::number(room, integer)?;
+            Some(part)
+        }
+        Kind::Truth => {
+            let is_true = R::next_truth(word)?;
+            let part = B::truth(room, is_true)?;
+            Some(part)
+        }
+        Kind::Item(items) => {
+            let position = R::next_item(&items.of, word)?;
+            let part = B::item(room, position)?;
+            Some(part)
+        }
+        Kind::Leaf(_) | Kind::Sequence(_) | Kind::List(_) | Kind::Choice(_) => None,
+    }
+}

@@ -1,0 +1,56 @@
+//! Numbers told one after the other by bits that were taken at once.
+ghost use Rattle.std.specs.Prelude.{◌≡◌, ◌<◌, ◌^◌, ◌++◌, ℕ, List, IfSome, IsTrue};
+ghost use Rattle.asn_bits.specs.Numbers.{bits};
+ghost use Rattle.asn_plan.specs.Words.{before};
+
+use crate::word::Word;
+
+impl Word {
+    /// The bits of a number, the highest of `count` first; none where these are more than 63.
+    #[inline(always)]
+    pub fn of(number: u64, count: u32) -> Option<Word>
+        ensures { IfSome result (λ w. (us : List ℕ) → before w us ≡ bits count number ++ us) }
+    {
+        if count > 63 {
+            return None;
+        }
+        Some(Word {
+            bits: number,
+            left: count,
+        })
+    }
+
+    /// No bits.
+    #[inline(always)]
+    pub fn none() -> Word
+        ensures { (us : List ℕ) → before result us ≡ us }
+    {
+        Word { bits: 0, left: 0 }
+    }
+
+    /// Whether no bit is left.
+    #[inline(always)]
+    pub fn is_empty(&self) -> bool
+        ensures { IsTrue result → (us : List ℕ) → before self.now us ≡ us }
+    {
+        self.left == 0
+    }
+
+    /// The number in the next `count` bits, the highest first, which are taken; `None` where fewer are left.
+    #[inline(always)]
+    pub fn take(&mut self, count: u32) -> Option<u64>
+        ensures fits { IfSome result (λ n. n < 2 ^ count) }
+        ensures some { IfSome result (λ n. (us : List ℕ) → before self.old us ≡ bits count n ++ before self.new us) }
+    {
+        if count > self.left {
+            return None;
+        }
+        let left = self.left - count;
+        let number = self.bits >> left & ((1 << count) - 1);
+        *self = Word {
+            bits: self.bits,
+            left,
+        };
+        Some(number)
+    }
+}

@@ -3,4 +3,4 @@ pub mod Restored
 pub mod Passing
 pub mod ViewParts
 pub mod RowSteps
-mod Leafed
+mod Sourced

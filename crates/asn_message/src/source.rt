@@ -1,6 +1,10 @@
 //! Values in slots as a source: their parts, one after the other.
-ghost use Rattle.std.specs.Prelude.{◌≡◌, ◌↔◌, [], IsTrue};
+ghost use Rattle.std.specs.Prelude.{◌≡◌, ◌↔◌, [], ℕ, List, Option, IsTrue, true, false};
+ghost use Rattle.asn_values.specs.Datum.{Datum};
+ghost use Rattle.asn_source.specs.Parts.{HasParts};
+ghost use Rattle.asn_message.specs.Leaves.{leaf_at};
 ghost use Rattle.asn_message.specs.Rows.{row_value, left_entries};
+ghost use Rattle.asn_message.specs.Slots.{value_at};
 ghost use Rattle.asn_message.specs.Sources.{slot_entries, slot_elements};
 
 use crate::leafed::{Leafed, SlotElements, SlotEntries};
@@ -8,6 +12,18 @@ use crate::left::{Left, first_entries, next_entry, next_value};
 use crate::slots::Content;
 use asn_source::Source;
 use asn_values::Value;
+
+/// Whether a slot of this content has no parts.
+#[inline(always)]
+fn is_leaf(content: Content) -> bool
+    ensures leaf { result ≡ true → (os : List ℕ) (es : List (Option Datum)) → leaf_at os content ≡ value_at os content es }
+    ensures parts { result ≡ false → (os : List ℕ) (es : List (Option Datum)) → HasParts (value_at os content es) }
+{
+    !matches!(
+        content,
+        Content::Sequence { .. } | Content::List(_) | Content::Choice(_)
+    )
+}
 
 /// Whether no entry is left.
 #[inline(always)]
@@ -52,8 +68,14 @@ impl<'a> Source for Leafed<'a> {
 
     fn leaf(&self) -> Option<&Value> {
         match self.row.content() {
-            Some(Content::Sequence { .. } | Content::List(_) | Content::Choice(_)) => None,
-            _ => Some(&self.leaves[0]),
+            Some(content) => {
+                if is_leaf(content) {
+                    Some(&self.leaves[0])
+                } else {
+                    None
+                }
+            }
+            None => Some(&self.leaves[0]),
         }
     }
 
@@ -66,7 +88,7 @@ impl<'a> Source for Leafed<'a> {
                     count: inside.count,
                     before: inside.absent,
                     after: absent,
-                    most: usize::MAX,
+                    most: taken as usize + absent as usize,
                 })
             }
             _ => None,
@@ -107,20 +129,29 @@ impl<'a> Source for Leafed<'a> {
     }
 
     fn next_entry(entries: &mut SlotEntries<'a>) -> Option<Leafed<'a>> {
-        if entries.most == 0 {
+        let before = *entries;
+        if before.most == 0 {
             return None;
         }
-        let before = *entries;
-        entries.most -= 1;
         let left = left_of(before);
         if is_done(left) {
-            entries.after = before.after.saturating_sub(1);
+            *entries = SlotEntries {
+                first: before.first,
+                count: before.count,
+                before: before.before,
+                after: before.after.saturating_sub(1),
+                most: before.most - 1,
+            };
             return None;
         }
         let (row, others) = next_entry(left);
-        entries.first = before.first.at(others.row);
-        entries.count = others.count;
-        entries.before = others.absent;
+        *entries = SlotEntries {
+            first: before.first.at(others.row),
+            count: others.count,
+            before: others.absent,
+            after: before.after,
+            most: before.most - 1,
+        };
         match row {
             Some(_) => Some(before.first),
             None => None,
@@ -135,7 +166,7 @@ impl<'a> Source for Leafed<'a> {
                     first: self.at(inside.row),
                     count: inside.count,
                     before: inside.absent,
-                    most: usize::MAX,
+                    most: count as usize,
                 })
             }
             _ => None,
@@ -145,7 +176,7 @@ impl<'a> Source for Leafed<'a> {
     fn count_elements(elements: SlotElements<'a>) -> usize {
         let mut left = elements;
         let mut count = 0;
-        while let Some(_) = Self::next_element(&mut left) {
+        while let Some(element) = Self::next_element(&mut left) {
             count += 1;
         }
         count
@@ -165,10 +196,10 @@ impl<'a> Source for Leafed<'a> {
     }
 
     fn next_element(elements: &mut SlotElements<'a>) -> Option<Leafed<'a>> {
-        if elements.most == 0 {
+        let before = *elements;
+        if before.most == 0 {
             return None;
         }
-        let before = *elements;
         let (row, others) = next_value(Left {
             row: before.first.row,
             count: before.count,

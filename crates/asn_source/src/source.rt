@@ -23,10 +23,13 @@ pub trait Source: Copy {
     /// The value.
     ghost datum: { Self → Datum };
 
+    /// The entries, in order.
     ghost entries_left: { Self.Entries → List (Option Datum) };
 
+    /// The entries that are still to come.
     ghost each_left: { Self.Each → List (Option Datum) };
 
+    /// The elements, in order.
     ghost elements_left: { Self.Elements → List Datum };
 
     /// The value as a `Value`. `None` only where it is a SEQUENCE, a SEQUENCE OF or a CHOICE.
@@ -86,6 +89,7 @@ pub trait Source: Copy {
         ensures some { IfSome result (λ c. datum self ≡ alternative c.0 (datum c.1)) }
         ensures none { IfNone result ((n : ℕ) (d : Datum) → datum self ≢ alternative n d) };
 
+    /// The first of the entries that are still to come is given, and the others come after it.
     ghost each_gives: { (s : Self.Each) (r : Option (Option Self)) (t : Self.Each)
         → Self.Each.Iterator.next_gives s r t → YieldsFirstBy (option_map datum) each_left s r t };
 }

@@ -314,7 +314,8 @@ fn write_list<R: WriteLeaves, S: FieldLengths, V: Source>(
 ) -> Result<(), Unwritten<S::Fault>>
     requires of_profile { InProfile (sequence_of_seen element.now size.now) }
     requires deep { level + depth (sequence_of_seen element.now size.now) ≤ 32 }
-    ensures of_type { TellsWhether result (Fits (sequence_of_seen element.now size.now) (list_of (V.elements_left elements))) }
+    ensures of_type { TellsWhether result
+        (Fits (sequence_of_seen element.now size.now) (list_of (V.elements_left elements))) }
     ensures written { OnOk result (WritesListOf (TakesAt S.stands S.wants_lengths level) R.rules
         sink.old sink.new element.now size.now (V.elements_left elements)) }
 {

@@ -3,6 +3,7 @@ ghost use Rattle.asn_message.specs.Leaves.{AreLeaves};
 ghost use Rattle.asn_message.specs.DataSets.{leaves_prop};
 
 use crate::row::Row;
+use crate::slots::Slot;
 use asn_values::Value;
 
 /// Slots, of which the first is that of a value, and their leaves.
@@ -14,7 +15,19 @@ pub(crate) struct Leafed<'a> {
 }
 
 impl<'a> Leafed<'a> {
-    ghost use Rattle.std.specs.Prelude.{◌≡◌, ℕ, drop};
+    ghost use Rattle.std.specs.Prelude.{◌≡◌, [], ℕ, drop};
+    ghost use Rattle.asn_message.specs.Rows.{row_value};
+    ghost use Rattle.asn_message.specs.Slots.{AreNested, value_in};
+
+    /// The value at the first of these slots, whose leaves these are.
+    pub(crate) fn new(slots: &'a [Slot], octets: &'a [u8], leaves: &'a [Value]) -> Leafed<'a>
+        requires nested { AreNested octets.now [] slots.now }
+        requires leafed { AreLeaves octets.now slots.now leaves.now }
+        ensures { row_value result.row ≡ value_in octets.now slots.now }
+    {
+        let row = Row { slots, octets };
+        Leafed { row, leaves }
+    }
 
     /// The same at a later slot.
     #[inline(always)]

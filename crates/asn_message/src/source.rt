@@ -105,10 +105,7 @@ impl<'a> Source for Leafed<'a> {
         count
     }
 
-    fn split_entries(
-        entries: SlotEntries<'a>,
-        count: usize,
-    ) -> (SlotEntries<'a>, SlotEntries<'a>) {
+    fn split_entries(entries: SlotEntries<'a>, count: usize) -> (SlotEntries<'a>, SlotEntries<'a>) {
         let mut others = entries;
         for passed in 0..count {
             let _ = Self::next_entry(&mut others);

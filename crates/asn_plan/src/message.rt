@@ -132,7 +132,7 @@ pub(crate) fn decode_within_by<R: PlanRules>(
     if !taken.is_within(budget) {
         return Err(WithinFault::OverBudget);
     }
-    match R::decode(alloc, ty, octets) {
+    match decode_by::<R>(alloc, ty, plan, octets) {
         Ok(value) => Ok(value),
         Err(why) => Err(WithinFault::Decode(why)),
     }

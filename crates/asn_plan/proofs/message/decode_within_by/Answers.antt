@@ -12,4 +12,4 @@ returns-then-not-is_within g c =
 pub returns-in-Ok : goal.returns-in-Ok
 returns-in-Ok g c =
     let told : IsTaken g.R.Rules.ruling (Some c.in-Some.taken) (shape_of c.args.ty.now) c.args.octets.now = rw c.in-Some.is at c.taken_by.ensures in
-    within_told g.R.Rules.ruling c.keep_laws.ensures.laws (shape_of c.args.ty.now) c.get.ensures.of_profile c.args.octets.now c.args.budget.now c.in-Some.taken told (c.is_within.ensures.within c.if-not-is_within.false) c.in-Ok.value (rw c.in-Ok.is at c.decode.ensures)
+    within_told g.R.Rules.ruling c.keep_laws.ensures.laws (shape_of c.args.ty.now) c.get.ensures.of_profile c.args.octets.now c.args.budget.now c.in-Some.taken told (c.is_within.ensures.within c.if-not-is_within.false) c.in-Ok.value (rw c.in-Ok.is at c.decode_by.ensures)

@@ -43,6 +43,13 @@ impl Begun {
         self.count == 0
     }
 
+    /// How many bits have come.
+    pub fn count(&self) -> u32
+        ensures { result ≡ length self.now }
+    {
+        self.count
+    }
+
     /// The same bits.
     pub fn copied(&self) -> Begun
         ensures { result ≡ self.now }

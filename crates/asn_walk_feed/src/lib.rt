@@ -18,6 +18,7 @@ mod octets;
 mod open_fields;
 mod parts;
 mod sequences;
+mod small;
 mod strings;
 mod units;
 mod values;

@@ -1,5 +1,5 @@
 -- What is held of a value of which some units have come is no more than these allow.
-use Rattle.std.proofs.Common.{◌≡◌, ◌≤◌, ◌<◌, ◌+◌, ◌-◌, ◌*◌, ◌/◌, ◌%◌, ◌^◌, ◌⊎◌, inl, inr, ℕ, zero, suc, max, Bool, true, false, List, [], ◌∷◌, ◌++◌, length, length-append, drop, map, append-nil, Option, Some, None, refl, sym, ap, subst, ◌∙◌, arith}
+use Rattle.std.proofs.Common.{◌≡◌, ◌≤◌, ◌<◌, ◌+◌, ◌-◌, ◌*◌, ◌/◌, ◌%◌, ◌^◌, ◌⊎◌, inl, inr, ⊎_elim, ℕ, zero, suc, max, Bool, true, false, List, [], ◌∷◌, ◌++◌, length, length-append, drop, map, append-nil, Option, Some, None, refl, sym, ap, subst, ◌∙◌, arith}
 use mathlib.Core.List.{map-id}
 use Rattle.std.proofs.lemmas.Bool.{true≢false}
 use Rattle.std.proofs.Math.Nat.{mul-le-mul_left, suc-mul}
@@ -130,7 +130,7 @@ module _ {F : Type 0} (c : Coding) (laws : Laws c) (fc : FieldCoding) (keep : Ke
 
   module _ (fs : List (Frame F)) (again : Again fs) (q : Elements F Value) (t : Shape) (s : SizeRange) (us : List ℕ) (good : InProfile (sequence_of t s)) (h : ListGoesOn c fc ahead between t s q fs us []) where
     -- what is held of the next element
-    element_held : ElementTook c fc ahead between fs t h.come → held_in fs ≤ places t * (unit_bits c * length h.come)
+    element_held : Took c fc ahead between fs t h.come × (h.come ≡ [] → fs ≡ []) → held_in fs ≤ places t * (unit_bits c * length h.come)
     element_held w = go h.come refl
       where
         go : (xs : List ℕ) → h.come ≡ xs → held_in fs ≤ places t * (unit_bits c * length h.come)
@@ -148,8 +148,8 @@ module _ {F : Type 0} (c : Coding) (laws : Laws c) (fc : FieldCoding) (keep : Ke
             let none = none_held fs inner.0 in
             omega (arith, none)
         go (suc n) e =
-            let inner : (q.next_part ≡ []) × ElementTook c fc ahead between fs t h.come = rw e at h.inner in
-            element_held inner.1
+            let inner : ElementTook c fc ahead between q.next_part fs t h.come = rw e at h.inner in
+            ⊎_elim (λ x. element_held x.1) (λ x. (let none = none_held fs x.0 in omega (arith, none))) inner
 
     list_held : suc (total cells (map datum_of q.elements.items) + held_in fs) ≤ places (sequence_of t s) * bits_so_far us
     list_held =

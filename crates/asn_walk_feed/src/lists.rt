@@ -20,7 +20,7 @@ use crate::begun::Begun;
 use crate::frame::{Elements, Frame, Frames};
 use crate::leaf::{FeedLeaves, feed_leaf};
 use crate::parts::{ListStart, NextLength};
-use crate::small::{feed_small, least_bits, row_bits};
+use crate::rows::{feed_small, least_bits, row_bits};
 use crate::units::{Ticks, Units};
 use crate::values::feed;
 use crate::whole::whole_value;

@@ -86,14 +86,13 @@ module _ {F : Type 0} (c : Coding) (feeds : FeedLaws c) (fc : FieldCoding) (ahea
       go : (w : Stop) → KeepsFrames c fc ahead between gs t (us ++ c.to_units old) w → KeepsElement c fc ahead between b' gs t (us ++ c.to_units old) w
       go (stop.Refused left why) x = tt
       go stop.Memory x = tt
-      go stop.Short x = inl (
-        n',
-        x,
-        λ e.
-            (let none : us ≡ [] = first_none us (c.to_units old) e in
-            let rest : c.to_units old ≡ [] = ap (λ (l : List ℕ). l ++ c.to_units old) (sym none) ∙ e in
-            absurd (some (took.1 none) rest)),
-      )
+      go stop.Short x = inl (n', (x, begun))
+        where
+          begun : us ++ c.to_units old ≡ [] → gs ≡ []
+          begun e =
+              let none : us ≡ [] = first_none us (c.to_units old) e in
+              let rest : c.to_units old ≡ [] = ap (λ (l : List ℕ). l ++ c.to_units old) (sym none) ∙ e in
+              absurd (some (took.1 none) rest)
 
   -- ---- where they wait
 

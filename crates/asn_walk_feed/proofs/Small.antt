@@ -15,6 +15,7 @@ use Rattle.asn_values.specs.declared.types.Field.{Field}
 use Rattle.asn_values.specs.declared.types.Need.TheVariants as need
 use Rattle.asn_values.proofs.Components.{shape_of_part}
 use Rattle.asn_values.proofs.Parts.{components_of_profile}
+use Rattle.asn_values.proofs.Views.{shape_of-Bool}
 use Rattle.asn_bits.specs.Numbers.{bits}
 use Rattle.asn_bits.specs.Sets.{AreBits, AreDigits}
 use Rattle.asn_bits.proofs.Weights.{digits-append, digits-first, digits-second}
@@ -60,7 +61,7 @@ all_joined c b b' us n x few = x.joined ∙ ap (λ (l : List ℕ). c.to_units b 
 
 -- a BOOLEAN alone
 pub truth_row : (fs : List Field) (f : Field) (rest : List Field) → fs ≡ f ∷ rest → length rest ≡ 0 → f.ty ≡ asn_type.Bool → f.need ≡ need.Must → AreWords 1 (fields_seen fs)
-truth_row fs f [] e z t n = rw e (go (part_of_field f) (shape_of_part f ∙ ap shape_of t) (demand ∙ ap demand_of n))
+truth_row fs f [] e z t n = rw e (go (part_of_field f) (shape_of_part f ∙ ap shape_of t ∙ shape_of-Bool) (demand ∙ ap demand_of n))
   where
     demand : (part_of_field f).demand ≡ demand_of f.need
     demand = search (rules, the_lemmas)

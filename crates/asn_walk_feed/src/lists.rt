@@ -269,14 +269,7 @@ fn feed_fragment<R: FeedLeaves>(
     R::keep_laws();
     R::keep_feed_laws();
     while list.left > 0 {
-        let value = feed_element::<R>(
-            alloc,
-            element,
-            &mut list.next_part,
-            frames,
-            units,
-            ticks,
-        )?;
+        let value = feed_element::<R>(alloc, element, &mut list.next_part, frames, units, ticks)?;
         list.elements.push(value)?;
         list.left -= 1;
     }
@@ -284,7 +277,7 @@ fn feed_fragment<R: FeedLeaves>(
 }
 
 /// Reads what is left of an element: at once, where none of it has come and the piece has it whole. Where more is wanted
-/// of a small type, the units that have come wait in `begun`; else no node of it begins before its first unit has come.
+/// of a row of numbers, the units that have come wait in `begun`; else no node of it begins before its first unit.
 #[cycle(feeder)]
 fn feed_element<R: FeedLeaves>(
     alloc: Global,

@@ -1,5 +1,5 @@
 -- An element of a list waits, without a node of its own, for its first unit, or as a row of numbers for its others.
-use Rattle.std.proofs.Common.{◌≡◌, ◌≤◌, ◌+◌, List, [], ◌∷◌, ◌++◌, ℕ, length, length-append, None, Result, Ok, Err, inl, inr, refl, sym, ap, subst, ◌∙◌, arith}
+use Rattle.std.proofs.Common.{◌≡◌, List, [], ◌∷◌, ◌++◌, ℕ, length, length-append, None, Result, Ok, Err, inl, inr, refl, sym, ap, subst, ◌∙◌, arith}
 use Rattle.std.specs.Prelude.{IfErr}
 use Rattle.asn_values.specs.Datum.{Datum}
 use Rattle.asn_values.specs.Profile.{InProfile}

@@ -162,7 +162,7 @@ module _ {F : Type 0} (c : Coding) (laws : Laws c) (feeds : FeedLaws c) (fc : Fi
     -- what has come of the next element
     came : ElementTook c fc ahead between q.next_part fs t h.come → Opens R (V t) h.come (kept_in fs t)
     came (inl x) = again t h.come (element_of_profile t s good) x.1.0
-    came (inr x) = rw x.0 (waits_simple None t (small_plain c laws feeds t (element_of_profile t s good) x.1) element x.2)
+    came (inr x) = rw x.0 (waits_simple None t (small_plain c laws feeds t (element_of_profile t s good) x.1.0) element x.1.1)
 
     list_kept : Opens R (V (sequence_of t s)) us (kept_in fs t)
     list_kept = go q.left refl

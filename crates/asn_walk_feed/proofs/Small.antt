@@ -1,5 +1,5 @@
 -- Rows of numbers: how many units their values have, and that fewer units begin one.
-use Rattle.std.proofs.Common.{rules, ◌≡◌, ◌≤◌, ◌<◌, ◌+◌, ◌-◌, ◌*◌, ◌/◌, ◌^◌, ◌⊎◌, ⊎_elim, inl, inr, ℕ, zero, suc, min, true, false, Bool, List, [], ◌∷◌, ◌++◌, length, length-append, take, drop, replicate, Option, Some, None, refl, sym, ap, ◌∙◌, subst, arith}
+use Rattle.std.proofs.Common.{rules, ◌≡◌, ◌≤◌, ◌<◌, ◌+◌, ◌-◌, ◌*◌, ◌/◌, ◌^◌, ⊎_elim, ℕ, zero, suc, true, false, Bool, List, [], ◌∷◌, ◌++◌, length, length-append, take, drop, replicate, Option, Some, None, refl, sym, ap, ◌∙◌, subst, arith}
 use Rattle.std.proofs.lemmas.Bool.{cases_lt, true≢false}
 use Rattle.std.proofs.lemmas.List.{append-nil, length-replicate, take-append-drop, length-take-le}
 use Rattle.std.proofs.lemmas.Nat.{pow_pos}
@@ -7,7 +7,7 @@ use Rattle.std.proofs.Math.Nat.{mul_assoc, mul_comm, mul-lt-mul_of_pos_right, lt
 use Rattle.asn_values.specs.Datum.{Datum}
 use Rattle.asn_values.specs.Parts.{AreOfProfile}
 use Rattle.asn_values.specs.Profile.{InProfile}
-use Rattle.asn_values.specs.Shape.{Range, Shape, boolean, null, integer, enumerated, bit_string, octet_string, restricted, utf8_string, sequence, sequence_of, choice, Fields, no_fields, field, must, optional, default, MoreFields, closed, marked}
+use Rattle.asn_values.specs.Shape.{Shape, boolean, integer, sequence, Fields, no_fields, field, must, closed}
 use Rattle.asn_values.specs.View.{Part, shape_of, part_of_field, demand_of, fields_of, fields_seen}
 use Rattle.asn_values.specs.declared.types.AsnType.{the_lemmas}
 use Rattle.asn_values.specs.declared.types.AsnType as asn_type
@@ -28,11 +28,11 @@ use Rattle.asn_rules.proofs.Components.Listed.{listed_inhabited}
 use Rattle.asn_rules.proofs.Languages.Parts.{front_ones}
 use Rattle.asn_rules.proofs.Live.Chunks.{front_longer, ones-append}
 use Rattle.asn_rules.proofs.Live.Flat.{flat-ones}
-use Rattle.asn_walk.specs.Coding.{Coding, PreambleOf, AddedOf, SequencesOf, sequence_told}
+use Rattle.asn_walk.specs.Coding.{Coding, PreambleOf, AddedOf, sequence_told}
 use Rattle.asn_walk.specs.Laws.{Laws}
 use Rattle.asn_walk_feed.proofs.Cells.{sum_mul}
 use Rattle.asn_walk_feed.specs.Feeding.{FeedLaws, IsBrief, ExtendsBy}
-use Rattle.asn_walk_feed.specs.Small.{IsWord, AreWords, IsRow, IsSmall, AreUnits, HasUnits, RowLaws}
+use Rattle.asn_walk_feed.specs.Small.{AreWords, IsRow, IsSmall, AreUnits}
 
 -- ---- fronts of plain units
 

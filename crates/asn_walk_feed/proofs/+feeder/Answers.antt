@@ -60,7 +60,7 @@ use Rattle.asn_walk_feed.specs.Additions.{marked_seen}
 use Rattle.asn_walk_feed.specs.AddedTaken.{AdditionsReached}
 use Rattle.asn_walk_feed.proofs.AddedRead.{some_present, bitmap_begun, bitmap_stops, bitmap_kept, additions_start, next_addition, left_within, additions_end, additions_emptied, bitmap_goes_on, additions_go_on, took_bitmap, bitmap_took, took_additions, bitmap_starts, no_mark, left_out, absent_read, present_took, present_read, present_stops, present_kept}
 use Rattle.std.proofs.lemmas.Bool.{true≢false}
-use Rattle.asn_walk_feed.proofs.ElementsWait.{to_come_stops, to_come_kept, element_kept, nodes_took, waits_took, reads_nodes, stops_nodes, reads_row, stops_row, row_kept}
+use Rattle.asn_walk_feed.proofs.ElementsWait.{to_come_stops, element_kept, waits_took, reads_nodes, stops_nodes}
 use Rattle.asn_walk_feed.proofs.Sizes.{root_smaller, added_type_smaller, components_smaller, additions_smaller}
 use Rattle.asn_walk_feed.proofs.Levels.{is_short, never, costs_same, costs_none, costs_like, costs_after, costs_then, costs_next, costs_last, content_within, field_pays, level_costs, field_stops, adds_inside, level_of_none, none_open, none_come, open_elements, open_components, open_chosen, open_additions, open_added, depth_of_elements, depth_is, depth_of_root, depth_of_additions, depth_of_alternatives, depth_of_added, depth_of_component, depth_of_addition, depth_of_alternative, depth_of_added_one}
 use Rattle.asn_values.specs.View.{alternatives_seen}

@@ -1,5 +1,5 @@
-use Rattle.std.proofs.Common.{◌≡◌, ◌≤◌, ◌<◌, ◌++◌, List, ℕ, length, inr, refl, sym, ap, ◌∙◌, subst, arith}
-use Rattle.asn_values.specs.View.{shape_of, datum_of}
+use Rattle.std.proofs.Common.{◌≤◌, ◌<◌, ◌++◌, List, ℕ, length, inr, ap, ◌∙◌, subst, arith}
+use Rattle.asn_values.specs.View.{shape_of}
 use Rattle.asn_rules.specs.Languages.{Short}
 use Rattle.asn_walk.specs.Reading.{ValuesOf}
 use Rattle.asn_walk_feed.specs.Feeding.{ExtendsBy}

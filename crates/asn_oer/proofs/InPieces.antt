@@ -8,6 +8,7 @@ pub mod Hold
 pub mod Kept
 pub mod PackedAgain
 pub mod PackedItems
+pub mod Rows
 pub mod Scalars
 pub mod Starts
 pub mod StringItems

@@ -162,8 +162,8 @@ impl FeedLeaves for OerInPieces {
         }
     }
 
-    fn try_whole(alloc: Global, ty: &AsnType, units: &mut BitCursor<'_>) -> Option<Value> {
-        read::<Oer>(alloc, ty, units).ok()
+    fn read_whole(alloc: Global, ty: &AsnType, units: &mut BitCursor<'_>) -> Result<Value, Stop> {
+        read::<Oer>(alloc, ty, units)
     }
 
     fn read_filling(_value_units: u128, _units: &mut BitCursor<'_>) -> Result<(), Stop> {

@@ -5,5 +5,6 @@ pub mod Hold
 pub mod Kept
 pub mod Fields
 pub mod Numbers
+pub mod Rows
 pub mod Strings
 pub mod Units

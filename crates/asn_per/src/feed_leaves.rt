@@ -92,8 +92,8 @@ impl FeedLeaves for PerInPieces {
         }
     }
 
-    fn try_whole(alloc: Global, ty: &AsnType, units: &mut BitCursor<'_>) -> Option<Value> {
-        read::<Per>(alloc, ty, units).ok()
+    fn read_whole(alloc: Global, ty: &AsnType, units: &mut BitCursor<'_>) -> Result<Value, Stop> {
+        read::<Per>(alloc, ty, units)
     }
 
     fn read_filling(value_units: u128, units: &mut BitCursor<'_>) -> Result<(), Stop> {

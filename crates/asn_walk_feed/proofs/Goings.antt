@@ -1,5 +1,5 @@
 -- How a list that may be cut goes on, as the program holds it.
-use Rattle.std.proofs.Common.{◌≡◌, ◌<◌, ◌+◌, ℕ, List, [], ◌∷◌, ◌++◌, length, map, Option, Some, None, refl, sym, ap, ◌∙◌}
+use Rattle.std.proofs.Common.{◌≡◌, ◌<◌, ◌+◌, ℕ, List, [], ◌∷◌, ◌++◌, length, map, Option, Some, None, inl, refl, sym, ap, ◌∙◌}
 use Rattle.std.specs.Prelude.{IfSome, IsNone}
 use Rattle.asn_values.specs.Datum.{Datum}
 use Rattle.asn_values.specs.Shape.{Shape, SizeRange, sequence_of}
@@ -41,10 +41,10 @@ module _ {F : Type 0} (c : Coding) (laws : Laws c) (feeds : FeedLaws c) (fc : Fi
 
   -- what has come of an element
   abbrev E : List ℕ → List (Frame F) → List ℕ → Type 0
-  E b fs come = (b ≡ []) × ElementTook c fc ahead between fs t come
+  E b fs come = ElementTook c fc ahead between b fs t come
 
   pub none_took : (b : List ℕ) → b ≡ [] → E b [] []
-  none_took b e = (e, (refl, λ x. refl))
+  none_took b e = inl (e, (refl, λ x. refl))
 
   pub some : Inhabited L
   some = spelt_inhabited c.code t (element_of_profile t s good)
@@ -91,10 +91,11 @@ module _ {F : Type 0} (c : Coding) (laws : Laws c) (feeds : FeedLaws c) (fc : Fi
 
   pub record ElementAhead (q : Elements F Value) (fs : List (Frame F)) (all units : List ℕ) : Type 0 where
     pub come : List ℕ
-    pub took : ElementTook c fc ahead between fs t come
+    pub took : ElementTook c fc ahead between q.next_part fs t come
     pub stops : (why : Stop) → Stops c.ruling.fielding L (come ++ units) why → Stops c.ruling.fielding T all why
-    pub kept : (gs : List (Frame F)) (units' : List ℕ) → units' ≡ [] → ElementTook c fc ahead between gs t (come ++ units) → R q gs all units'
-    pub more : (p : Elements F Value) (gs : List (Frame F)) (v : Value) (r : List ℕ) → p.left + 1 ≡ q.left → p.fragments ≡ q.fragments → p.next_part ≡ q.next_part
+    pub kept : (p : Elements F Value) (gs : List (Frame F)) (units' : List ℕ) → p.left ≡ q.left → p.fragments ≡ q.fragments → p.elements ≡ q.elements → units' ≡ []
+        → ElementTook c fc ahead between p.next_part gs t (come ++ units) → R p gs all units'
+    pub more : (p : Elements F Value) (gs : List (Frame F)) (v : Value) (r : List ℕ) → p.left + 1 ≡ q.left → p.fragments ≡ q.fragments → p.next_part ≡ []
         → p.elements.items ≡ q.elements.items ++ v ∷ [] → gs ≡ [] → Spells c.ruling.fielding L (datum_of v) (come ++ units) r → R p gs all r
 
   pub element_ahead : (q : Elements F Value) (fs : List (Frame F)) (all units : List ℕ) → 0 < q.left → R q fs all units → ElementAhead q fs all units
@@ -102,10 +103,10 @@ module _ {F : Type 0} (c : Coding) (laws : Laws c) (feeds : FeedLaws c) (fc : Fi
       let x = items.element_ahead c laws feeds ahead between NoItem L T datum_of some law E none_took q fs all units l h in
       record {
         come = x.come;
-        took = x.took.1;
+        took = x.took;
         stops = x.stops;
-        kept = λ gs units' z k. x.kept q gs units' refl refl refl z (x.took.0, k);
-        more = λ p gs v r el ef eh ei eg k. x.more p gs v r el ef (eh ∙ x.took.0) ei eg k;
+        kept = x.kept;
+        more = x.more;
       }
 
   -- ---- with the next piece

@@ -1,14 +1,14 @@
 -- What is held of a value of which some units have come is no more than these allow.
-use Rattle.std.proofs.Common.{◌≡◌, ◌≤◌, ◌<◌, ◌+◌, ◌-◌, ◌*◌, ◌/◌, ◌%◌, ◌^◌, ◌⊎◌, inl, inr, ℕ, zero, suc, max, Bool, true, false, List, [], ◌∷◌, ◌++◌, length, length-append, drop, map, append-nil, Option, Some, None, refl, sym, ap, subst, ◌∙◌, arith}
+use Rattle.std.proofs.Common.{◌≡◌, ◌≤◌, ◌<◌, ◌+◌, ◌-◌, ◌*◌, ◌/◌, ◌%◌, ◌^◌, inr, ⊎_elim, ℕ, zero, suc, max, Bool, true, false, List, [], ◌∷◌, ◌++◌, length, length-append, drop, map, append-nil, Option, refl, sym, ap, subst, ◌∙◌, arith}
 use mathlib.Core.List.{map-id}
 use Rattle.std.proofs.lemmas.Bool.{true≢false}
 use Rattle.std.proofs.Math.Nat.{mul-le-mul_left, suc-mul}
 use Rattle.asn_values.specs.Datum.{Datum}
 use Rattle.asn_values.specs.Measures.{places, fields_places, more_places, choice_places, more_choice_places, cells}
-use Rattle.asn_values.specs.Parts.{AreOfProfile, AreAllOfProfile, IsGoodDemand}
-use Rattle.asn_values.specs.Profile.{InProfile, good_default}
-use Rattle.asn_values.specs.Shape.{SizeRange, Shape, boolean, null, integer, enumerated, bit_string, octet_string, restricted, utf8_string, sequence, sequence_of, choice, Demand, must, optional, default, Fields, no_fields, field, MoreFields, closed, marked, more_fields, Alternatives, no_alternatives, one_of, MoreAlternatives, closed_choice, marked_choice, more_alternatives, count}
-use Rattle.asn_values.specs.View.{Part, datum_of, entries_seen, fields_of}
+use Rattle.asn_values.specs.Parts.{AreAllOfProfile, IsGoodDemand}
+use Rattle.asn_values.specs.Profile.{InProfile}
+use Rattle.asn_values.specs.Shape.{SizeRange, Shape, bit_string, octet_string, restricted, utf8_string, sequence, sequence_of, choice, Demand, must, optional, default, Fields, no_fields, field, MoreFields, closed, marked, more_fields, Alternatives, no_alternatives, one_of, MoreAlternatives, closed_choice, marked_choice, count}
+use Rattle.asn_values.specs.View.{Part, datum_of, entries_seen}
 use Rattle.asn_values.specs.declared.value.Value.{Value}
 use Rattle.asn_values.proofs.InnerTypes.{element_of_profile}
 use Rattle.asn_values.proofs.Parts.{components_of_profile}
@@ -16,20 +16,18 @@ use Rattle.asn_bits.specs.Numbers.{bits}
 use Rattle.asn_bits.specs.Sink.{bit_of}
 use Rattle.asn_rules.specs.Chunks.{Chunk, flat}
 use Rattle.asn_rules.specs.Components.{has_presence_bit}
-use Rattle.asn_rules.specs.Listed.{Spelt, Entry, default_of, bitmap_length}
-use Rattle.asn_rules.specs.Live.{Fielding}
+use Rattle.asn_rules.specs.Listed.{Entry, bitmap_length}
 use Rattle.asn_walk.specs.Ahead.{Ahead}
 use Rattle.asn_walk.specs.Coding.{Coding, added_alternatives, IsIndexWithin}
 use Rattle.asn_walk.specs.Laws.{Laws}
-use Rattle.asn_walk.proofs.AdditionsRead.{AddedUpTo}
 use Rattle.asn_walk.proofs.ComponentsRead.{ReadUpTo}
-use Rattle.asn_walk.proofs.Parts.{root_good, added_good}
+use Rattle.asn_walk.proofs.Parts.{root_good}
 use Rattle.asn_walk_feed.specs.Additions.{addition_count, AdditionOf, RootRead, AdditionTook, NextAdditionTook, BitmapGoesOn, AdditionsGoOn}
 use Rattle.asn_walk_feed.specs.Chosen.{AlternativeTook}
 use Rattle.asn_walk_feed.specs.Feeding.{NextOf, Waits}
 use Rattle.asn_walk_feed.specs.Holding.{entry_cells, held_in, unit_bits, HoldLaws}
 use Rattle.asn_walk_feed.specs.Keeping.{KeepLaws}
-use Rattle.asn_walk_feed.specs.Octets.{OctetCoding, OctetsGoOn, OctetsTook}
+use Rattle.asn_walk_feed.specs.Octets.{OctetsGoOn, OctetsTook}
 use Rattle.asn_walk_feed.specs.OpenFields.{FieldCoding}
 use Rattle.asn_walk_feed.specs.Roots.{parts_in, IsPresent, OtherTook, DemandTook, EntryTook}
 use Rattle.asn_walk_feed.specs.Strings.{IsString}
@@ -40,7 +38,7 @@ use Rattle.asn_walk_feed.specs.declared.frame.Components.{Components}
 use Rattle.asn_walk_feed.specs.declared.frame.Elements.{Elements}
 use Rattle.asn_walk_feed.specs.declared.frame.Frame.{Frame}
 use Rattle.asn_walk_feed.specs.declared.frame.Frame.TheVariants as frame
-use Rattle.asn_walk_feed.proofs.Cells.{some_places, one_within, sum_mul, mul_assoc, some_bits, fewer_bits, default_cells, few_cells, few_listed, open_few, more_good, elements_weigh}
+use Rattle.asn_walk_feed.proofs.Cells.{some_places, one_within, sum_mul, mul_assoc, some_bits, fewer_bits, default_cells, few_cells, few_listed, open_few, elements_weigh}
 use Rattle.asn_walk_feed.proofs.Weights.{total-one, total-eight, spells_fewer, chunks_fewer}
 
 -- what types allow together, for p each
@@ -130,7 +128,7 @@ module _ {F : Type 0} (c : Coding) (laws : Laws c) (fc : FieldCoding) (keep : Ke
 
   module _ (fs : List (Frame F)) (again : Again fs) (q : Elements F Value) (t : Shape) (s : SizeRange) (us : List ℕ) (good : InProfile (sequence_of t s)) (h : ListGoesOn c fc ahead between t s q fs us []) where
     -- what is held of the next element
-    element_held : ElementTook c fc ahead between fs t h.come → held_in fs ≤ places t * (unit_bits c * length h.come)
+    element_held : Took c fc ahead between fs t h.come × (h.come ≡ [] → fs ≡ []) → held_in fs ≤ places t * (unit_bits c * length h.come)
     element_held w = go h.come refl
       where
         go : (xs : List ℕ) → h.come ≡ xs → held_in fs ≤ places t * (unit_bits c * length h.come)
@@ -148,8 +146,8 @@ module _ {F : Type 0} (c : Coding) (laws : Laws c) (fc : FieldCoding) (keep : Ke
             let none = none_held fs inner.0 in
             omega (arith, none)
         go (suc n) e =
-            let inner : (q.next_part ≡ []) × ElementTook c fc ahead between fs t h.come = rw e at h.inner in
-            element_held inner.1
+            let inner : ElementTook c fc ahead between q.next_part fs t h.come = rw e at h.inner in
+            ⊎_elim (λ x. element_held x.1) (λ x. (let none = none_held fs x.0 in omega (arith, none))) inner
 
     list_held : suc (total cells (map datum_of q.elements.items) + held_in fs) ≤ places (sequence_of t s) * bits_so_far us
     list_held =

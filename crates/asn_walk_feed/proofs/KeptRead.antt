@@ -47,6 +47,7 @@ use Rattle.asn_walk_feed.specs.Roots.{parts_in, IsPresent, OtherTook, DemandTook
 use Rattle.asn_walk_feed.specs.Strings.{IsString, StringLaws}
 use Rattle.asn_walk_feed.specs.Taken.{Took, ElementTook, ListGoesOn, RootReached, ChoiceReached, AdditionReached}
 use Rattle.asn_walk_feed.specs.declared.frame.AdditionBits.{AdditionBits}
+use Rattle.asn_walk_feed.proofs.Small.{small_plain}
 use Rattle.asn_walk_feed.specs.declared.frame.Components.{Components}
 use Rattle.asn_walk_feed.specs.declared.frame.Elements.{Elements}
 use Rattle.asn_walk_feed.specs.declared.frame.Frame.{Frame}
@@ -158,6 +159,11 @@ module _ {F : Type 0} (c : Coding) (laws : Laws c) (feeds : FeedLaws c) (fc : Fi
     in_list : {os : List ℕ} → Opens R L us os → Opens R (V (sequence_of t s)) us os
     in_list x = opens_in ok (list_stands c laws t s us good) x
 
+    -- what has come of the next element
+    came : ElementTook c fc ahead between q.next_part fs t h.come → Opens R (V t) h.come (kept_in fs t)
+    came (inl x) = again t h.come (element_of_profile t s good) x.1.0
+    came (inr x) = rw x.0 (waits_simple None t (small_plain c laws feeds t (element_of_profile t s good) x.1.0) element x.1.1)
+
     list_kept : Opens R (V (sequence_of t s)) us (kept_in fs t)
     list_kept = go q.left refl
       where
@@ -171,12 +177,12 @@ module _ {F : Type 0} (c : Coding) (laws : Laws c) (feeds : FeedLaws c) (fc : Fi
             let two : StandsIn R (Remaining (V t) (ahead q.fragments)) h.come L us = subst (λ (l : List ℕ). StandsIn R (Remaining (V t) (ahead q.fragments)) l L us) (append-nil (h.come ++ []) ∙ append-nil h.come) one in
             rw inner.0 (in_list (opens_in ok two (length_kept (ahead q.fragments) h.come h.some come)))
         go (suc n) e =
-            let inner : (q.next_part ≡ []) × ElementTook c fc ahead between fs t h.come = rw e at h.inner in
+            let inner : ElementTook c fc ahead between q.next_part fs t h.come = rw e at h.inner in
             let here : InFragment c (V t) L (suc n) (ahead q.fragments) (map datum_of q.elements.items) (us ++ []) ((h.come ++ []) ++ []) = rw e at h.stands [] in
             let first : StandsIn R (V t) ((h.come ++ []) ++ []) L (us ++ []) = going_next_stands c here.done here.count element (omega (arith, here.sum)) here.next here.so_far here.going in
             let one : StandsIn R (V t) ((h.come ++ []) ++ []) L us = subst (λ (l : List ℕ). StandsIn R (V t) ((h.come ++ []) ++ []) L l) (append-nil us) first in
             let two : StandsIn R (V t) h.come L us = subst (λ (l : List ℕ). StandsIn R (V t) l L us) (append-nil (h.come ++ []) ∙ append-nil h.come) one in
-            in_list (opens_in ok two (again t h.come (element_of_profile t s good) inner.1.0))
+            in_list (opens_in ok two (came inner))
 
   -- ---- the root of a SEQUENCE
 

@@ -1,10 +1,10 @@
 -- What is taken inside open type fields is paid by the units of these fields.
-use Rattle.std.proofs.Common.{◌≡◌, ◌≤◌, ◌<◌, ◌+◌, ◌*◌, ◌++◌, ℕ, zero, suc, max, min, true, false, Bool, List, [], ◌∷◌, length, length-append, map, get_or, Option, Some, None, Result, Ok, Err, refl, sym, ap, ◌∙◌, subst, arith}
+use Rattle.std.proofs.Common.{◌≡◌, ◌≤◌, ◌<◌, ◌+◌, ◌*◌, ◌++◌, ℕ, zero, suc, min, true, false, Bool, List, [], ◌∷◌, length, length-append, map, get_or, Option, Some, Result, Ok, Err, refl, sym, ap, ◌∙◌, subst, arith}
 use Rattle.std.proofs.Math.Nat.{mul-le-mul_left, mul-add, suc-mul}
 use Rattle.std.proofs.lemmas.Bool.{true≢false}
-use Rattle.asn_values.specs.Measures.{sealed_depth, fields_sealed, additions_sealed, more_sealed, choice_sealed, choice_additions_sealed, more_choice_sealed}
+use Rattle.asn_values.specs.Measures.{sealed_depth, fields_sealed, additions_sealed, choice_sealed, choice_additions_sealed}
 use Rattle.asn_values.specs.Shape.{Shape, SizeRange, Fields, MoreFields, marked, Alternatives, MoreAlternatives, more_alternatives, closed_choice, marked_choice, sequence, sequence_of, choice}
-use Rattle.asn_values.specs.View.{shape_of, branch_of, part_of_field, fields_of, fields_seen, alternatives_of, alternatives_seen}
+use Rattle.asn_values.specs.View.{shape_of, branch_of, part_of_field, fields_seen, alternatives_of, alternatives_seen}
 use Rattle.asn_values.specs.declared.types.Alt.{Alt}
 use Rattle.asn_values.specs.declared.types.Field.{Field}
 use Rattle.asn_values.proofs.Alternatives.{shape_of_branch}
@@ -18,7 +18,6 @@ use Rattle.asn_rules.proofs.Sealed.Headed.{plain_front}
 use Rattle.asn_walk.specs.Ahead.{Ahead}
 use Rattle.asn_walk.specs.Coding.{Coding}
 use Rattle.asn_walk.specs.Laws.{Laws}
-use Rattle.asn_walk_feed.specs.Additions.{AdditionTook}
 use Rattle.asn_walk_feed.specs.Feeding.{StandsAfter}
 use Rattle.asn_walk_feed.specs.Levels.{FieldUnits, OpenUnits, Pays, Costs}
 use Rattle.asn_walk_feed.specs.Octets.{OctetCoding, OctetsTook, KeepsOctets}

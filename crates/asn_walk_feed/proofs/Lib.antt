@@ -19,5 +19,6 @@ pub mod OctetsRead
 pub mod RootsRead
 pub mod Scalars
 pub mod Sizes
+pub mod Small
 pub mod StringsRead
 pub mod Weights

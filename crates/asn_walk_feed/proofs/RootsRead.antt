@@ -37,7 +37,7 @@ use Rattle.asn_walk_feed.specs.Feeding.{Waits}
 use Rattle.asn_walk_feed.specs.OpenFields.{FieldCoding}
 use Rattle.asn_walk_feed.specs.Taken.{Took, with_node}
 use Rattle.asn_walk_feed.specs.Roots.{parts_in, IsPresent, OtherTook, DemandTook, NextTook}
-use Rattle.asn_walk_feed.specs.Weights.{total, EntriesWeigh, allowed}
+use Rattle.asn_walk_feed.specs.Weights.{total, allowed}
 use Rattle.asn_walk_feed.specs.Taken.{RootReached, ComponentTook, KeepsOther, KeepsComponent, KeepsFrames}
 use Rattle.asn_walk_feed.specs.declared.frame.Frame.TheVariants as frame
 use Rattle.asn_walk_feed.specs.declared.frame.Frame.{Frame}

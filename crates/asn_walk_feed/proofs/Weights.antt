@@ -1,16 +1,15 @@
 -- What is put together of parts weighs at most what their units allow together.
-use Rattle.std.proofs.Common.{◌≡◌, ◌≤◌, ◌+◌, ◌*◌, ℕ, zero, suc, List, [], ◌∷◌, ◌++◌, length, length-append, map, drop, refl, sym, ap, subst, ◌∙◌, arith}
+use Rattle.std.proofs.Common.{◌≡◌, ◌≤◌, ◌+◌, ◌*◌, ℕ, zero, suc, List, [], ◌∷◌, ◌++◌, length, length-append, refl, ap, ◌∙◌, arith}
 use Rattle.std.proofs.Math.Nat.{mul-add, mul-le-mul_left}
-use Rattle.asn_values.specs.Shape.{Shape, SizeRange}
-use Rattle.asn_values.specs.View.{Part}
+use Rattle.asn_values.specs.Shape.{SizeRange}
 use Rattle.asn_rules.specs.Chunks.{Chunk, flat}
-use Rattle.asn_rules.specs.General.{Length, last, fragment, Left, Header, Body, Within}
+use Rattle.asn_rules.specs.General.{Length, last, fragment, Left, Body, Within}
 use Rattle.asn_rules.specs.Languages.{Spells, Row}
 use Rattle.asn_rules.specs.Live.{Fielding}
 use Rattle.asn_rules.proofs.Live.Flat.{flat-append}
 use Rattle.asn_walk.specs.Ahead.{Ahead, items, lengths, end, Remaining}
 use Rattle.asn_walk.specs.Coding.{Coding, ListingOf}
-use Rattle.asn_walk_feed.specs.Weights.{total, Weighs, allowed}
+use Rattle.asn_walk_feed.specs.Weights.{total, Weighs}
 
 -- ---- sums
 

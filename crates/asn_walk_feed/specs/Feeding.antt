@@ -14,6 +14,7 @@ use Rattle.asn_rules.specs.declared.stop.Stop.TheVariants as stop
 use Rattle.asn_walk.specs.Ahead.{Ahead, items, lengths, end}
 use Rattle.asn_walk.specs.Coding.{Coding, PreambleOf, AdditionBitmapOf, AreFew, IndexOf}
 use Rattle.asn_walk.specs.Laws.{IsSizeOfProfile}
+use Rattle.asn_walk_feed.specs.Small.{RowLaws}
 
 -- ---- parts of few bits
 
@@ -55,6 +56,7 @@ pub record FeedLaws (c : Coding) : Type 0 where
   -- pieces are whole octets, so what fills up a message is all there or the message has no unit yet
   pub unfilled : (n : ℕ) (us : List ℕ) → (n + length us) % c.octet_units ≡ 0
       → Short c.ruling.fielding (Fixed (c.padding n)) us → (n ≡ 0) × (us ≡ [])
+  pub rows : RowLaws c
 
 -- no unit of the part has come, or some have and more are wanted
 abbrev pub HasBegun : {V : Type 0} → Coding → (V → List Chunk → Type 0) → List ℕ → Type 0

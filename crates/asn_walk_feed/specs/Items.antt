@@ -1,11 +1,14 @@
 -- How items that stand in fragments go on where a reader of them was cut: those of a list, and the octets of an open
 -- type field.
-use Rattle.std.specs.Prelude.{◌≡◌, ◌≤◌, ◌+◌, ◌*◌, ℕ, zero, suc, List, [], ◌++◌, length, map, Some}
+use Rattle.std.specs.Prelude.{◌≡◌, ◌≤◌, ◌+◌, ◌*◌, ◌⊎◌, ℕ, zero, suc, List, [], ◌++◌, length, map, Some, None}
+use Rattle.asn_values.specs.Shape.{Shape}
 use Rattle.asn_rules.specs.Chunks.{Chunk}
+use Rattle.asn_rules.specs.Listed.{Spelt}
 use Rattle.asn_walk.specs.Ahead.{Ahead, SomeAhead, Next}
 use Rattle.asn_walk.specs.Coding.{Coding}
 use Rattle.asn_walk.proofs.Listing.{Appends, Going}
 use Rattle.asn_walk_feed.specs.Feeding.{NextOf, Waits}
+use Rattle.asn_walk_feed.specs.Small.{IsSmall}
 use Rattle.asn_walk_feed.specs.Weights.{total, Weighs}
 use Rattle.asn_walk_feed.specs.declared.frame.Elements.{Elements}
 use Rattle.asn_walk_feed.specs.declared.frame.Frame.{Frame}
@@ -59,3 +62,9 @@ abbrev pub ItemsGoOn : {F A V : Type 0} → Coding → (F → Ahead) → (F → 
 ItemsGoOn c ahead between S L T seen Element q fs all units =
     GoesOn c ahead between S L T seen q (NextPart q.left fs
     (λ come. Waits c (NextOf (ahead q.fragments)) q.next_part come) (λ come. Element q.next_part fs come)) all units
+
+-- the units that have come of an element of a list. Those of a small type may wait as they are: no node of it has begun
+-- then. Else no node of it has begun before its first unit, and Value says which units the nodes have taken
+abbrev pub ElementCame : {F : Type 0} → Coding → List ℕ → List (Frame F) → Shape → (List ℕ → Type 0) → List ℕ → Type 0
+ElementCame c begun fs t Value us = ((begun ≡ []) × (Value us × (us ≡ [] → fs ≡ [])))
+    ⊎ ((fs ≡ []) × (IsSmall t × Waits c (Spelt c.code None t) begun us))

@@ -16,7 +16,7 @@ use Rattle.asn_walk.specs.Coding.{Coding, ListingOf, PreambleOf, added, IndexOf,
 use Rattle.asn_walk_feed.specs.Additions.{BitmapGoesOn, NextAdditionTook, AdditionsGoOn}
 use Rattle.asn_walk_feed.specs.Chosen.{AlternativeTook, ChoiceGoesOn}
 use Rattle.asn_walk_feed.specs.Feeding.{NextOf, Waits}
-use Rattle.asn_walk_feed.specs.Items.{GoesOn, NextPart}
+use Rattle.asn_walk_feed.specs.Items.{GoesOn, NextPart, ElementCame}
 use Rattle.asn_walk_feed.specs.Octets.{OctetsOf, OctetsTook, OctetsGoOn}
 use Rattle.asn_walk_feed.specs.OpenFields.{FieldCoding}
 use Rattle.asn_walk_feed.specs.Roots.{OtherTook, EntryTook, NextTook, RootGoesOn}
@@ -46,7 +46,7 @@ Took c fc ahead between (frame.Start b ∷ f ∷ fs) t us = ⊥
 Took c fc ahead between (frame.Elements q ∷ fs) (sequence_of t s) us =
     GoesOn c ahead between NoItem (Spelt c.code None t) (ListingOf c s (Spelt c.code None t)) datum_of q
     (NextPart q.left fs (λ come. Waits c (NextOf (ahead q.fragments)) q.next_part come)
-    (λ come. (q.next_part ≡ []) × (Took c fc ahead between fs t come × (come ≡ [] → fs ≡ [])))) us []
+    (λ come. ElementCame c q.next_part fs t (λ vs. Took c fc ahead between fs t vs) come)) us []
 Took c fc ahead between (frame.Elements q ∷ fs) t us = ⊥
 Took c fc ahead between (frame.Components q ∷ fs) (sequence root more) us =
     RootGoesOn c root more q
@@ -80,10 +80,10 @@ Took c fc ahead between (frame.Octets q ∷ fs) utf8_string us =
     × OctetsGoOn c (fc.string utf8_string) ahead between q us []
 Took c fc ahead between (frame.Octets q ∷ fs) t us = ⊥
 
--- the units that have come of an element of a list: no node of it has begun before its first unit
-abbrev pub ElementTook : {F : Type 0} → Coding → FieldCoding → (F → Ahead) → (F → Type 0) → List (Frame F) → Shape
-    → List ℕ → Type 0
-ElementTook c fc ahead between fs t us = Took c fc ahead between fs t us × (us ≡ [] → fs ≡ [])
+-- the units that have come of an element of a list: those that wait, or those that brought it to its nodes
+abbrev pub ElementTook : {F : Type 0} → Coding → FieldCoding → (F → Ahead) → (F → Type 0) → List ℕ → List (Frame F)
+    → Shape → List ℕ → Type 0
+ElementTook c fc ahead between begun fs t us = ElementCame c begun fs t (λ vs. Took c fc ahead between fs t vs) us
 
 -- a list of elements of the type, read so far, of whose next part these nodes have begun
 abbrev pub ListGoesOn : {F : Type 0} → Coding → FieldCoding → (F → Ahead) → (F → Type 0) → Shape → SizeRange
@@ -91,7 +91,7 @@ abbrev pub ListGoesOn : {F : Type 0} → Coding → FieldCoding → (F → Ahead
 ListGoesOn c fc ahead between t s q fs all units =
     GoesOn c ahead between NoItem (Spelt c.code None t) (ListingOf c s (Spelt c.code None t)) datum_of q
     (NextPart q.left fs (λ come. Waits c (NextOf (ahead q.fragments)) q.next_part come)
-    (λ come. (q.next_part ≡ []) × ElementTook c fc ahead between fs t come)) all units
+    (λ come. ElementTook c fc ahead between q.next_part fs t come)) all units
 
 -- the root of a SEQUENCE, read so far, of whose next component these nodes have begun
 abbrev pub RootReached : {F : Type 0} → Coding → FieldCoding → (F → Ahead) → (F → Type 0) → Fields → MoreFields
@@ -146,17 +146,30 @@ abbrev pub KeepsOn : {F : Type 0} → Coding → FieldCoding → (F → Ahead) �
 KeepsOn c fc ahead between fs gs t old why = (us : List ℕ) → Took c fc ahead between fs t us
     → KeepsFrames c fc ahead between gs t (us ++ c.to_units old) why
 
--- the same of an element of a list
-abbrev pub KeepsElement : {F : Type 0} → Coding → FieldCoding → (F → Ahead) → (F → Type 0) → List (Frame F) → Shape
-    → List ℕ → Stop → Type 0
-KeepsElement c fc ahead between fs t us (stop.Refused left why) = ⊤
-KeepsElement c fc ahead between fs t us stop.Short = ElementTook c fc ahead between fs t us
-KeepsElement c fc ahead between fs t us stop.Memory = ⊤
+-- the same of an element of a list, of which these units wait, or these nodes had begun
+abbrev pub ReadsOneElementOn : {F : Type 0} → Coding → FieldCoding → (F → Ahead) → (F → Type 0) → List ℕ
+    → List (Frame F) → Shape → Datum → List ℕ → List ℕ → Type 0
+ReadsOneElementOn c fc ahead between begun fs t v old new =
+    (us : List ℕ) → ElementTook c fc ahead between begun fs t us
+    → Spells c.ruling.fielding (Spelt c.code None t) v (us ++ c.to_units old) (c.to_units new)
 
-abbrev pub KeepsElementOn : {F : Type 0} → Coding → FieldCoding → (F → Ahead) → (F → Type 0) → List (Frame F)
+abbrev pub StopsOneElementOn : {F : Type 0} → Coding → FieldCoding → (F → Ahead) → (F → Type 0) → List ℕ
     → List (Frame F) → Shape → List ℕ → Stop → Type 0
-KeepsElementOn c fc ahead between fs gs t old why = (us : List ℕ) → ElementTook c fc ahead between fs t us
-    → KeepsElement c fc ahead between gs t (us ++ c.to_units old) why
+StopsOneElementOn c fc ahead between begun fs t old why =
+    (us : List ℕ) → ElementTook c fc ahead between begun fs t us
+    → Stops c.ruling.fielding (Spelt c.code None t) (us ++ c.to_units old) why
+
+abbrev pub KeepsElement : {F : Type 0} → Coding → FieldCoding → (F → Ahead) → (F → Type 0) → List ℕ → List (Frame F)
+    → Shape → List ℕ → Stop → Type 0
+KeepsElement c fc ahead between begun fs t us (stop.Refused left why) = ⊤
+KeepsElement c fc ahead between begun fs t us stop.Short = ElementTook c fc ahead between begun fs t us
+KeepsElement c fc ahead between begun fs t us stop.Memory = ⊤
+
+abbrev pub KeepsElementOn : {F : Type 0} → Coding → FieldCoding → (F → Ahead) → (F → Type 0) → List ℕ → List (Frame F)
+    → List ℕ → List (Frame F) → Shape → List ℕ → Stop → Type 0
+KeepsElementOn c fc ahead between begun fs begun' gs t old why =
+    (us : List ℕ) → ElementTook c fc ahead between begun fs t us
+    → KeepsElement c fc ahead between begun' gs t (us ++ c.to_units old) why
 
 -- the same of a list of elements of the type t, read so far: a value of it
 abbrev pub ReadsListOn : {F : Type 0} → Coding → FieldCoding → (F → Ahead) → (F → Type 0) → Shape → SizeRange

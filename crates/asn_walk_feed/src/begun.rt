@@ -1,6 +1,7 @@
 //! The bits of a part of a message that has begun, and whose other bits have not come.
 ghost use Rattle.std.specs.Prelude.{◌≡◌, ◌+◌, ◌-◌, ◌<◌, ◌≤◌, ◌^◌, ◌++◌, ◌↔◌, ℕ, List, [], length, min, IsTrue, drop, take};
 ghost use Rattle.asn_bits.specs.Numbers.{bits, unpacked};
+ghost use Rattle.asn_bits.specs.Sets.{AreBits};
 
 use asn_bits::BitCursor;
 use std::marker::Model;
@@ -41,6 +42,14 @@ impl Begun {
         ensures { IsTrue result ↔ (self.now ≡ []) }
     {
         self.count == 0
+    }
+
+    /// How many bits have come.
+    pub fn count(&self) -> u32
+        ensures count { result ≡ length self.now }
+        ensures bits { AreBits self.now }
+    {
+        self.count
     }
 
     /// The same bits.

@@ -43,7 +43,8 @@ pub struct Elements<F, T> {
     pub left: usize,
     /// What stands after the fragment.
     pub fragments: F,
-    /// What has come of the length that stands next, where no element of the fragment is left; and of the next octet.
+    /// What has come of the length that stands next, where no element of the fragment is left; of the next octet; and of
+    /// the next element, where that is a row of numbers.
     pub next_part: Begun,
 }
 

@@ -8,7 +8,7 @@ ghost use Rattle.asn_rules.specs.Languages.{Spells, Short};
 ghost use Rattle.asn_rules.specs.Padding.{Fixed};
 ghost use Rattle.asn_rules.specs.Stops.{Stops};
 ghost use Rattle.asn_rules.specs.declared.stop.Stop.TheVariants.{Memory};
-ghost use Rattle.asn_walk.specs.Reading.{Reads, ReadsValue, StopsAt};
+ghost use Rattle.asn_walk.specs.Reading.{Reads, ReadsValue, StopsAt, ValuesOf};
 ghost use Rattle.asn_walk_feed.specs.Octets.{OctetsOf, start_seen};
 ghost use Rattle.asn_walk_feed.specs.OpenFields.{FieldCoding, FieldLaws, StopsAfter};
 ghost use Rattle.asn_walk_feed.specs.Holding.{HoldLaws};
@@ -106,13 +106,13 @@ pub trait FeedLeaves: ReadLeaves {
         ensures stop { IfErr result (λ why. IsNoString Self.rules fields (shape_of ty.now) items.items left why) }
         ensures after { IfErr result (λ why. StopsAfter left why) };
 
-    /// Reads a value of the type that the units have whole. Of `None` nothing is said, neither why nor where the units
-    /// stand.
-    fn try_whole(alloc: Global, ty: &AsnType, units: &mut BitCursor<'_>) -> Option<Value>
+    /// Reads a value of the type.
+    fn read_whole(alloc: Global, ty: &AsnType, units: &mut BitCursor<'_>) -> Result<Value, Stop>
         requires of_profile { InProfile (shape_of ty.now) }
         requires at_unit { Self.rules.at_unit units.old }
-        ensures at_unit { IsSome result → Self.rules.at_unit units.new }
-        ensures done { IfSome result (λ v. ReadsValue Self.rules ty.now v units.old units.new) };
+        ensures at_unit { OnOk result (Self.rules.at_unit units.new) }
+        ensures done { IfOk result (λ v. ReadsValue Self.rules ty.now v units.old units.new) }
+        ensures stop { IfErr result (λ why. StopsAt Self.rules (ValuesOf Self.rules (shape_of ty.now)) units.old why) };
 
     /// Reads what fills up a complete encoding whose value has this many units.
     fn read_filling(value_units: u128, units: &mut BitCursor<'_>) -> Result<(), Stop>
@@ -305,7 +305,7 @@ pub(crate) fn take_to<'a, R: ReadLeaves>(
 }
 
 /// Takes the next `count` units, which have to be left, a tick each.
-fn take_units<R: FeedLeaves>(units: &mut Units<'_>, count: u32, ticks: &mut Ticks)
+pub(crate) fn take_units<R: FeedLeaves>(units: &mut Units<'_>, count: u32, ticks: &mut Ticks)
     requires at_unit { R.rules.at_unit units.old }
     requires few { count ≤ 128 }
     requires there { count ≤ length (R.rules.to_units units.old) }

@@ -17,6 +17,7 @@ mod lists;
 mod octets;
 mod open_fields;
 mod parts;
+mod rows;
 mod sequences;
 mod strings;
 mod units;

@@ -14,12 +14,13 @@ ghost use Rattle.asn_rules.specs.declared.stop.Stop.TheVariants.{Short};
 ghost use Rattle.asn_walk.specs.Reading.{ValuesOf};
 ghost use Rattle.asn_walk_feed.specs.Feeding.{Waits, NextOf, HasBegun, Ticked, StandsAfter, KeepsUnits};
 ghost use Rattle.asn_walk_feed.specs.Nodes.{nodes};
-ghost use Rattle.asn_walk_feed.specs.Taken.{with_node, Took, ElementTook, ListGoesOn, KeepsFrames, ReadsOn, StopsOn, KeepsOn, KeepsElementOn, ReadsListOn, StopsListOn, KeepsListOn, ReadsElementsOn, StopsElementsOn, UnderEachSize, GoesOnTo};
+ghost use Rattle.asn_walk_feed.specs.Taken.{with_node, Took, ElementTook, ListGoesOn, KeepsFrames, ReadsOn, StopsOn, KeepsOn, ReadsOneElementOn, StopsOneElementOn, KeepsElementOn, ReadsListOn, StopsListOn, KeepsListOn, ReadsElementsOn, StopsElementsOn, UnderEachSize, GoesOnTo};
 
 use crate::begun::Begun;
 use crate::frame::{Elements, Frame, Frames};
 use crate::leaf::{FeedLeaves, feed_leaf};
 use crate::parts::{ListStart, NextLength};
+use crate::rows::{feed_small, least_bits, row_bits};
 use crate::units::{Ticks, Units};
 use crate::values::feed;
 use crate::whole::whole_value;
@@ -268,19 +269,20 @@ fn feed_fragment<R: FeedLeaves>(
     R::keep_laws();
     R::keep_feed_laws();
     while list.left > 0 {
-        let value = feed_element::<R>(alloc, element, frames, units, ticks)?;
+        let value = feed_element::<R>(alloc, element, &mut list.next_part, frames, units, ticks)?;
         list.elements.push(value)?;
         list.left -= 1;
     }
     Ok(())
 }
 
-/// Reads what is left of an element: at once, where none of it has come and the piece has it whole. No node of it begins
-/// before its first unit has come.
+/// Reads what is left of an element: at once, where none of it has come and the piece has it whole. Where more is wanted
+/// of a row of numbers, the units that have come wait in `begun`; else no node of it begins before its first unit.
 #[cycle(feeder)]
 fn feed_element<R: FeedLeaves>(
     alloc: Global,
     ty: &AsnType,
+    begun: &mut Begun,
     frames: &mut Frames<R::Fragments>,
     units: &mut Units<'_>,
     ticks: &mut Ticks,
@@ -289,16 +291,17 @@ fn feed_element<R: FeedLeaves>(
     requires of_profile { InProfile (shape_of ty.now) }
     requires listed { (s : SizeRange) × InProfile (sequence_of (shape_of ty.now) s) }
     requires reached { (us : List ℕ)
-        × ElementTook R.rules R.fields R.ahead R.is_between (nodes frames.old) (shape_of ty.now) us }
+        × ElementTook R.rules R.fields R.ahead R.is_between begun.old (nodes frames.old) (shape_of ty.now) us }
     requires few { ticks.old.taken + length (R.rules.to_units units.old) < 2 ^ 64 }
     ensures at_unit { R.rules.at_unit units.new }
-    ensures done { IfOk result (λ v. ReadsOn R.rules R.fields R.ahead R.is_between (nodes frames.old) (shape_of ty.now)
-        (datum_of v) units.old units.new) }
+    ensures done { IfOk result (λ v. ReadsOneElementOn R.rules R.fields R.ahead R.is_between begun.old
+        (nodes frames.old) (shape_of ty.now) (datum_of v) units.old units.new) }
+    ensures fresh { OnOk result (begun.new ≡ []) }
     ensures emptied { OnOk result (nodes frames.new ≡ []) }
-    ensures stop { IfErr result (λ why.
-        StopsOn R.rules R.fields R.ahead R.is_between (nodes frames.old) (shape_of ty.now) units.old why) }
-    ensures kept { IfErr result (λ why. KeepsElementOn R.rules R.fields R.ahead R.is_between (nodes frames.old)
-        (nodes frames.new) (shape_of ty.now) units.old why) }
+    ensures stop { IfErr result (λ why. StopsOneElementOn R.rules R.fields R.ahead R.is_between begun.old
+        (nodes frames.old) (shape_of ty.now) units.old why) }
+    ensures kept { IfErr result (λ why. KeepsElementOn R.rules R.fields R.ahead R.is_between begun.old
+        (nodes frames.old) begun.new (nodes frames.new) (shape_of ty.now) units.old why) }
     ensures after { IfErr result (λ why. StandsAfter R.rules units.new why) }
     ensures ticked { Ticked R.rules units.old ticks.old.taken units.new ticks.new.taken }
     ensures rising { ticks.old.taken ≤ ticks.new.taken }
@@ -308,15 +311,20 @@ fn feed_element<R: FeedLeaves>(
         units.new }
 {
     R::keep_laws();
+    R::keep_feed_laws();
     R::keep_hold_laws();
-    match whole_value::<R>(alloc, ty, frames, units, ticks) {
-        Some(value) => Ok(value),
-        None => {
-            if is_to_come::<R>(frames, units) {
-                return Err(Stop::Short);
-            }
-            feed::<R>(alloc, ty, frames, units, ticks)
-        }
+    if !begun.is_none() {
+        return feed_small::<R>(alloc, ty, least_bits(ty), begun, units, ticks);
+    }
+    if let Some(value) = whole_value::<R>(alloc, ty, frames, units, ticks) {
+        return Ok(value);
+    }
+    if is_to_come::<R>(frames, units) {
+        return Err(Stop::Short);
+    }
+    match row_bits(ty, frames) {
+        Some(least) => feed_small::<R>(alloc, ty, Some(least), begun, units, ticks),
+        None => feed::<R>(alloc, ty, frames, units, ticks),
     }
 }
 

@@ -16,7 +16,8 @@ use std::alloc::Global;
 const LEAST: usize = 8;
 
 /// A value of the type, of which no node has begun and which the piece has whole: its units are taken, a tick each.
-/// `None` where a node has begun, where few units are left, or where the rules give none; then no unit is taken.
+/// `None` where a node has begun, where few units are left, or where the
+/// piece has not all of it; then no unit is taken.
 pub(crate) fn whole_value<R: FeedLeaves>(
     alloc: Global,
     ty: &AsnType,
@@ -40,7 +41,7 @@ pub(crate) fn whole_value<R: FeedLeaves>(
     if !frames.is_none() || R::octets_left(&ahead) < LEAST {
         return None;
     }
-    let value = R::try_whole(alloc, ty, &mut ahead)?;
+    let value = R::read_whole(alloc, ty, &mut ahead).ok()?;
     take_to::<R>(units, ahead, ticks);
     Some(value)
 }

@@ -11,6 +11,7 @@ use Rattle.asn_oer.specs.Rules.{oer_ruling}
 use Rattle.asn_oer.specs.Walk.{oer_coding}
 use Rattle.asn_oer.proofs.InPieces.Brief.{few_brief}
 use Rattle.asn_oer.proofs.InPieces.Counts.{list_start_few, preamble_few, bitmap_few, index_few, next_few, filling_few}
+use Rattle.asn_oer.proofs.InPieces.Rows.{oer_row_laws}
 use Rattle.asn_oer.proofs.InPieces.Scalars.{scalar_few, default_scalar}
 
 no_units : oer_coding.to_units [] ≡ []
@@ -56,4 +57,5 @@ oer_feed_laws = record {
   list_start = λ s h. few_brief (list_start_few s);
   padding = fillings;
   unfilled = unfilled;
+  rows = oer_row_laws;
 }

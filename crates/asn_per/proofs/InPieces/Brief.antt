@@ -40,6 +40,7 @@ use Rattle.asn_walk.specs.Ahead.{Ahead, items, lengths, end}
 use Rattle.asn_walk.specs.Coding.{PreambleOf, AdditionBitmapOf, AreFew, IndexOf}
 use Rattle.asn_walk.specs.Laws.{IsSizeOfProfile}
 use Rattle.asn_walk_feed.specs.Feeding.{IsBrief, IsScalar, NextOf, FeedLaws}
+use Rattle.asn_per.proofs.InPieces.Rows.{per_row_laws}
 use Rattle.asn_per.proofs.InPieces.Few.{HasFew, brief, front_few, few_more, few_map, few_same, few_nothing, few_plain, few_digits, few_spelled, few_fork, few_then, few_spelt}
 
 -- ---- numbers
@@ -263,4 +264,5 @@ per_feed_laws = record {
   list_start = list_start_brief;
   padding = padding_brief;
   unfilled = unfilled;
+  rows = per_row_laws;
 }

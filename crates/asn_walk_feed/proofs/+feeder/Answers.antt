@@ -60,7 +60,7 @@ use Rattle.asn_walk_feed.specs.Additions.{marked_seen}
 use Rattle.asn_walk_feed.specs.AddedTaken.{AdditionsReached}
 use Rattle.asn_walk_feed.proofs.AddedRead.{some_present, bitmap_begun, bitmap_stops, bitmap_kept, additions_start, next_addition, left_within, additions_end, additions_emptied, bitmap_goes_on, additions_go_on, took_bitmap, bitmap_took, took_additions, bitmap_starts, no_mark, left_out, absent_read, present_took, present_read, present_stops, present_kept}
 use Rattle.std.proofs.lemmas.Bool.{true≢false}
-use Rattle.asn_walk_feed.proofs.ElementsWait.{to_come_stops, to_come_kept, element_kept}
+use Rattle.asn_walk_feed.proofs.ElementsWait.{to_come_stops, element_kept, waits_took, reads_nodes, stops_nodes}
 use Rattle.asn_walk_feed.proofs.Sizes.{root_smaller, added_type_smaller, components_smaller, additions_smaller}
 use Rattle.asn_walk_feed.proofs.Levels.{is_short, never, costs_same, costs_none, costs_like, costs_after, costs_then, costs_next, costs_last, content_within, field_pays, level_costs, field_stops, adds_inside, level_of_none, none_open, none_come, open_elements, open_components, open_chosen, open_additions, open_added, depth_of_elements, depth_is, depth_of_root, depth_of_additions, depth_of_alternatives, depth_of_added, depth_of_component, depth_of_addition, depth_of_alternative, depth_of_added_one}
 use Rattle.asn_values.specs.View.{alternatives_seen}
@@ -149,7 +149,7 @@ lists::feed_fragment-returns-in_err-value-clause-stop g t c =
     let p = err_from_is_err_and c.from_residual.result c.from_residual.ensures.1 in
     rw (p.1, p.2) (λ s good all h.
     (let x = element_ahead g.R.ReadLeaves.rules c.keep_laws.ensures c.keep_feed_laws.ensures g.R.FeedLeaves.fields g.R.ReadLeaves.ahead g.R.ReadLeaves.is_between (shape_of c.args.element.now) s good c.loop-list.list (nodes c.loop-list.frames) all (g.R.ReadLeaves.rules.to_units c.loop-list.units) c.loop-list-test.true (inv.0 s good all h) in
-    x.stops _ (c.in_err-value.ensures.stop x.come x.took.0)))
+    x.stops _ (c.in_err-value.ensures.stop x.come x.took)))
 
 pub lists::feed_fragment-returns-in_err-value-clause-kept : goal.lists::feed_fragment-returns-in_err-value-clause-kept
 lists::feed_fragment-returns-in_err-value-clause-kept g t c = λ e s good all h.
@@ -157,14 +157,14 @@ lists::feed_fragment-returns-in_err-value-clause-kept g t c = λ e s good all h.
     let p = err_from_is_err_and c.from_residual.result c.from_residual.ensures.1 in
     let w : c.in_err-value.field-0.0 ≡ stop.Short = cc (p.1, p.2, e) in
     let x = element_ahead g.R.ReadLeaves.rules c.keep_laws.ensures c.keep_feed_laws.ensures g.R.FeedLeaves.fields g.R.ReadLeaves.ahead g.R.ReadLeaves.is_between (shape_of c.args.element.now) s good c.loop-list.list (nodes c.loop-list.frames) all (g.R.ReadLeaves.rules.to_units c.loop-list.units) c.loop-list-test.true (inv.0 s good all h) in
-    x.kept (nodes c.feed_element.new.frames) (g.R.ReadLeaves.rules.to_units c.feed_element.new.units) (rw w at c.in_err-value.ensures.after) (rw w at (c.in_err-value.ensures.kept x.come x.took))
+    x.kept _ (nodes c.feed_element.new.frames) (g.R.ReadLeaves.rules.to_units c.feed_element.new.units) refl refl refl (rw w at c.in_err-value.ensures.after) (rw w at (c.in_err-value.ensures.kept x.come x.took))
 
 pub lists::feed_fragment-loop-list-preserved : goal.lists::feed_fragment-loop-list-preserved
 lists::feed_fragment-loop-list-preserved g t c =
     let inv = c.loop-list.invariant in (
       λ s good all h.
           (let x = element_ahead g.R.ReadLeaves.rules c.keep_laws.ensures c.keep_feed_laws.ensures g.R.FeedLeaves.fields g.R.ReadLeaves.ahead g.R.ReadLeaves.is_between (shape_of c.args.element.now) s good c.loop-list.list (nodes c.loop-list.frames) all (g.R.ReadLeaves.rules.to_units c.loop-list.units) c.loop-list-test.true (inv.0 s good all h) in
-          x.more _ _ c.in_ok-value.value _ (omega (arith, c.loop-list-test.true)) refl refl c.in_ok-push.ensures.items c.in_ok-value.ensures.emptied (c.in_ok-value.ensures.done x.come x.took.0)),
+          x.more _ _ c.in_ok-value.value _ (omega (arith, c.loop-list-test.true)) refl c.in_ok-value.ensures.fresh c.in_ok-push.ensures.items c.in_ok-value.ensures.emptied (c.in_ok-value.ensures.done x.come x.took)),
       omega (arith, inv.1, c.in_ok-value.ensures.ticked),
       c.in_ok-value.ensures.at_unit,
       inv.3,
@@ -1728,32 +1728,68 @@ sequences::feed_components-loop-alloc-init g t c = (λ more p all h. h, refl, c.
 pub additions::feed_open_fields-loop-read-init : goal.additions::feed_open_fields-loop-read-init
 additions::feed_open_fields-loop-read-init g t c = (λ all h. h, refl, c.requires.at_unit, omega arith, costs_none)
 
+-- ---- an element
+
+-- units of it wait
+pub lists::feed_element-feed_small-requires-clause-small : goal.lists::feed_element-feed_small-requires-clause-small
+lists::feed_element-feed_small-requires-clause-small g t c =
+    let r = g.R.ReadLeaves.rules in
+    let n : c.args.begun.now ≡ [] → ⊥ = λ e. (let yes = c.is_none.ensures.1 e in absurd (true≢false (sym yes ∙ c.if-not-is_none.true))) in
+    (waits_took r c.keep_feed_laws.ensures g.R.FeedLeaves.fields g.R.ReadLeaves.ahead g.R.ReadLeaves.is_between (shape_of c.args.ty.now) c.args.begun.now (nodes c.args.frames.now) c.requires.reached.0 n c.requires.reached.1).1.0
+
+pub lists::feed_element-feed_small-requires-clause-waits : goal.lists::feed_element-feed_small-requires-clause-waits
+lists::feed_element-feed_small-requires-clause-waits g t c =
+    let r = g.R.ReadLeaves.rules in
+    let n : c.args.begun.now ≡ [] → ⊥ = λ e. (let yes = c.is_none.ensures.1 e in absurd (true≢false (sym yes ∙ c.if-not-is_none.true))) in
+    let w = (waits_took r c.keep_feed_laws.ensures g.R.FeedLeaves.fields g.R.ReadLeaves.ahead g.R.ReadLeaves.is_between (shape_of c.args.ty.now) c.args.begun.now (nodes c.args.frames.now) c.requires.reached.0 n c.requires.reached.1).1.1 in
+    record { come = refl; at_unit = w.at_unit; begins = w.begins }
+
+-- none waits, and the piece has it whole
+pub lists::feed_element-returns-in-Some-clause-done : goal.lists::feed_element-returns-in-Some-clause-done
+lists::feed_element-returns-in-Some-clause-done g t c =
+    let r = g.R.ReadLeaves.rules in
+    reads_nodes r c.keep_feed_laws.ensures g.R.FeedLeaves.fields g.R.ReadLeaves.ahead g.R.ReadLeaves.is_between (shape_of c.args.ty.now) c.args.begun.now (nodes c.args.frames.now) c.args.units.now (datum_of c.in-Some.value) c.whole_value.new.units (c.is_none.ensures.0 c.if-not-is_none.false) c.in-Some.ensures.done
+
+pub lists::feed_element-returns-in-Some-clause-inside : goal.lists::feed_element-returns-in-Some-clause-inside
+lists::feed_element-returns-in-Some-clause-inside g t c =
+    costs_same c.whole_value.ensures.inside (omega (arith, c.whole_value.ensures.ticked, c.whole_value.ensures.rising)) (λ e. never (ap is_short e))
+
+-- it is to come
 pub lists::feed_element-returns-then-is_to_come-clause-stop : goal.lists::feed_element-returns-then-is_to_come-clause-stop
 lists::feed_element-returns-then-is_to_come-clause-stop g t c =
     let r = g.R.ReadLeaves.rules in
-    let still = (c.in-None.ensures.still cc).0 in
+    let still = (c.whole_value.ensures.still (ap is_some c.in_default.is)).0 in
     let none = c.is_to_come.ensures.yes c.if-is_to_come.true in
     let units : r.to_units c.args.units.now ≡ [] = ap r.to_units (sym still) ∙ none.1 in
-    to_come_stops r c.keep_laws.ensures g.R.FeedLeaves.fields c.keep_hold_laws.ensures g.R.ReadLeaves.ahead g.R.ReadLeaves.is_between (shape_of c.args.ty.now) c.requires.listed.0 c.requires.listed.1 (nodes c.args.frames.now) c.args.units.now none.0 units
+    to_come_stops r c.keep_laws.ensures c.keep_feed_laws.ensures g.R.FeedLeaves.fields c.keep_hold_laws.ensures g.R.ReadLeaves.ahead g.R.ReadLeaves.is_between (shape_of c.args.ty.now) c.requires.listed.0 c.requires.listed.1 c.args.begun.now (nodes c.args.frames.now) c.args.units.now (c.is_none.ensures.0 c.if-not-is_none.false) none.0 units
 
-pub lists::feed_element-returns-then-is_to_come-clause-kept : goal.lists::feed_element-returns-then-is_to_come-clause-kept
-lists::feed_element-returns-then-is_to_come-clause-kept g t c =
+-- it is a row of numbers
+pub lists::feed_element-returns-in-Some-row_bits-clause-inside : goal.lists::feed_element-returns-in-Some-row_bits-clause-inside
+lists::feed_element-returns-in-Some-row_bits-clause-inside g t c =
+    let w = c.feed_small-in-Some-row_bits.ensures in
+    costs_same (w.inside ∙ c.whole_value.ensures.inside) (omega (arith, w.ticked, w.rising, c.whole_value.ensures.ticked, c.whole_value.ensures.rising)) (λ e. none_open g.R.ReadLeaves.rules g.R.FeedLeaves.fields g.R.ReadLeaves.ahead g.R.ReadLeaves.is_between (nodes c.args.frames.now) c.in-Some-row_bits.ensures.1)
+
+-- it goes through its nodes
+pub lists::feed_element-returns-in-None-clause-done : goal.lists::feed_element-returns-in-None-clause-done
+lists::feed_element-returns-in-None-clause-done g t c =
     let r = g.R.ReadLeaves.rules in
-    let still = (c.in-None.ensures.still cc).0 in
-    let none = c.is_to_come.ensures.yes c.if-is_to_come.true in
-    let units : r.to_units c.args.units.now ≡ [] = ap r.to_units (sym still) ∙ none.1 in
-    to_come_kept r c.keep_laws.ensures g.R.FeedLeaves.fields c.keep_hold_laws.ensures g.R.ReadLeaves.ahead g.R.ReadLeaves.is_between (shape_of c.args.ty.now) c.requires.listed.0 c.requires.listed.1 (nodes c.args.frames.now) (nodes c.args.frames.now) c.args.units.now none.0 none.0 units
+    let still = (c.whole_value.ensures.still (ap is_some c.in_default.is)).0 in
+    IfOk-weaker c.feed.result _ _ (λ v k. reads_nodes r c.keep_feed_laws.ensures g.R.FeedLeaves.fields g.R.ReadLeaves.ahead g.R.ReadLeaves.is_between (shape_of c.args.ty.now) c.args.begun.now (nodes c.args.frames.now) c.args.units.now (datum_of v) c.feed.new.units (c.is_none.ensures.0 c.if-not-is_none.false) (rw still at k)) c.feed.ensures.done
 
-pub lists::feed_element-returns-then-is_to_come-clause-inside : goal.lists::feed_element-returns-then-is_to_come-clause-inside
-lists::feed_element-returns-then-is_to_come-clause-inside g t c =
-    rw (sym (c.in-None.ensures.still cc).0, sym c.whole_value.ensures.inside) (costs_like {d' = sealed_depth (shape_of c.args.ty.now)} costs_none (omega arith) (λ n o. o) (λ n o e. o))
-
-pub lists::feed_element-returns-else-is_to_come-clause-kept : goal.lists::feed_element-returns-else-is_to_come-clause-kept
-lists::feed_element-returns-else-is_to_come-clause-kept g t c =
+pub lists::feed_element-returns-in-None-clause-stop : goal.lists::feed_element-returns-in-None-clause-stop
+lists::feed_element-returns-in-None-clause-stop g t c =
     let r = g.R.ReadLeaves.rules in
-    let still = (c.in-None.ensures.still cc).0 in
-    IfErr-weaker c.feed.result _ _ (λ why k. element_kept r g.R.FeedLeaves.fields g.R.ReadLeaves.ahead g.R.ReadLeaves.is_between (shape_of c.args.ty.now) (nodes c.args.frames.now) (nodes c.feed.new.frames) c.args.units.now why (λ e z. (let yes = c.is_to_come.ensures.no e (ap r.to_units still ∙ z) in absurd (true≢false (sym yes ∙ c.if-is_to_come.false)))) (rw still at k)) c.feed.ensures.kept
+    let still = (c.whole_value.ensures.still (ap is_some c.in_default.is)).0 in
+    IfErr-weaker c.feed.result _ _ (λ why k. stops_nodes r c.keep_feed_laws.ensures g.R.FeedLeaves.fields g.R.ReadLeaves.ahead g.R.ReadLeaves.is_between (shape_of c.args.ty.now) c.args.begun.now (nodes c.args.frames.now) c.args.units.now why (c.is_none.ensures.0 c.if-not-is_none.false) (rw still at k)) c.feed.ensures.stop
 
-pub lists::feed_element-returns-else-is_to_come-clause-inside : goal.lists::feed_element-returns-else-is_to_come-clause-inside
-lists::feed_element-returns-else-is_to_come-clause-inside g t c =
-    rw (sym (c.in-None.ensures.still cc).0, sym c.whole_value.ensures.inside) c.feed.ensures.inside
+pub lists::feed_element-returns-in-None-clause-kept : goal.lists::feed_element-returns-in-None-clause-kept
+lists::feed_element-returns-in-None-clause-kept g t c =
+    let r = g.R.ReadLeaves.rules in
+    let still = (c.whole_value.ensures.still (ap is_some c.in_default.is)).0 in
+    let e = c.is_none.ensures.0 c.if-not-is_none.false in
+    IfErr-weaker c.feed.result _ _ (λ why k. element_kept r c.keep_feed_laws.ensures g.R.FeedLeaves.fields g.R.ReadLeaves.ahead g.R.ReadLeaves.is_between (shape_of c.args.ty.now) c.args.begun.now (nodes c.args.frames.now) c.args.units.now c.args.begun.now (nodes c.feed.new.frames) why e e (λ x z. (let yes = c.is_to_come.ensures.no x (ap r.to_units still ∙ z) in absurd (true≢false (sym yes ∙ c.if-is_to_come.false)))) (rw still at k)) c.feed.ensures.kept
+
+pub lists::feed_element-returns-in-None-clause-inside : goal.lists::feed_element-returns-in-None-clause-inside
+lists::feed_element-returns-in-None-clause-inside g t c =
+    let still = (c.whole_value.ensures.still (ap is_some c.in_default.is)).0 in
+    rw (sym still, sym c.whole_value.ensures.inside) c.feed.ensures.inside

@@ -1,4 +1,4 @@
-use Rattle.std.proofs.Common.{◌≡◌, ℕ, Option, Some, None, option_map, sym, subst}
+use Rattle.std.proofs.Common.{◌≡◌, Option, option_map, sym, subst}
 use Rattle.asn_values.specs.Measures.{cells}
 use Rattle.asn_values.specs.View.{datum_of}
 use Rattle.asn_values.specs.declared.value.Value.{Value}

@@ -1,4 +1,3 @@
-use Rattle.std.proofs.Common.{◌≡◌}
 use Rattle.asn_walk_feed.proofs.HeldNodes.{counts_node}
 use Rattle.asn_walk_feed.proofs.held.held_in.Goals as goal
 

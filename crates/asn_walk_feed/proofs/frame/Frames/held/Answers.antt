@@ -1,4 +1,3 @@
-use Rattle.std.proofs.Common.{◌≡◌}
 use Rattle.asn_walk_feed.proofs.HeldNodes.{held_reverse}
 use Rattle.asn_walk_feed.proofs.frame.Frames.held.Goals as goal
 

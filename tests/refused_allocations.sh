@@ -94,6 +94,7 @@ told_of() { # what was called for, and the names of the calls of which each has 
 
 : >"$work/told"
 refuse_each "$room/test_checks" tests/programs/memory one_call_tells memory
+told_of message Message::to_json
 for of in message simple composed; do
   told_of "$of" Checked::new
   told_of "$of in PER" encode decode decode_into Planned::new feed

@@ -5,6 +5,7 @@ use Rattle.serde_json.specs.Data.{Data, Members}
 use Rattle.serde_json.specs.Find.{get_member}
 use Rattle.serde_json.specs.View.{view, items_view, members_view}
 use Rattle.serde_json.specs.declared.value.Value.{Value as Json}
+use Rattle.asn_values.specs.Datum.{Datum}
 use Rattle.asn_values.specs.declared.types.Alt.{Alt}
 use Rattle.asn_values.specs.declared.types.AsnType.{AsnType}
 use Rattle.asn_values.specs.declared.types.Field.{Field}
@@ -16,7 +17,7 @@ use Rattle.asn_json.specs.Errors.{errors, field_errors, element_errors, errors_a
 use Rattle.asn_json.specs.Paths.{below}
 use Rattle.asn_json.specs.Readers.{TellsFirst, ShowsAfter, ShowsEntry, errors_of_entry, ShowsElements}
 use Rattle.asn_json.specs.Shown.{component_names}
-use Rattle.asn_json.specs.Written.{item_names, json_of, members, with_member}
+use Rattle.asn_json.specs.Written.{item_names, json_of, with_member}
 
 -- the members of an object
 abbrev pub Object : Type 0
@@ -67,10 +68,6 @@ TellsBelow step r f = (paths : List (List ℕ)) → IfErr r (λ g. TellsFirst pa
 
 -- ---- written
 
--- an object with a member for each entry of these components that is there
-abbrev pub with_entries : List Field → List (Option Value) → Object → Members
-with_entries fs es o = members (fields_seen fs) (entries_seen es) (members_view o)
-
 -- and with that of one component
-abbrev pub with_entry : Part → Option Value → Object → Members
-with_entry p e o = with_member p.name (λ d. json_of p.shape d) (option_map datum_of e) (members_view o)
+abbrev pub with_entry : Part → Option Datum → Object → Members
+with_entry p e o = with_member p.name (λ d. json_of p.shape d) e (members_view o)

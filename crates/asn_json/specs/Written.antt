@@ -1,6 +1,6 @@
 -- The JSON that is written of a value. It stands in serde_json's own words (`view` of its `Value`), and so do its
 -- objects, in which `put` keeps the members in order of their keys.
-use Rattle.std.specs.Prelude.{◌≡◌, ◌-◌, ℕ, zero, suc, Bool, true, false, List, [], ◌∷◌, ◌++◌, map, take, drop, length, Option, Some, None, nat_lt, if◌then◌else◌, slice_get}
+use Rattle.std.specs.Prelude.{◌≡◌, ◌-◌, ℕ, zero, suc, Bool, true, false, List, [], ◌∷◌, ◌++◌, map, take, drop, length, Option, Some, None, nat_lt, if◌then◌else◌, slice_get, ⊤}
 use Rattle.std.specs.Fmt.{decimal, signed_decimal}
 use Rattle.std.specs.Str.{encode_utf8_all}
 use Rattle.hex.specs.Hex.{encode_lower}
@@ -79,9 +79,16 @@ json_elements f (elements ds) = array (items_of (map f (element_list ds)))
 json_elements f _ = null
 
 -- of an alternative that the type has not, `?` and its tag in decimal
+abbrev pub json_unknown_at : ℕ → Data
+json_unknown_at tag = object (member (63 ∷ decimal tag) null no_members)
+
+abbrev pub json_unknown : Datum → Data
+json_unknown (unknown_alternative tag) = json_unknown_at tag
+json_unknown _ = null
+
 abbrev pub json_chosen : (ℕ → Datum → Data) → Datum → Data
 json_chosen f (alternative tag d) = f tag d
-json_chosen f (unknown_alternative tag) = object (member (63 ∷ decimal tag) null no_members)
+json_chosen f (unknown_alternative tag) = json_unknown_at tag
 json_chosen f _ = null
 
 -- a member for an entry that is there; an absent one has none
@@ -145,8 +152,31 @@ pub record Written (t : Shape) (v : Datum) (j : Data) : Type 0 where
   pub fits : FitsReceived t v
   pub is : j ≡ json_of t v
 
+-- a part is told where it is right, as P says, and is then a; else nothing is told
+abbrev pub Told : {A : Type 0} → Type 0 → A → Option A → Type 0
+Told P a None = ¬ P
+Told P a (Some x) = P × (x ≡ a)
+
+-- neither SEQUENCE, SEQUENCE OF nor CHOICE
+abbrev pub IsSimple : Shape → Type 0
+IsSimple (sequence root more) = ⊥
+IsSimple (sequence_of t s) = ⊥
+IsSimple (choice root more) = ⊥
+IsSimple _ = ⊤
+
+-- an alternative that the type has not
+abbrev pub IsUnknownAlternative : Datum → Type 0
+IsUnknownAlternative (unknown_alternative tag) = ⊤
+IsUnknownAlternative _ = ⊥
+
 -- what a fault of writing tells
 abbrev pub Unwritten : Shape → Datum → JsonFault → Type 0
 Unwritten t v (fault.Shape path) = ⊥
 Unwritten t v fault.NotOfType = ¬ FitsReceived t v
 Unwritten t v fault.Memory = FitsReceived t v
+
+-- the same where memory may be wanting before it is seen that the value is none of the type
+abbrev pub NoJson : Shape → Datum → JsonFault → Type 0
+NoJson t v (fault.Shape path) = ⊥
+NoJson t v fault.NotOfType = ¬ FitsReceived t v
+NoJson t v fault.Memory = ⊤

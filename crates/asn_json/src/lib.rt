@@ -12,4 +12,4 @@ mod write;
 
 pub use fault::JsonFault;
 pub use read::{from_json, value_shown};
-pub use write::to_json;
+pub use write::{to_json, to_json_from};

@@ -1,17 +1,18 @@
 //! The JSON of values.
-ghost use Rattle.std.specs.Prelude.{◌≡◌, IfOk, IfErr, map, string_bytes};
-ghost use Rattle.serde_json.specs.Data.{put};
+ghost use Rattle.std.specs.Prelude.{◌≡◌, IfOk, IfErr, true, map, option_map};
+ghost use Rattle.std.specs.List.{AllByRecursion};
+ghost use Rattle.serde_json.specs.Data.{object};
 ghost use Rattle.serde_json.specs.View.{view, members_view};
-ghost use Rattle.asn_values.specs.View.{shape_of, datum_of, part_of_field, alternatives_seen};
-ghost use Rattle.asn_json.specs.Parts.{with_entries, with_entry};
-ghost use Rattle.asn_json.specs.Written.{Written, Unwritten, json_of, json_alternative};
+ghost use Rattle.asn_values.specs.Received.{FitsReceived, FitsComponent, FitsEachBy, FitsAlternativeBy};
+ghost use Rattle.asn_values.specs.View.{shape_of, datum_of, part_of_field, fields_seen, alternatives_seen};
+ghost use Rattle.asn_json.specs.Parts.{with_entry};
+ghost use Rattle.asn_json.specs.Written.{Written, Unwritten, NoJson, Told, json_of, json_alternative, members};
 
 use crate::fault::JsonFault;
-use crate::leaves::{
-    bits_json, characters_json, item_json, number_json, octets_json, unknown_item_json,
-};
-use asn_values::internal::fits_received;
-use asn_values::{Alt, AsnType, Checked, Field, Value};
+use crate::leaves::{leaf_json, put_member, unknown_alternative_json};
+use asn_source::Source;
+use asn_values::internal::{fits_received, length_fits};
+use asn_values::{Alt, AsnType, Checked, Field, Need, Value};
 use serde_json::{Map, Value as Json};
 use std::alloc::{AllocError, Global};
 
@@ -32,145 +33,218 @@ pub fn to_json(alloc: Global, ty: &Checked, value: &Value) -> Result<Json, JsonF
     ensures written { IfOk result (λ j. Written (shape_of ty.now) (datum_of value.now) (view j)) }
     ensures refused { IfErr result (λ fault. Unwritten (shape_of ty.now) (datum_of value.now) fault) }
 {
-    if !fits_received(ty, value) {
-        return Err(JsonFault::NotOfType);
+    match json_of::<&Value>(alloc, ty.get(), value) {
+        Ok(Some(json)) => Ok(json),
+        Ok(None) => Err(JsonFault::NotOfType),
+        Err(_) => {
+            if fits_received(ty, value) {
+                Err(JsonFault::Memory)
+            } else {
+                Err(JsonFault::NotOfType)
+            }
+        }
     }
-    match json_of(alloc, ty.get(), value) {
-        Ok(json) => Ok(json),
+}
+
+/// The JSON of a value in any form from which it can be written: what [`to_json`] gives of this value as a tree.
+///
+/// # Errors
+/// `NotOfType` only where the value is none of the type, nor one that a receiver gives of a message of a newer sender;
+/// `Memory` where an allocation failed, which may come before it is seen that the value is none. Never `Shape`.
+pub fn to_json_from<V: Source>(alloc: Global, ty: &Checked, value: V) -> Result<Json, JsonFault>
+    ensures written { IfOk result (λ j. Written (shape_of ty.now) (V.datum value) (view j)) }
+    ensures refused { IfErr result (λ fault. NoJson (shape_of ty.now) (V.datum value) fault) }
+{
+    match json_of::<V>(alloc, ty.get(), value) {
+        Ok(Some(json)) => Ok(json),
+        Ok(None) => Err(JsonFault::NotOfType),
         Err(_) => Err(JsonFault::Memory),
     }
 }
 
-/// The JSON of the value; null stands where it is none of the type.
+/// The JSON of the value; nothing where it is none of the type.
 #[cycle(json)]
-fn json_of(alloc: Global, ty: &AsnType, value: &Value) -> Result<Json, AllocError>
-    ensures { IfOk result (λ j. view j ≡ json_of (shape_of ty.now) (datum_of value.now)) }
+fn json_of<V: Source>(alloc: Global, ty: &AsnType, value: V) -> Result<Option<Json>, AllocError>
+    ensures { IfOk result (λ o. Told (FitsReceived (shape_of ty.now) (V.datum value))
+        (json_of (shape_of ty.now) (V.datum value)) (option_map view o)) }
 {
-    match (ty, value) {
-        (AsnType::Bool, Value::Bool(truth)) => Ok(Json::from(*truth)),
-        (AsnType::Int(_), Value::Int(integer)) => Ok(number_json(*integer)),
-        (AsnType::Enum { root, ext }, Value::Enum(index)) => item_json(alloc, root, ext, *index),
-        (AsnType::Enum { .. }, Value::UnknownItem(number)) => unknown_item_json(alloc, *number),
-        (AsnType::Bits(_), Value::Bits(bits)) => bits_json(alloc, bits),
-        (AsnType::Octets(_), Value::Octets(octets)) => octets_json(alloc, octets),
-        (AsnType::Text(..), Value::Text(codes)) => characters_json(alloc, codes),
-        (AsnType::Utf8, Value::Utf8(text)) => Json::try_from_str(alloc, text.as_str()),
-        (AsnType::Seq { root, ext }, Value::Seq(entries)) => {
-            let (root_entries, added_entries) = entries.split_at(root.len().min(entries.len()));
-            let object = with_members(alloc, root, root_entries, Map::new(alloc))?;
+    match ty {
+        AsnType::Seq { root, ext } => {
+            let Some(entries) = value.entries() else {
+                return Ok(None);
+            };
             match ext {
-                None => Ok(Json::from(object)),
-                Some(more) => Ok(Json::from(with_members(alloc, more, added_entries, object)?)),
+                None => {
+                    let members = with_members::<V>(alloc, root, entries, Map::new(alloc))?;
+                    Ok(object_json(members))
+                }
+                Some(more) => {
+                    let (first, others) = V::split_entries(entries, root.len());
+                    let Some(object) = with_members::<V>(alloc, root, first, Map::new(alloc))?
+                    else {
+                        return Ok(None);
+                    };
+                    let members = with_members::<V>(alloc, more, others, object)?;
+                    Ok(object_json(members))
+                }
             }
         }
-        (AsnType::SeqOf(element, _), Value::List(values)) => {
-            Ok(Json::from(elements_json(alloc, element, values)?))
+        AsnType::SeqOf(element, size) => {
+            let Some(elements) = value.elements() else {
+                return Ok(None);
+            };
+            let count = V::count_elements(elements);
+            if !length_fits(size, count) {
+                return Ok(None);
+            }
+            let Some(all) = elements_json::<V>(alloc, element, elements, count)? else {
+                return Ok(None);
+            };
+            Ok(Some(Json::from(all)))
         }
-        (AsnType::Choice { root, ext }, Value::Choice(tag, chosen)) => {
-            let index = *tag as usize;
+        AsnType::Choice { root, ext } => {
+            let Some(choice) = value.chosen() else {
+                return match value.leaf() {
+                    Some(leaf) if ext.is_some() => unknown_alternative_json(alloc, leaf),
+                    _ => Ok(None),
+                };
+            };
+            let index = choice.0 as usize;
             if index < root.len() {
-                return alternative_json(alloc, root, index, chosen);
+                return alternative_json::<V>(alloc, root, index, choice.1);
             }
             match ext {
-                None => Ok(Json::Null),
-                Some(more) => alternative_json(alloc, more, index - root.len(), chosen),
+                None => Ok(None),
+                Some(more) => alternative_json::<V>(alloc, more, index - root.len(), choice.1),
             }
         }
-        (AsnType::Choice { .. }, Value::UnknownAlternative(tag)) => {
-            let name = format!(in alloc; "?{tag}")?;
-            Ok(Json::from(put_member(Map::new(alloc), name, Json::Null)?))
-        }
-        _ => Ok(Json::Null),
+        AsnType::Bool
+        | AsnType::Null
+        | AsnType::Int(_)
+        | AsnType::Enum { .. }
+        | AsnType::Bits(_)
+        | AsnType::Octets(_)
+        | AsnType::Text(..)
+        | AsnType::Utf8 => match value.leaf() {
+            Some(leaf) => leaf_json(alloc, ty, leaf),
+            None => Ok(None),
+        },
     }
 }
 
-/// The object with a member for each entry that is there.
+/// The object of these members, if there are any to be had.
+#[inline(always)]
+fn object_json(members: Option<Map<String, Json>>) -> Option<Json>
+    ensures { option_map view result ≡ option_map (λ ms. object ms) (option_map (λ m. members_view m.entries) members) }
+{
+    match members {
+        Some(members) => Some(Json::from(members)),
+        None => None,
+    }
+}
+
+/// The object with a member for each entry that is there; nothing where the entries are not one for each component,
+/// each right for its own.
 #[cycle(json)]
-fn with_members(
+fn with_members<V: Source>(
     alloc: Global,
     fields: &[Field],
-    entries: &[Option<Value>],
+    entries: V::Entries,
     object: Map<String, Json>,
-) -> Result<Map<String, Json>, AllocError>
-    ensures { IfOk result (λ m. members_view m.entries ≡ with_entries fields.now entries.now object.entries) }
+) -> Result<Option<Map<String, Json>>, AllocError>
+    ensures { IfOk result (λ o. Told (FitsEachBy true (fields_seen fields.now) (V.entries_left entries))
+        (members (fields_seen fields.now) (V.entries_left entries) (members_view object.entries))
+        (option_map (λ m. members_view m.entries) o)) }
 {
-    let mut all = object;
-    for (index, field) in fields.iter().enumerate() {
-        if index >= entries.len() {
-            return Ok(all);
-        }
-        all = with_member(alloc, field, &entries[index], all)?;
+    if fields.len() != V::count_entries(entries) {
+        return Ok(None);
     }
-    Ok(all)
+    let mut all = object;
+    let mut left = entries;
+    for field in fields {
+        let entry = V::next_entry(&mut left);
+        let Some(more) = with_member::<V>(alloc, field, entry, all)? else {
+            return Ok(None);
+        };
+        all = more;
+    }
+    Ok(Some(all))
 }
 
-/// The object with a member for the entry, where it is there.
+/// The object with a member for the entry, where it is there; nothing where the entry is not right for the component.
+#[inline(always)]
 #[cycle(json)]
-fn with_member(
+fn with_member<V: Source>(
     alloc: Global,
     field: &Field,
-    entry: &Option<Value>,
+    entry: Option<V>,
     object: Map<String, Json>,
-) -> Result<Map<String, Json>, AllocError>
-    ensures { IfOk result (λ m.
-        members_view m.entries ≡ with_entry (part_of_field field.now) entry.now object.entries) }
+) -> Result<Option<Map<String, Json>>, AllocError>
+    ensures { IfOk result (λ o. Told (FitsComponent true (part_of_field field.now) (option_map V.datum entry))
+        (with_entry (part_of_field field.now) (option_map V.datum entry) object.entries)
+        (option_map (λ m. members_view m.entries) o)) }
 {
     match entry {
-        None => Ok(object),
+        None => {
+            if matches!(field.need, Need::Optional) {
+                Ok(Some(object))
+            } else {
+                Ok(None)
+            }
+        }
         Some(value) => {
-            let json = json_of(alloc, &field.ty, value)?;
-            put_member(object, field.name.clone()?, json)
+            let Some(json) = json_of::<V>(alloc, &field.ty, value)? else {
+                return Ok(None);
+            };
+            Ok(Some(put_member(object, field.name.clone()?, json)?))
         }
     }
 }
 
-/// The object with this member.
-fn put_member(
-    object: Map<String, Json>,
-    key: String,
-    json: Json,
-) -> Result<Map<String, Json>, AllocError>
-    ensures { IfOk result (λ m.
-        members_view m.entries ≡ put (string_bytes key) (view json) (members_view object.entries)) }
-{
-    let mut all = object;
-    all.insert(key, json)?;
-    Ok(all)
-}
-
-/// The JSON of each element.
+/// The JSON of each element, in a vector with room for `count`; nothing where one is none of the type.
 #[cycle(json)]
-fn elements_json(
+fn elements_json<V: Source>(
     alloc: Global,
     element: &AsnType,
-    values: &[Value],
-) -> Result<Vec<Json>, AllocError>
-    ensures { IfOk result (λ v.
-        map view v.items ≡ map (λ d. json_of (shape_of element.now) d) (map datum_of values.now)) }
+    elements: V::Elements,
+    count: usize,
+) -> Result<Option<Vec<Json>>, AllocError>
+    ensures { IfOk result (λ o.
+        Told (AllByRecursion (λ d. FitsReceived (shape_of element.now) d) (V.elements_left elements))
+        (map (λ d. json_of (shape_of element.now) d) (V.elements_left elements))
+        (option_map (λ v. map view v.items) o)) }
 {
-    let mut all = Vec::with_capacity(alloc, values.len())?;
-    for value in values {
-        all.push(json_of(alloc, element, value)?)?;
+    let mut all = Vec::with_capacity(alloc, count)?;
+    let mut left = elements;
+    while let Some(value) = V::next_element(&mut left) {
+        let Some(json) = json_of::<V>(alloc, element, value)? else {
+            return Ok(None);
+        };
+        all.push(json)?;
     }
-    Ok(all)
+    Ok(Some(all))
 }
 
-/// The object with one member, for the alternative at an index, or null where there is none.
+/// The object with one member, for the alternative at an index; nothing where there is none, or the value is none of
+/// its type.
 #[cycle(json)]
-fn alternative_json(
+fn alternative_json<V: Source>(
     alloc: Global,
     alternatives: &[Alt],
     index: usize,
-    value: &Value,
-) -> Result<Json, AllocError>
-    ensures { IfOk result (λ j.
-        view j ≡ json_alternative (alternatives_seen alternatives.now) index (datum_of value.now)) }
+    value: V,
+) -> Result<Option<Json>, AllocError>
+    ensures { IfOk result (λ o.
+        Told (FitsAlternativeBy true (alternatives_seen alternatives.now) index (V.datum value))
+        (json_alternative (alternatives_seen alternatives.now) index (V.datum value)) (option_map view o)) }
 {
     if index >= alternatives.len() {
-        return Ok(Json::Null);
+        return Ok(None);
     }
     let alternative = &alternatives[index];
-    let json = json_of(alloc, &alternative.ty, value)?;
+    let Some(json) = json_of::<V>(alloc, &alternative.ty, value)? else {
+        return Ok(None);
+    };
     let object = put_member(Map::new(alloc), alternative.name.clone()?, json)?;
-    Ok(Json::from(object))
+    Ok(Some(Json::from(object)))
 }

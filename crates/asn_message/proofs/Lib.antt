@@ -3,3 +3,4 @@ pub mod Restored
 pub mod Passing
 pub mod ViewParts
 pub mod RowSteps
+mod Sourced

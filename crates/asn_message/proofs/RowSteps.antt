@@ -15,7 +15,7 @@ pub inside_nested : (os : List ℕ) (ss : List Slot) (x : Slot) (xs : List Slot)
 inside_nested os ss x xs e h = (subst (λ (l : List Slot). AreNested os [] l) e h).1.1.1
 
 -- and of those after the first value
-rest_of : (n : ℕ) (xs : List Slot) → take (length xs - n) (drop n xs) ≡ drop n xs
+pub rest_of : {A : Type 0} (n : ℕ) (xs : List A) → take (length xs - n) (drop n xs) ≡ drop n xs
 rest_of n xs = take_all (length xs - n) (drop n xs) (omega (arith, length-drop n xs))
 
 pub after_nested : (os : List ℕ) (ss : List Slot) (x : Slot) (xs : List Slot) → ss ≡ x ∷ xs → AreNested os [] ss

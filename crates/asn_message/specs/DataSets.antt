@@ -10,9 +10,11 @@ use mathlib.Core.Path.{sym, ap, ap₂, ◌∙◌}
 use mathlib.Core.Sum.{⊎_set}
 use native.Mathlib.Nat.{ℕ_set}
 use Rattle.asn_values.specs.Datum.{Datum, Components, Elements, truth, nothing, number, item, bit_list, octet_list, characters, unicode, components, elements, alternative, unknown_item, unknown_alternative, no_components, absent, present, no_elements, element}
+use Rattle.asn_values.specs.declared.value.Value.{Value}
 use Rattle.asn_message.specs.declared.slots.Content.{Content}
 use Rattle.asn_message.specs.declared.slots.Content.TheVariants as content
 use Rattle.asn_message.specs.declared.slots.Slot.{Slot}
+use Rattle.asn_message.specs.Leaves.{AreLeaves}
 use Rattle.asn_message.specs.Slots.{entries_in, IsCounted, AreNested}
 
 -- one type for a value, the entries of a SEQUENCE and the elements of a SEQUENCE OF
@@ -130,3 +132,6 @@ nested_prop os es (s ∷ ss) =
     ×_prop le_prop
     (×_prop (λ p q. List-set (Option-set Datum-set) _ _ p q)
     (×_prop (counted_prop s.content (entries_in os ss es)) (nested_prop os es ss)))
+
+pub leaves_prop : (os : List ℕ) (ss : List Slot) (vs : List Value) → IsProp (AreLeaves os ss vs)
+leaves_prop os ss vs = λ p q. List-set Datum-set _ _ p q

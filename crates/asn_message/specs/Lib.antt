@@ -1,8 +1,10 @@
 pub mod Building
 pub mod DataSets
 pub mod Decoding
+pub mod Leaves
 pub mod Places
 pub mod Rows
 pub mod Seen
 pub mod Slots
+pub mod Sources
 pub mod Views

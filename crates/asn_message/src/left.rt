@@ -1,5 +1,5 @@
 //! The entries that are left of a SEQUENCE, and the elements that are left of a SEQUENCE OF.
-ghost use Rattle.std.specs.Prelude.{◌≡◌, [], drop, option_map, take};
+ghost use Rattle.std.specs.Prelude.{◌≡◌, ℕ, [], IfSome, drop, option_map, take};
 ghost use Rattle.asn_view.specs.Typed.{first_entry};
 ghost use Rattle.asn_message.specs.Slots.{entries_in, values_of};
 ghost use Rattle.asn_message.specs.Rows.{row_value, left_entries, first_of_values};
@@ -17,7 +17,8 @@ pub(crate) struct Left<'a> {
 /// The first of the entries in the row, this many.
 #[inline(always)]
 pub(crate) fn first_entries<'a>(row: Row<'a>, count: u32) -> Left<'a>
-    ensures { left_entries result ≡ take count (entries_in row.entry.octets.now row.entry.slots.now []) }
+    ensures entries { left_entries result ≡ take count (entries_in row.entry.octets.now row.entry.slots.now []) }
+    ensures row { result.row ≡ row.entry }
 {
     let absent = row.absent_before();
     Left { row, count, absent }
@@ -27,6 +28,9 @@ pub(crate) fn first_entries<'a>(row: Row<'a>, count: u32) -> Left<'a>
 #[inline(always)]
 pub(crate) fn next_entry<'a>(left: Left<'a>) -> (Option<Row<'a>>, Left<'a>)
     ensures first { option_map row_value result.0 ≡ first_entry (left_entries left.entry) }
+    ensures here { IfSome result.0 (λ row. row ≡ left.entry.row) }
+    ensures last { (n : ℕ) × (result.1.row.slots.now ≡ drop n left.entry.row.slots.now) }
+    ensures octets { result.1.row.octets.now ≡ left.entry.row.octets.now }
     ensures others { left_entries result.1 ≡ drop 1 (left_entries left.entry) }
 {
     let Left { row, count, absent } = left;
@@ -49,6 +53,9 @@ pub(crate) fn next_entry<'a>(left: Left<'a>) -> (Option<Row<'a>>, Left<'a>)
 #[inline(always)]
 pub(crate) fn next_value<'a>(left: Left<'a>) -> (Option<Row<'a>>, Left<'a>)
     ensures first { option_map row_value result.0 ≡ first_of_values (values_of (left_entries left.entry)) }
+    ensures here { IfSome result.0 (λ row. row ≡ left.entry.row) }
+    ensures last { (n : ℕ) × (result.1.row.slots.now ≡ drop n left.entry.row.slots.now) }
+    ensures octets { result.1.row.octets.now ≡ left.entry.row.octets.now }
     ensures others { values_of (left_entries result.1) ≡ drop 1 (values_of (left_entries left.entry)) }
 {
     let Left { row, count, absent } = left;

@@ -1,7 +1,9 @@
 //! Values in one vector of slots, which is used again for the next message.
 #![tactic(auto)]
 
+mod beside;
 mod flat;
+mod leafed;
 mod leaves;
 mod left;
 mod message;
@@ -11,6 +13,7 @@ mod place;
 mod restoring;
 mod row;
 mod slots;
+mod source;
 mod values;
 mod view;
 

@@ -68,7 +68,7 @@ fn restore(
 }
 
 /// The value of a slot, of whose entries those inside it are taken.
-fn restored(
+pub(crate) fn restored(
     alloc: Global,
     content: Content,
     octets: &[u8],

@@ -14,7 +14,7 @@ pub(crate) struct Row<'a> {
 }
 
 impl<'a> Row<'a> {
-    ghost use Rattle.std.specs.Prelude.{◌≡◌, ◌++◌, IfSome, IfNone, drop};
+    ghost use Rattle.std.specs.Prelude.{◌≡◌, ◌++◌, ℕ, IfSome, IfNone, drop};
     ghost use Rattle.asn_values.specs.Datum.{nothing};
     ghost use Rattle.asn_plan.specs.Plans.{absents};
     ghost use Rattle.asn_message.specs.Slots.{entries_after, entries_from, entries_in, first_of, value_at, value_in, IsCounted};
@@ -50,8 +50,10 @@ impl<'a> Row<'a> {
     /// The slots after those of the first value.
     #[inline(always)]
     pub(crate) fn after(&self) -> Row<'a>
-        ensures { entries_in result.octets.now result.slots.now []
+        ensures entries { entries_in result.octets.now result.slots.now []
             ≡ entries_after self.now.octets.now self.now.slots.now }
+        ensures last { (n : ℕ) × (result.slots.now ≡ drop n self.now.slots.now) }
+        ensures octets { result.octets.now ≡ self.now.octets.now }
     {
         let Some((slot, others)) = self.slots.split_first() else {
             return *self;
@@ -77,8 +79,10 @@ impl<'a> Row<'a> {
     /// The value inside a CHOICE, of which the first slot is.
     #[inline(always)]
     pub(crate) fn chosen(&self) -> Row<'a>
-        ensures { value_in result.octets.now result.slots.now
+        ensures value { value_in result.octets.now result.slots.now
             ≡ first_of (entries_in self.now.octets.now (drop 1 self.now.slots.now) []) }
+        ensures last { (n : ℕ) × (result.slots.now ≡ drop n self.now.slots.now) }
+        ensures octets { result.octets.now ≡ self.now.octets.now }
     {
         let inside = self.inside();
         if inside.absent_before() == 0 {

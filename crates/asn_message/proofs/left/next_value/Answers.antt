@@ -36,5 +36,5 @@ returns-clause-others c =
     let ss = c.args.left.row.slots.now in
     let n = c.args.left.count - c.args.left.absent - 1 in
     let some : 0 < length ss = first_of (search rules, grind arith) in
-    ap values_of (c.first_entries-next.ensures ∙ ap (λ es. take n es) c.after.ensures)
+    ap values_of (c.first_entries-next.ensures.entries ∙ ap (λ es. take n es) c.after.ensures.entries)
     ∙ (next_value_passed n (value_in os ss) (entries_after os ss) (entries_from os ss) c.args.left.count c.args.left.absent (omega (arith, c.if-count-absent.false)) (first_entry_from os ss some)).1

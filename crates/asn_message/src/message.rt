@@ -14,8 +14,10 @@ use crate::values::put;
 use crate::view::MessageView;
 use asn_json::{JsonFault, to_json_from};
 use asn_plan::{PlanRules, Planned};
-use asn_rules::DecodeFault;
+use asn_rules::{DecodeFault, EncodeFault};
 use asn_values::{Checked, Value};
+use asn_walk::WriteLeaves;
+use asn_walk_write::encode_from;
 use serde_json::Value as Json;
 use std::alloc::{AllocError, Global};
 use std::mem;
@@ -29,14 +31,14 @@ pub struct Message {
 }
 
 impl Message {
-    ghost use Rattle.std.specs.Prelude.{◌≡◌, ◌≤◌, length, true, false, IfErr, IfOk, IsNone, IsSome, OnErr};
+    ghost use Rattle.std.specs.Prelude.{◌≡◌, ◌≤◌, length, true, false, vec_len, IfErr, IfOk, IsNone, IsSome, OnErr};
     ghost use Rattle.serde_json.specs.View.{view};
     ghost use Rattle.asn_values.specs.Datum.{nothing};
     ghost use Rattle.asn_values.specs.View.{datum_of, shape_of};
     ghost use Rattle.asn_view.specs.Typed.{typed};
     ghost use Rattle.asn_json.specs.Written.{Written, NoJson};
     ghost use Rattle.asn_rules.specs.Answer.{IsEncoding, max_octets};
-    ghost use Rattle.asn_message.specs.Decoding.{DecodedAs};
+    ghost use Rattle.asn_message.specs.Decoding.{DecodedAs, NotWritten};
     ghost use Rattle.asn_message.specs.Seen.{value_seen};
     ghost use Rattle.asn_message.specs.Views.{seen};
 
@@ -152,6 +154,31 @@ impl Message {
         let octets = self.room.octets.as_slice();
         let leaves = leaves_of(alloc, slots, octets)?;
         to_json_from::<Leafed<'_>>(alloc, ty, Leafed::new(slots, octets, leaves.as_slice()))
+    }
+
+    /// The complete encoding of its value by the rules R, which is what `encode` gives of `to_value`. No tree is built:
+    /// beside the slots stand the values without parts, once more.
+    ///
+    /// # Errors
+    /// `NotOfType` if the value does not fit the type, `TooLong` if it fits and its encoding has more than 268,435,455
+    /// octets; `Memory` where an allocation failed, which may come before either is seen.
+    pub fn encode<R: WriteLeaves>(
+        &self,
+        alloc: Global,
+        ty: &Checked,
+    ) -> Result<Vec<u8>, EncodeFault>
+        ensures encoding { IfOk result (λ o. IsEncoding R.rules.ruling (shape_of ty.now) (value_seen self.now) o.items) }
+        ensures within { IfOk result (λ o. vec_len o ≤ max_octets) }
+        ensures fault { IfErr result (λ why. NotWritten R.rules.ruling why (shape_of ty.now) (value_seen self.now)) }
+    {
+        let slots = self.room.slots.as_slice();
+        let octets = self.room.octets.as_slice();
+        let leaves = leaves_of(alloc, slots, octets)?;
+        let value = Leafed {
+            row: Row { slots, octets },
+            leaves: leaves.as_slice(),
+        };
+        encode_from::<R, Leafed<'_>>(alloc, ty, value)
     }
 
     /// The value beside this type. Whether it is one of the type does not matter: a part that the type has not is not

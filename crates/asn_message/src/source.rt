@@ -1,7 +1,8 @@
 //! Values in slots as a source: their parts, one after the other.
-ghost use Rattle.std.specs.Prelude.{◌≡◌, ◌↔◌, [], ℕ, List, Option, IsTrue, true, false};
+ghost use Rattle.std.specs.Prelude.{◌≡◌, ◌↔◌, [], ℕ, List, Option, IsTrue, true, false, drop, option_map};
+ghost use Rattle.std.specs.Iterator.{YieldsFirstBy};
 ghost use Rattle.asn_values.specs.Datum.{Datum};
-ghost use Rattle.asn_source.specs.Parts.{HasParts};
+ghost use Rattle.asn_source.specs.Parts.{HasParts, first_entry};
 ghost use Rattle.asn_message.specs.Leaves.{leaf_at};
 ghost use Rattle.asn_message.specs.Rows.{row_value, left_entries};
 ghost use Rattle.asn_message.specs.Slots.{value_at};
@@ -55,14 +56,70 @@ fn left_of<'a>(entries: SlotEntries<'a>) -> Left<'a>
     }
 }
 
+/// Takes the first entry, and gives its value if it is present.
+fn take_entry<'a>(entries: &mut SlotEntries<'a>) -> Option<Leafed<'a>>
+    ensures first { option_map (λ p. row_value p.row) result ≡ first_entry (slot_entries entries.old) }
+    ensures others { slot_entries entries.new ≡ drop 1 (slot_entries entries.old) }
+{
+    let before = *entries;
+    if before.most == 0 {
+        return None;
+    }
+    let left = left_of(before);
+    if is_done(left) {
+        *entries = SlotEntries {
+            first: before.first,
+            count: before.count,
+            before: before.before,
+            after: before.after.saturating_sub(1),
+            most: before.most - 1,
+        };
+        return None;
+    }
+    let (row, others) = next_entry(left);
+    *entries = SlotEntries {
+        first: before.first.at(others.row),
+        count: others.count,
+        before: others.absent,
+        after: before.after,
+        most: before.most - 1,
+    };
+    match row {
+        Some(_) => Some(before.first),
+        None => None,
+    }
+}
+
+/// The entries one after the other.
+#[derive(Drop)]
+pub(crate) struct SlotEach<'a>(SlotEntries<'a>);
+
+impl<'a> Iterator for SlotEach<'a> {
+    type Item = Option<Leafed<'a>>;
+
+    ghost next_gives = { YieldsFirstBy (option_map (λ p. row_value p.row)) (λ it. slot_entries it.0) };
+
+    fn next(&mut self) -> Option<Option<Leafed<'a>>> {
+        if is_empty(self.0) {
+            return None;
+        }
+        let entry = take_entry(&mut self.0);
+        Some(entry)
+    }
+}
+
 impl<'a> Source for Leafed<'a> {
     type Entries = SlotEntries<'a>;
 
     type Elements = SlotElements<'a>;
 
+    type Each = SlotEach<'a>;
+
     ghost datum = { λ p. row_value p.row };
 
     ghost entries_left = { slot_entries };
+
+    ghost each_left = { λ it. slot_entries it.0 };
 
     ghost elements_left = { slot_elements };
 
@@ -125,34 +182,12 @@ impl<'a> Source for Leafed<'a> {
         false
     }
 
+    fn each(entries: SlotEntries<'a>) -> SlotEach<'a> {
+        SlotEach(entries)
+    }
+
     fn next_entry(entries: &mut SlotEntries<'a>) -> Option<Leafed<'a>> {
-        let before = *entries;
-        if before.most == 0 {
-            return None;
-        }
-        let left = left_of(before);
-        if is_done(left) {
-            *entries = SlotEntries {
-                first: before.first,
-                count: before.count,
-                before: before.before,
-                after: before.after.saturating_sub(1),
-                most: before.most - 1,
-            };
-            return None;
-        }
-        let (row, others) = next_entry(left);
-        *entries = SlotEntries {
-            first: before.first.at(others.row),
-            count: others.count,
-            before: others.absent,
-            after: before.after,
-            most: before.most - 1,
-        };
-        match row {
-            Some(_) => Some(before.first),
-            None => None,
-        }
+        take_entry(entries)
     }
 
     fn elements(self) -> Option<SlotElements<'a>> {
@@ -218,4 +253,6 @@ impl<'a> Source for Leafed<'a> {
             _ => None,
         }
     }
+
+    ghost each_gives = { λ s r t gave. gave };
 }

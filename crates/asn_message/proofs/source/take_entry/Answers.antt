@@ -4,7 +4,7 @@ use Rattle.asn_values.proofs.Alternatives.{no_truth}
 use Rattle.asn_message.specs.Rows.{left_entries}
 use Rattle.asn_message.specs.Sources.{entries_at}
 use Rattle.asn_message.proofs.Sourced.{absent_after, left_same, others_there}
-use Rattle.asn_message.proofs.source.LeafedSource.next_entry.Goals as goal
+use Rattle.asn_message.proofs.source.take_entry.Goals as goal
 
 pub returns-then-is_done-clause-others : goal.returns-then-is_done-clause-others
 returns-then-is_done-clause-others c =

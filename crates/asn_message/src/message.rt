@@ -174,11 +174,7 @@ impl Message {
         let slots = self.room.slots.as_slice();
         let octets = self.room.octets.as_slice();
         let leaves = leaves_of(alloc, slots, octets)?;
-        let value = Leafed {
-            row: Row { slots, octets },
-            leaves: leaves.as_slice(),
-        };
-        encode_from::<R, Leafed<'_>>(alloc, ty, value)
+        encode_from::<R, Leafed<'_>>(alloc, ty, Leafed::new(slots, octets, leaves.as_slice()))
     }
 
     /// The value beside this type. Whether it is one of the type does not matter: a part that the type has not is not

@@ -45,7 +45,7 @@ json_of-returns-in_default-2 g t c =
     (c.split_entries-first.ensures.first ∙ ap (λ (n : ℕ). take n es) many) (rw c.in_default-2.is at c.in_ok-object-in-Some-ext.ensures)
 
 pub json_of-with_members-requires-in-Some-ext-2 : goal.json_of-with_members-requires-in-Some-ext-2
-json_of-with_members-requires-in-Some-ext-2 g t c κs within = (search (rules, the_lemmas), (within.0, (within.1.0, (within.1.1.0, within.1.1.1))))
+json_of-with_members-requires-in-Some-ext-2 g t c κs within = (search (rules, the_lemmas), (within.0, (within.1.0, within.1.1)))
 
 pub json_of-returns-in_ok-members-in-Some-ext : goal.json_of-returns-in_ok-members-in-Some-ext
 json_of-returns-in_ok-members-in-Some-ext g t c =

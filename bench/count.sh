@@ -31,7 +31,7 @@ case $what in
 len* | to* | slice* | check* | count-plan | decode-plan | decode-within | decode-flat* | convert) forms=(rattle) ;;
 *-oer) forms=(rattle same) ;;
 decode-turns) forms=(rattle same hand) ;;
-clone | into | into-turns) forms=(rattle) ;;
+clone | into* ) forms=(rattle) ;;
 build) forms=(same hand tree) ;;
 esac
 for form in "${forms[@]}"; do

@@ -8,7 +8,7 @@ use Rattle.asn_values.specs.declared.value.Value.{Value}
 use Rattle.asn_values.specs.View.{datum_of, entries_seen}
 use Rattle.std.specs.Vec.{with_item}
 use Rattle.asn_plan.specs.declared.place.Place.{Place}
-use Rattle.asn_plan.specs.Placed.{IsPut, taken}
+use Rattle.asn_plan.specs.Placed.{IsAbsent, IsPut, taken}
 
 -- what stands at an index where it was written
 pub written_there : (es : List (Option Value)) (i : ℕ) (e : Option Value) → i < length es
@@ -77,13 +77,22 @@ pub element_added : (es rs : List Value) (n k : ℕ) (v : Value) → length es �
 element_added es rs n k v h e l =
     ap (map datum_of) (take_all k rs (omega (arith, l)) ∙ e ∙ ap (λ xs. xs ++ v ∷ []) (sym (take_all n es h))) ∙ map_push datum_of (take n es) v
 
--- and the next index, as the program counts, is the one behind it
-pub passed_on : (s p : Place) (d : Datum) → IsPut s p d
-    → entries_seen (take ((p.at + 1) % 18446744073709551616) p.items.items) ≡ taken s ++ Some d ∷ []
-passed_on s p d q =
-    let inside : p.at < length (entries_seen p.items.items) = slice_get_within (entries_seen p.items.items) p.at (Some d) q.there in
+-- the next index, as the program counts, is the one behind it
+pub counted_on : (p : Place) (e : Option Datum) → slice_get (entries_seen p.items.items) p.at ≡ Some e
+    → (p.at + 1) % 18446744073709551616 ≡ p.at + 1
+counted_on p e q =
+    let inside : p.at < length (entries_seen p.items.items) = slice_get_within (entries_seen p.items.items) p.at e q in
     let within : p.at < length p.items.items = subst (λ n. p.at < n) (length-map p.items.items (option_map datum_of)) inside in
     let most : length p.items.items ≤ p.items.cap = subst (λ n. n ≤ p.items.cap) p.items.ok.0 p.items.ok.1 in
     let small : p.items.cap < 9223372036854775808 = p.items.small in
-    let next : (p.at + 1) % 18446744073709551616 ≡ p.at + 1 = search (rules, arith) in
-    ap (λ n. entries_seen (take n p.items.items)) next ∙ passed s p d q
+    search (rules, arith)
+
+-- so behind an entry that was put it is one more
+pub passed_on : (s p : Place) (d : Datum) → IsPut s p d
+    → entries_seen (take ((p.at + 1) % 18446744073709551616) p.items.items) ≡ taken s ++ Some d ∷ []
+passed_on s p d q = ap (λ n. entries_seen (take n p.items.items)) (counted_on p (Some d) q.there) ∙ passed s p d q
+
+-- and so behind one without a value
+pub absent_on : (p : Place) → IsAbsent p
+    → entries_seen (take ((p.at + 1) % 18446744073709551616) p.items.items) ≡ taken p ++ None ∷ []
+absent_on p q = ap (λ n. entries_seen (take n p.items.items)) (counted_on p None q) ∙ next_there p.items.items p.at None q

@@ -39,7 +39,7 @@ pub use plan::{
 pub use planned::Planned;
 pub use ranged::Ranged;
 pub use place::Place;
-pub use reused::{ChoiceOver, ElementsOver, Places, Reused};
+pub use reused::{ChoiceOver, ElementsOver, Reused, Spare};
 pub use rules::{PlanLeaves, PlanRules};
 pub use walk::build_at;
 pub use word::Word;

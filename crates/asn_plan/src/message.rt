@@ -12,9 +12,8 @@ use crate::budget::{Budget, Taken, WithinFault};
 use crate::build::{Build, Nothing, Values};
 use crate::counting::Counting;
 use crate::open::build_complete;
-use crate::place::Place;
 use crate::plan::Plan;
-use crate::reused::{Places, Reused};
+use crate::reused::{Reused, Spare};
 use crate::rules::{PlanLeaves, PlanRules};
 use asn_rules::{DecodeFault, MAX_OCTETS, Rules};
 use asn_values::{Checked, Value};
@@ -86,30 +85,25 @@ pub(crate) fn decode_by<R: PlanRules>(
     R::decode(alloc, ty, octets)
 }
 
-/// The value becomes the one whose encoding the octets are, in its memory; otherwise some value is left.
+/// The value becomes the one whose encoding the octets are, in its memory and the spare one; otherwise some value is
+/// left.
 #[inline(always)]
 fn overwrite<R: PlanLeaves>(
     alloc: Global,
     plan: &Plan,
     octets: &[u8],
     value: &mut Value,
+    spare: &mut Spare,
 ) -> bool
     ensures within { result ≡ true → length octets.now ≤ max_octets }
     ensures some { result ≡ true → (t : Shape) → InProfile t → IsPlanOf plan.now t
         → IsEncoding R.rules.ruling t (datum_of value.new) octets.now }
 {
-    let Ok(items) = Vec::with_capacity(alloc, 1) else {
-        return false;
-    };
-    let mut places = Places {
-        here: Place { items, at: 0 },
-        around: Vec::new(alloc),
-    };
-    if places.here.put(mem::replace(value, Value::Null)).is_none() {
+    if spare.begin(mem::replace(value, Value::Null)).is_none() {
         return false;
     }
-    if let Some(()) = build_octets::<R, Reused>(alloc, plan, octets, &mut places) {
-        *value = places.here.take();
+    if let Some(()) = build_octets::<R, Reused>(alloc, plan, octets, spare) {
+        *value = spare.here.take();
         return true;
     }
     false
@@ -127,13 +121,14 @@ pub(crate) fn decode_into_by<R: PlanRules>(
     plan: &Plan,
     octets: &[u8],
     value: &mut Value,
+    spare: &mut Spare,
 ) -> Result<(), DecodeFault>
     requires { IsPlanOf plan.now (shape_of ty.now) }
     ensures done { OnOk result (Decoded R.ruling (Ok value.new) (shape_of ty.now) octets.now) }
     ensures fault { IfErr result (λ why. Decoded R.ruling (Err why) (shape_of ty.now) octets.now) }
 {
     ty.get();
-    if overwrite::<R>(alloc, plan, octets, value) {
+    if overwrite::<R>(alloc, plan, octets, value, spare) {
         return Ok(());
     }
     R::decode_into(alloc, ty, octets, value)

@@ -1,8 +1,8 @@
 //! Where values are put over those of a value before.
-ghost use Rattle.std.specs.Prelude.{◌≡◌, ◌++◌, ◌∷◌, [], Some, None, IsSome};
+ghost use Rattle.std.specs.Prelude.{◌≡◌, ◌++◌, ◌∷◌, [], Some, None, IsSome, true};
 ghost use Rattle.asn_values.specs.Datum.{Datum, truth, number, item, components, components_of};
 ghost use Rattle.asn_values.specs.View.{datum_of, entries_seen};
-ghost use Rattle.asn_plan.specs.Placed.{IsPut, IsThere, taken};
+ghost use Rattle.asn_plan.specs.Placed.{IsAbsent, IsPut, IsThere, taken};
 
 use asn_values::Value;
 use std::alloc::Global;
@@ -156,8 +156,19 @@ impl Place {
         }
     }
 
-    /// Takes the entries out of the SEQUENCE that is here, for their memory, where it has this many; otherwise new ones,
-    /// of which there are none yet.
+    /// Lays a value here for its memory, if a value is here.
+    #[inline(always)]
+    pub(crate) fn lay(&mut self, value: Value)
+        ensures { taken self.new ≡ taken self.old }
+    {
+        if self.at < self.items.len() {
+            if let Some(place) = &mut self.items[self.at] {
+                put_over(value, place);
+            }
+        }
+    }
+
+    /// Takes the entries out of the SEQUENCE that is here, for their memory, where it has this many.
     #[inline(always)]
     pub(crate) fn take_entries(&mut self, alloc: Global, count: usize) -> Option<Vec<Option<Value>>>
         ensures { taken self.new ≡ taken self.old }
@@ -169,7 +180,7 @@ impl Place {
                 }
             }
         }
-        Vec::with_capacity(alloc, count).ok()
+        None
     }
 
     /// Puts a SEQUENCE of these entries here.
@@ -202,23 +213,25 @@ impl Place {
         self.at = self.at.wrapping_add(1);
     }
 
-    /// Leaves an entry without a value here, and goes on behind it.
+    /// Whether an entry without a value is here.
     #[inline(always)]
-    pub(crate) fn pass_absent(&mut self) -> Option<()>
-        ensures { IsSome result → taken self.new ≡ taken self.old ++ None ∷ [] }
+    pub(crate) fn is_absent(&self) -> bool
+        ensures { result ≡ true → IsAbsent self.now }
     {
-        if self.at < self.items.len() {
-            if self.items[self.at].is_none() {
-                self.at += 1;
-                return Some(());
-            }
-        }
-        self.put_absent()
+        self.at < self.items.len() && self.items[self.at].is_none()
+    }
+
+    /// Goes on behind an entry without a value that is here.
+    #[inline(always)]
+    pub(crate) fn pass_absent(&mut self)
+        ensures { IsAbsent self.old → taken self.new ≡ taken self.old ++ None ∷ [] }
+    {
+        self.at = self.at.wrapping_add(1);
     }
 
     /// Puts an entry without a value here, and goes on behind it.
     #[inline(never)]
-    fn put_absent(&mut self) -> Option<()>
+    pub(crate) fn put_absent(&mut self) -> Option<()>
         ensures { IsSome result → taken self.new ≡ taken self.old ++ None ∷ [] }
     {
         let at = self.at;

@@ -6,6 +6,7 @@ use crate::build::Build;
 use crate::message::{build_octets, check_by, decode_by, decode_into_by, decode_within_by, taken_by};
 use crate::of::plan_of;
 use crate::plan::Plan;
+use crate::reused::Spare;
 use crate::rules::PlanRules;
 use asn_rules::DecodeFault;
 use asn_values::{Checked, Value};
@@ -88,7 +89,8 @@ impl Planned {
 
     /// Decodes the value of the type whose complete encoding by the rules R the octets are into the one that is there,
     /// whose memory is used again as far as it serves: entries, elements, boxes and strings. Any value may be given, at
-    /// first `Value::Null`: what `asn_rules::decode_into` does.
+    /// first `Value::Null`, and any spare memory, at first none: what `asn_rules::decode_into` does, but that SEQUENCEs
+    /// of a message which have no place in a later one are kept in the spare memory.
     ///
     /// # Errors
     /// As `asn_rules::decode`. What is left of the value then is some value.
@@ -97,11 +99,12 @@ impl Planned {
         alloc: Global,
         octets: &[u8],
         value: &mut Value,
+        spare: &mut Spare,
     ) -> Result<(), DecodeFault>
         ensures done { OnOk result (Decoded R.ruling (Ok value.new) (shape_of self.now) octets.now) }
         ensures fault { IfErr result (λ why. Decoded R.ruling (Err why) (shape_of self.now) octets.now) }
     {
-        decode_into_by::<R>(alloc, &self.ty, &self.plan, octets, value)
+        decode_into_by::<R>(alloc, &self.ty, &self.plan, octets, value, spare)
     }
 
     /// What is built, in this room, of the value of the type whose complete encoding by the rules R the octets are.

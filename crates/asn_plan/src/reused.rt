@@ -1,5 +1,5 @@
 //! A builder that puts values into the memory of one that is there.
-ghost use Rattle.std.specs.Prelude.{◌≡◌, ◌≤◌, ◌<◌, ◌++◌, ◌∷◌, [], List, Option, IsSome, vec_len, vec_capacity};
+ghost use Rattle.std.specs.Prelude.{◌≡◌, ◌≤◌, ◌<◌, ◌++◌, ◌∷◌, [], List, Option, Some, None, IsSome, take, vec_len, vec_capacity};
 ghost use Rattle.asn_values.specs.Datum.{Datum, components, components_of};
 ghost use Rattle.asn_values.specs.View.{datum_of};
 ghost use Rattle.asn_plan.specs.Placed.{taken, made, IsThere, IsPutIn, AreEntries, AreElements, IsBegun};
@@ -14,11 +14,13 @@ use std::mem;
 /// it, over what stood there.
 pub struct Reused;
 
-/// Where the next value is put, and the places of the SEQUENCEs around it that are not complete, the innermost last.
+/// Memory that serves from message to message: where the next value is put, the places of the SEQUENCEs around it that
+/// are not complete, the innermost last, and SEQUENCEs of messages before that had no place in a later one.
 #[derive(Drop)]
-pub struct Places {
+pub struct Spare {
     pub(crate) here: Place,
     pub(crate) around: Vec<Place>,
+    kept: Vec<Value>,
 }
 
 /// The elements of a SEQUENCE OF, put over those of a value before.
@@ -36,14 +38,19 @@ pub struct ChoiceOver {
 }
 
 impl ElementsOver {
-    /// Lays the element that stood at this place into the room, for its memory.
+    /// Lays the element that stood at this place into the room, for its memory, and after the last one that is kept.
     #[inline(always)]
-    fn lay_next(&mut self, room: &mut Place)
-        ensures same { taken room.new ≡ taken room.old }
+    fn lay_next(&mut self, room: &mut Spare)
+        ensures same { taken room.new.here ≡ taken room.old.here }
+        ensures around { room.new.around ≡ room.old.around }
         ensures made { made self.new ≡ made self.old }
     {
         if self.count < self.items.len() {
-            room.exchange(&mut self.items[self.count]);
+            room.here.exchange(&mut self.items[self.count]);
+            return;
+        }
+        if !room.kept.is_empty() {
+            room.lay_kept();
         }
     }
 
@@ -75,20 +82,60 @@ impl ElementsOver {
     }
 }
 
-impl Places {
+impl Spare {
+    /// Without memory at first.
+    pub fn new(alloc: Global) -> Spare {
+        Spare {
+            here: Place {
+                items: Vec::new(alloc),
+                at: 0,
+            },
+            around: Vec::new(alloc),
+            kept: Vec::new(alloc),
+        }
+    }
+
+    /// Begins with this value, for its memory.
+    #[inline(always)]
+    pub(crate) fn begin(&mut self, value: Value) -> Option<()> {
+        self.around.truncate(0);
+        self.here.items.truncate(1);
+        self.here.at = 0;
+        self.here.put_back(value)
+    }
+
     /// Goes into the SEQUENCE that is here, of which no entry is new yet.
     #[inline(always)]
     fn enter(&mut self, alloc: Global, count: usize) -> Option<()>
         ensures { IsSome result → AreEntries self.old self.new [] }
     {
+        let entries = match self.here.take_entries(alloc, count) {
+            Some(entries) => entries,
+            None => self.other_entries(alloc, count)?,
+        };
         if self.around.len() >= self.around.capacity() {
             self.grow()?;
         }
-        let entries = self.here.take_entries(alloc, count)?;
         let items = mem::replace(&mut self.here.items, entries);
         let at = mem::replace(&mut self.here.at, 0);
         self.around.push_reserved(Place { items, at });
         Some(())
+    }
+
+    /// Entries for a SEQUENCE of this many, in the memory of one of another length that is here, or new ones.
+    #[inline(never)]
+    fn other_entries(&mut self, alloc: Global, count: usize) -> Option<Vec<Option<Value>>>
+        ensures here { taken self.new.here ≡ taken self.old.here }
+        ensures around { self.new.around ≡ self.old.around }
+    {
+        let mut entries = match self.here.take() {
+            Value::Seq(entries) => entries,
+            _ => Vec::new(alloc),
+        };
+        entries.truncate(count);
+        let missing = count - entries.len();
+        entries.reserve(missing).ok()?;
+        Some(entries)
     }
 
     /// Makes room for one more place around.
@@ -104,7 +151,7 @@ impl Places {
     /// Goes out of the SEQUENCE, whose entries are all there, and puts it in its place.
     #[inline(always)]
     fn leave(&mut self) -> Option<()>
-        ensures { IsSome result → (s : Places) (es : List (Option Datum)) → AreEntries s self.old es
+        ensures { IsSome result → (s : Spare) (es : List (Option Datum)) → AreEntries s self.old es
             → IsPutIn s self.new (components (components_of es)) }
     {
         let place = self.around.pop()?;
@@ -115,10 +162,56 @@ impl Places {
         }
         self.here.put_entries(items)
     }
+
+    /// Keeps a SEQUENCE for its memory.
+    #[inline(always)]
+    fn keep(&mut self, value: Value)
+        ensures here { self.new.here ≡ self.old.here }
+        ensures around { self.new.around ≡ self.old.around }
+    {
+        if let Value::Seq(_) = &value {
+            let _ = self.kept.push(value);
+        }
+    }
+
+    /// Lays a SEQUENCE that is kept here, for its memory.
+    #[inline(never)]
+    fn lay_kept(&mut self)
+        ensures here { taken self.new.here ≡ taken self.old.here }
+        ensures around { self.new.around ≡ self.old.around }
+    {
+        if let Some(value) = self.kept.pop() {
+            self.here.lay(value);
+        }
+    }
+
+    /// Keeps the value that was laid here, for its memory.
+    #[inline(always)]
+    fn keep_laid(&mut self)
+        ensures here { taken self.new.here ≡ taken self.old.here }
+        ensures around { self.new.around ≡ self.old.around }
+    {
+        let laid = self.here.take();
+        self.keep(laid);
+    }
+
+    /// Cuts elements off until this many are left, and keeps them for their memory.
+    #[inline(never)]
+    fn cut(&mut self, items: &mut Vec<Value>, count: usize)
+        ensures here { self.new.here ≡ self.old.here }
+        ensures around { self.new.around ≡ self.old.around }
+        ensures items { items.new.items ≡ take count items.old.items }
+    {
+        'elements: for at in count..items.len() {
+            let element = mem::replace(&mut items[at], Value::Null);
+            self.keep(element);
+        }
+        items.truncate(count);
+    }
 }
 
 impl Build for Reused {
-    type Room = Places;
+    type Room = Spare;
 
     type Part = ();
 
@@ -137,22 +230,22 @@ impl Build for Reused {
     ghost opened = { λ s r c n. IsBegun s r };
 
     #[inline(always)]
-    fn number(room: &mut Places, integer: i128) -> Option<()> {
+    fn number(room: &mut Spare, integer: i128) -> Option<()> {
         room.here.put_integer(integer)
     }
 
     #[inline(always)]
-    fn truth(room: &mut Places, is_true: bool) -> Option<()> {
+    fn truth(room: &mut Spare, is_true: bool) -> Option<()> {
         room.here.put_truth(is_true)
     }
 
     #[inline(always)]
-    fn item(room: &mut Places, position: u32) -> Option<()> {
+    fn item(room: &mut Spare, position: u32) -> Option<()> {
         room.here.put_item(position)
     }
 
     #[inline(always)]
-    fn value(room: &mut Places, value: Value) -> Option<()> {
+    fn value(room: &mut Spare, value: Value) -> Option<()> {
         match value {
             Value::Bool(is_true) => room.here.put_truth(is_true),
             Value::Int(integer) => room.here.put_integer(integer),
@@ -162,60 +255,67 @@ impl Build for Reused {
     }
 
     #[inline(always)]
-    fn spare(room: &mut Places) -> Option<Value> {
+    fn spare(room: &mut Spare) -> Option<Value> {
         room.here.take_string()
     }
 
     #[inline(always)]
-    fn entries(alloc: Global, room: &mut Places, count: usize) -> Option<()> {
+    fn entries(alloc: Global, room: &mut Spare, count: usize) -> Option<()> {
         room.enter(alloc, count)
     }
 
     #[inline(always)]
-    fn absent(room: &mut Places, _entries: &mut ()) -> Option<()> {
-        room.here.pass_absent()
+    fn absent(room: &mut Spare, _entries: &mut ()) -> Option<()> {
+        if room.here.is_absent() {
+            room.here.pass_absent();
+            return Some(());
+        }
+        room.here.put_absent()
     }
 
     #[inline(always)]
-    fn present(room: &mut Places, _entries: &mut (), _part: ()) -> Option<()> {
+    fn present(room: &mut Spare, _entries: &mut (), _part: ()) -> Option<()> {
         room.here.pass();
         Some(())
     }
 
     #[inline(always)]
-    fn sequence(room: &mut Places, _entries: ()) -> Option<()> {
+    fn sequence(room: &mut Spare, _entries: ()) -> Option<()> {
         room.leave()?;
         Some(())
     }
 
     #[inline(always)]
-    fn elements(alloc: Global, room: &mut Places) -> Option<ElementsOver> {
+    fn elements(alloc: Global, room: &mut Spare) -> Option<ElementsOver> {
         let items = match room.here.take() {
             Value::List(items) => items,
             _ => Vec::new(alloc),
         };
         let mut row = ElementsOver { items, count: 0 };
-        row.lay_next(&mut room.here);
+        row.lay_next(room);
         Some(row)
     }
 
     #[inline(always)]
-    fn element(room: &mut Places, row: &mut ElementsOver, _part: ()) -> Option<()> {
+    fn element(room: &mut Spare, row: &mut ElementsOver, _part: ()) -> Option<()> {
         row.add(&mut room.here)?;
-        row.lay_next(&mut room.here);
+        row.lay_next(room);
         Some(())
     }
 
     #[inline(always)]
-    fn list(room: &mut Places, row: ElementsOver) -> Option<()> {
+    fn list(room: &mut Spare, row: ElementsOver) -> Option<()> {
         let ElementsOver { items, count } = row;
         let mut items = items;
-        items.truncate(count);
+        room.keep_laid();
+        if items.len() > count {
+            room.cut(&mut items, count);
+        }
         room.here.put_back(Value::List(items))
     }
 
     #[inline(always)]
-    fn choosing(room: &mut Places, _place: usize) -> Option<ChoiceOver> {
+    fn choosing(room: &mut Spare, _place: usize) -> Option<ChoiceOver> {
         let Value::Choice(_, inner) = room.here.take() else {
             return Some(ChoiceOver { inner: None });
         };
@@ -227,7 +327,7 @@ impl Build for Reused {
     #[inline(always)]
     fn choice(
         alloc: Global,
-        room: &mut Places,
+        room: &mut Spare,
         chosen: ChoiceOver,
         place: usize,
         _part: (),

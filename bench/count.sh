@@ -4,6 +4,7 @@
 #
 # usage: bash bench/count.sh encode|decode|build|clone|encode-oer|decode-oer|into|decode-turns|into-turns NAME
 #        bash bench/count.sh check|check-plan|check-plan-oer|count-plan|decode-plan|decode-within|decode-flat|convert NAME
+#        bash bench/count.sh into-oer|into-plan|into-plan-oer|into-plan-turns NAME
 #        bash bench/count.sh len|to|slice|len-oer|to-oer|slice-oer NAME
 #
 # `len` finds the length of the encoding, `to` writes it to a writer that lets it go, and `slice` puts it into octets
@@ -31,7 +32,7 @@ case $what in
 len* | to* | slice* | check* | count-plan | decode-plan | decode-within | decode-flat* | convert) forms=(rattle) ;;
 *-oer) forms=(rattle same) ;;
 decode-turns) forms=(rattle same hand) ;;
-clone | into | into-turns) forms=(rattle) ;;
+clone | into*) forms=(rattle) ;;
 build) forms=(same hand tree) ;;
 esac
 for form in "${forms[@]}"; do

@@ -7,6 +7,7 @@ pub mod Growing
 pub mod LeafTypes
 pub mod Messages
 pub mod NodeKinds
+pub mod Placing
 pub mod RangedRead
 pub mod Rows
 pub mod Ordered

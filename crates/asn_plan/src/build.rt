@@ -51,6 +51,13 @@ pub trait Build {
     fn value(room: &mut Self::Room, value: Value) -> Option<Self::Part>
         ensures { IfSome result (λ p. built room.old room.new p (datum_of value)) };
 
+    /// A value whose memory serves for the next part, which is a string, if there is one.
+    fn spare(room: &mut Self::Room) -> Option<Value>
+        ensures { (r : Self.Room) (p : Self.Part) (d : Datum) → built room.new r p d → built room.old r p d }
+    {
+        None
+    }
+
     /// Of no entries, where there will be this many.
     fn entries(alloc: Global, room: &mut Self::Room, count: usize) -> Option<Self::Entries>
         ensures { IfSome result (λ es. listed room.old room.new es []) };

@@ -7,7 +7,7 @@ ghost use Rattle.asn_values.specs.Shape.{boolean, integer};
 ghost use Rattle.asn_values.specs.View.{shape_of, range_of};
 ghost use Rattle.asn_plan.specs.Ranged.{ranged, IsRanged};
 ghost use Rattle.asn_walk.specs.Laws.{IsSimple};
-ghost use Rattle.asn_walk.specs.Reading.{Reads, ReadsOther, ValuesOf};
+ghost use Rattle.asn_walk.specs.Reading.{Reads, ReadsOther, ReadsValue, ValuesOf};
 ghost use Rattle.asn_plan.specs.Enumerations.{IsEnumeration};
 ghost use Rattle.asn_plan.specs.Plans.{Builds};
 
@@ -38,6 +38,11 @@ pub(crate) fn build_leaf<R: ReadLeaves, B: Build>(
     ensures some { IfSome result (λ p.
         Builds R.rules (B.built room.old room.new) (shape_of leaf.now.ty) p units.old units.new) }
 {
+    if let Some(spare) = B::spare(room) {
+        let value = read_over::<R>(alloc, leaf, units, spare)?;
+        let part = B::value(room, value)?;
+        return Some(part);
+    }
     if let Some(value) = R::try_simple(alloc, &leaf.ty, units) {
         let part = B::value(room, value)?;
         return Some(part);
@@ -47,6 +52,29 @@ pub(crate) fn build_leaf<R: ReadLeaves, B: Build>(
     };
     let part = B::value(room, value)?;
     Some(part)
+}
+
+/// Reads a value of the type, in the memory of another. `None` where the units begin with none, where they are too few or
+/// memory is wanting.
+#[inline(always)]
+fn read_over<R: ReadLeaves>(
+    alloc: Global,
+    leaf: &Leaf,
+    units: &mut BitCursor<'_>,
+    spare: Value,
+) -> Option<Value>
+    requires at_unit { R.rules.at_unit units.old }
+    ensures at_unit { IsSome result → R.rules.at_unit units.new }
+    ensures some { IfSome result (λ v. ReadsValue R.rules leaf.now.ty v units.old units.new) }
+{
+    let mut value = spare;
+    if R::try_simple_into(&leaf.ty, units, &mut value) {
+        return Some(value);
+    }
+    let Ok(()) = R::read_simple_into(alloc, &leaf.ty, units, &mut value) else {
+        return None;
+    };
+    Some(value)
 }
 
 /// What is built of a value of a type that the rules read by themselves, with which the units begin, and which is taken.

@@ -1,9 +1,9 @@
 //! Whole messages, by a plan.
-ghost use Rattle.std.specs.Prelude.{◌≡◌, ◌≤◌, Err, IfSome, IsSome, length};
+ghost use Rattle.std.specs.Prelude.{◌≡◌, ◌≤◌, Ok, Err, IfErr, IfSome, IsSome, OnOk, length, true};
 ghost use Rattle.asn_values.specs.Profile.{InProfile};
 ghost use Rattle.asn_values.specs.Shape.{Shape};
-ghost use Rattle.asn_values.specs.View.{shape_of};
-ghost use Rattle.asn_rules.specs.Answer.{max_octets};
+ghost use Rattle.asn_values.specs.View.{shape_of, datum_of};
+ghost use Rattle.asn_rules.specs.Answer.{IsEncoding, max_octets};
 ghost use Rattle.asn_rules.specs.Codec.{Decoded};
 ghost use Rattle.asn_plan.specs.Plans.{IsPlanOf, BuildsMessage, Checks};
 ghost use Rattle.asn_plan.specs.Within.{DecodedWithin, IsTaken};
@@ -13,10 +13,12 @@ use crate::build::{Build, Nothing, Values};
 use crate::counting::Counting;
 use crate::open::build_complete;
 use crate::plan::Plan;
+use crate::reused::{Reused, Spare};
 use crate::rules::{PlanLeaves, PlanRules};
 use asn_rules::{DecodeFault, MAX_OCTETS, Rules};
 use asn_values::{Checked, Value};
 use std::alloc::Global;
+use std::mem;
 
 /// What is built, in this room, of the value whose encoding the octets are. Where it gives nothing, nothing is said.
 #[inline(always)]
@@ -81,6 +83,55 @@ pub(crate) fn decode_by<R: PlanRules>(
         return Ok(value);
     }
     R::decode(alloc, ty, octets)
+}
+
+/// The value becomes the one whose encoding the octets are, in its memory and the spare one; otherwise some value is
+/// left.
+#[inline(always)]
+fn overwrite<R: PlanLeaves>(
+    alloc: Global,
+    plan: &Plan,
+    octets: &[u8],
+    value: &mut Value,
+    spare: &mut Spare,
+) -> bool
+    ensures within { result ≡ true → length octets.now ≤ max_octets }
+    ensures some { result ≡ true → (t : Shape) → InProfile t → IsPlanOf plan.now t
+        → IsEncoding R.rules.ruling t (datum_of value.new) octets.now }
+{
+    if spare.begin(mem::replace(value, Value::Null)).is_none() {
+        return false;
+    }
+    if let Some(()) = build_octets::<R, Reused>(alloc, plan, octets, spare) {
+        *value = spare.here.take();
+        return true;
+    }
+    false
+}
+
+/// Decodes the value of the type whose complete encoding the octets are into the one that is there: what
+/// `asn_rules::decode_into` does.
+///
+/// # Errors
+/// As `asn_rules::decode_into`.
+#[inline(always)]
+pub(crate) fn decode_into_by<R: PlanRules>(
+    alloc: Global,
+    ty: &Checked,
+    plan: &Plan,
+    octets: &[u8],
+    value: &mut Value,
+    spare: &mut Spare,
+) -> Result<(), DecodeFault>
+    requires { IsPlanOf plan.now (shape_of ty.now) }
+    ensures done { OnOk result (Decoded R.ruling (Ok value.new) (shape_of ty.now) octets.now) }
+    ensures fault { IfErr result (λ why. Decoded R.ruling (Err why) (shape_of ty.now) octets.now) }
+{
+    ty.get();
+    if overwrite::<R>(alloc, plan, octets, value, spare) {
+        return Ok(());
+    }
+    R::decode_into(alloc, ty, octets, value)
 }
 
 /// What the value takes whose complete encoding the octets are. Where it gives nothing, nothing is said.

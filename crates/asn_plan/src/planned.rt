@@ -3,9 +3,10 @@ ghost use Rattle.std.specs.Prelude.{◌≡◌, IfOk};
 
 use crate::budget::{Budget, Taken, WithinFault};
 use crate::build::Build;
-use crate::message::{build_octets, check_by, decode_by, decode_within_by, taken_by};
+use crate::message::{build_octets, check_by, decode_by, decode_into_by, decode_within_by, taken_by};
 use crate::of::plan_of;
 use crate::plan::Plan;
+use crate::reused::Spare;
 use crate::rules::PlanRules;
 use asn_rules::DecodeFault;
 use asn_values::{Checked, Value};
@@ -57,7 +58,7 @@ impl Planned {
 }
 
 impl Planned {
-    ghost use Rattle.std.specs.Prelude.{◌≡◌, ◌≤◌, IfSome, IsSome, length};
+    ghost use Rattle.std.specs.Prelude.{◌≡◌, ◌≤◌, Ok, Err, IfErr, IfSome, IsSome, OnOk, length};
     ghost use Rattle.asn_values.specs.View.{shape_of};
     ghost use Rattle.asn_rules.specs.Answer.{max_octets};
     ghost use Rattle.asn_rules.specs.Codec.{Decoded};
@@ -84,6 +85,26 @@ impl Planned {
         ensures { Decoded R.ruling result (shape_of self.now) octets.now }
     {
         decode_by::<R>(alloc, &self.ty, &self.plan, octets)
+    }
+
+    /// Decodes the value of the type whose complete encoding by the rules R the octets are into the one that is there,
+    /// whose memory is used again as far as it serves: entries, elements, boxes and strings. Any value may be given, at
+    /// first `Value::Null`, and any spare memory, at first none: what `asn_rules::decode_into` does, but that SEQUENCEs
+    /// of a message which have no place in a later one are kept in the spare memory.
+    ///
+    /// # Errors
+    /// As `asn_rules::decode`. What is left of the value then is some value.
+    pub fn decode_into<R: PlanRules>(
+        &self,
+        alloc: Global,
+        octets: &[u8],
+        value: &mut Value,
+        spare: &mut Spare,
+    ) -> Result<(), DecodeFault>
+        ensures done { OnOk result (Decoded R.ruling (Ok value.new) (shape_of self.now) octets.now) }
+        ensures fault { IfErr result (λ why. Decoded R.ruling (Err why) (shape_of self.now) octets.now) }
+    {
+        decode_into_by::<R>(alloc, &self.ty, &self.plan, octets, value, spare)
     }
 
     /// What is built, in this room, of the value of the type whose complete encoding by the rules R the octets are.

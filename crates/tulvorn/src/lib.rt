@@ -43,6 +43,7 @@ pub use asn_per::Per;
 pub use asn_plan::Budget;
 pub use asn_plan::PlanRules;
 pub use asn_plan::Planned;
+pub use asn_plan::Spare;
 pub use asn_plan::Taken;
 pub use asn_plan::WithinFault;
 pub use asn_rules::Counted;

@@ -52,8 +52,8 @@ def arguments_of(head):
 
 
 def owners_of(code):
-    """(start, end, name) of each impl block and trait: `Type`, `TypeTrait` for a trait's impl, with the types that it is
-    given, as `TypeFromRefStr`, and `Trait`."""
+    """(start, end, name) of each impl block and trait: `Type`, `TypeTrait` for a trait's impl, `RefTypeTrait` for that of
+    a reference, with the types that it is given, as `TypeFromRefStr`, and `Trait`."""
     found = []
     for match in re.finditer(r"\b(impl|trait)\b([^;{]*)\{", code):
         head = re.sub(r"\bwhere\b.*", "", re.sub(r"'\w+", "", without_angles(match[2])), flags=re.S)
@@ -61,6 +61,7 @@ def owners_of(code):
         if words:
             name = words[-1] + words[words.index("for") - 1] if "for" in words else words[-1] if match[1] == "impl" else words[0]
             name += arguments_of(match[2]) if match[1] == "impl" and "for" in words else ""
+            name = "Ref" + name if re.search(r"\bfor\s*&", head) else name
             found.append((match.start(), closing(code, match.end() - 1), name))
     return found
 

@@ -30,9 +30,9 @@ esac
 forms=(rattle same hand tree)
 case $what in
 len* | to* | slice* | check* | count-plan | decode-plan | decode-within | decode-flat* | convert) forms=(rattle) ;;
+clone | into*) forms=(rattle) ;;
 *-oer) forms=(rattle same) ;;
 decode-turns) forms=(rattle same hand) ;;
-clone | into*) forms=(rattle) ;;
 build) forms=(same hand tree) ;;
 esac
 for form in "${forms[@]}"; do

@@ -30,8 +30,8 @@ pub found_there : (es : List (Option Value)) (i : ℕ) (e : Option Value) (d : O
     → slice_get (entries_seen es) i ≡ Some d → e ≡ get_or es i e → option_map datum_of e ≡ d
 found_there es i e d h t r =
     same_Some (option_map datum_of e) d
-        (ap (λ x. Some (option_map datum_of x)) r ∙ sym (ap (option_map (option_map datum_of)) (slice_get-get_or es i e h))
-        ∙ sym (slice_get-map (option_map datum_of) es i) ∙ t)
+    (ap (λ x. Some (option_map datum_of x)) r ∙ sym (ap (option_map (option_map datum_of)) (slice_get-get_or es i e h))
+    ∙ sym (slice_get-map (option_map datum_of) es i) ∙ t)
 
 -- the entries up to the next one
 pub next_there : (es : List (Option Value)) (i : ℕ) (d : Option Datum)
@@ -41,7 +41,7 @@ next_there es i d t =
     let h : i < length es = subst (λ n. i < n) (length-map es f) (slice_get_within (entries_seen es) i d t) in
     map_more f es i None h
     ∙ ap (λ x. entries_seen (take i es) ++ x ∷ [])
-        (same_Some (f (get_or es i None)) d (sym (ap (option_map f) (slice_get-get_or es i None h)) ∙ sym (slice_get-map f es i) ∙ t))
+    (same_Some (f (get_or es i None)) d (sym (ap (option_map f) (slice_get-get_or es i None h)) ∙ sym (slice_get-map f es i) ∙ t))
 
 -- what is put in the place of an entry is put there
 pub placed : (p : Place) (v : Value) (d : Datum) → p.at < length p.items.items → datum_of v ≡ d

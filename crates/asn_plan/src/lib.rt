@@ -32,13 +32,13 @@ pub use counting::Counting;
 pub use enumeration::Enumeration;
 pub use message::build_octets;
 pub use of::plan_of;
+pub use place::Place;
 pub use plan::{
     AlternativeRows, Between, ComponentRows, ElementRow, Items, Kind, Leaf, Node, Plan, Presence,
     WithDefault,
 };
 pub use planned::Planned;
 pub use ranged::Ranged;
-pub use place::Place;
 pub use reused::{ChoiceOver, ElementsOver, Reused, Spare};
 pub use rules::{PlanLeaves, PlanRules};
 pub use walk::build_at;

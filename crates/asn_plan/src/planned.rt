@@ -3,7 +3,9 @@ ghost use Rattle.std.specs.Prelude.{◌≡◌, IfOk};
 
 use crate::budget::{Budget, Taken, WithinFault};
 use crate::build::Build;
-use crate::message::{build_octets, check_by, decode_by, decode_into_by, decode_within_by, taken_by};
+use crate::message::{
+    build_octets, check_by, decode_by, decode_into_by, decode_within_by, taken_by,
+};
 use crate::of::plan_of;
 use crate::plan::Plan;
 use crate::reused::Spare;

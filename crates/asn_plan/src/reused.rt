@@ -128,13 +128,14 @@ impl Spare {
         ensures here { taken self.new.here ≡ taken self.old.here }
         ensures around { self.new.around ≡ self.old.around }
     {
-        let mut entries = match self.here.take() {
-            Value::Seq(entries) => entries,
-            _ => Vec::new(alloc),
+        let Value::Seq(entries) = self.here.take() else {
+            return Vec::with_capacity(alloc, count).ok();
         };
+        if entries.capacity() < count {
+            return Vec::with_capacity(alloc, count).ok();
+        }
+        let mut entries = entries;
         entries.truncate(count);
-        let missing = count - entries.len();
-        entries.reserve(missing).ok()?;
         Some(entries)
     }
 

@@ -167,7 +167,8 @@ impl Message {
         alloc: Global,
         ty: &Checked,
     ) -> Result<Vec<u8>, EncodeFault>
-        ensures encoding { IfOk result (λ o. IsEncoding R.rules.ruling (shape_of ty.now) (value_seen self.now) o.items) }
+        ensures encoding { IfOk result (λ o.
+            IsEncoding R.rules.ruling (shape_of ty.now) (value_seen self.now) o.items) }
         ensures within { IfOk result (λ o. vec_len o ≤ max_octets) }
         ensures fault { IfErr result (λ why. NotWritten R.rules.ruling why (shape_of ty.now) (value_seen self.now)) }
     {

@@ -17,7 +17,8 @@ use asn_values::Value;
 /// Whether a slot of this content has no parts.
 #[inline(always)]
 fn is_leaf(content: Content) -> bool
-    ensures leaf { result ≡ true → (os : List ℕ) (es : List (Option Datum)) → leaf_at os content ≡ value_at os content es }
+    ensures leaf { result ≡ true → (os : List ℕ) (es : List (Option Datum))
+        → leaf_at os content ≡ value_at os content es }
     ensures parts { result ≡ false → (os : List ℕ) (es : List (Option Datum)) → HasParts (value_at os content es) }
 {
     !matches!(

@@ -78,7 +78,7 @@ pub(crate) fn build_other<R: ReadLeaves, B: Build>(
 
 /// Reads a BOOLEAN, where it is at hand; otherwise takes nothing.
 #[inline(always)]
-pub(crate) fn try_truth<R: PlanLeaves>(units: &mut BitCursor<'_>) -> Option<bool>
+pub(crate) fn try_truth<R: PlanLeaves>(alloc: Global, units: &mut BitCursor<'_>) -> Option<bool>
     requires at_unit { R.rules.at_unit units.old }
     ensures at_unit { R.rules.at_unit units.new }
     ensures some { IfSome result (λ b.
@@ -87,7 +87,11 @@ pub(crate) fn try_truth<R: PlanLeaves>(units: &mut BitCursor<'_>) -> Option<bool
 {
     let start = units.copied();
     let mut word = R::take_word(1, units);
-    if let Some(is_true) = R::next_truth(&mut word)
+    if word.is_empty() {
+        if let Some(Value::Bool(is_true)) = R::try_simple(alloc, &AsnType::Bool, units) {
+            return Some(is_true);
+        }
+    } else if let Some(is_true) = R::next_truth(&mut word)
         && word.is_empty()
     {
         return Some(is_true);
@@ -99,7 +103,11 @@ pub(crate) fn try_truth<R: PlanLeaves>(units: &mut BitCursor<'_>) -> Option<bool
 /// Reads an ENUMERATED of the type and gives the position of the item, where it is at hand and one of the root;
 /// otherwise takes nothing.
 #[inline(always)]
-pub(crate) fn try_item<R: PlanLeaves>(items: &Enumeration, units: &mut BitCursor<'_>) -> Option<u32>
+pub(crate) fn try_item<R: PlanLeaves>(
+    alloc: Global,
+    items: &Enumeration,
+    units: &mut BitCursor<'_>,
+) -> Option<u32>
     requires at_unit { R.rules.at_unit units.old }
     requires items { IsEnumeration items.now }
     ensures at_unit { R.rules.at_unit units.new }
@@ -109,7 +117,11 @@ pub(crate) fn try_item<R: PlanLeaves>(items: &Enumeration, units: &mut BitCursor
 {
     let start = units.copied();
     let mut word = R::take_word(items.bits, units);
-    if let Some(position) = R::next_item(items, &mut word)
+    if word.is_empty() {
+        if let Some(Value::Enum(position)) = R::try_simple(alloc, &items.ty, units) {
+            return Some(position);
+        }
+    } else if let Some(position) = R::next_item(items, &mut word)
         && word.is_empty()
     {
         return Some(position);

@@ -43,14 +43,14 @@ pub fn build_at<R: PlanLeaves, B: Build>(
             build_ranged::<R, B>(alloc, &number.range, units, room)
         }
         Kind::Truth => {
-            if let Some(is_true) = try_truth::<R>(units) {
+            if let Some(is_true) = try_truth::<R>(alloc, units) {
                 let part = B::truth(room, is_true)?;
                 return Some(part);
             }
             build_other::<R, B>(alloc, &AsnType::Bool, units, room)
         }
         Kind::Item(items) => {
-            if let Some(position) = try_item::<R>(&items.of, units) {
+            if let Some(position) = try_item::<R>(alloc, &items.of, units) {
                 let part = B::item(room, position)?;
                 return Some(part);
             }

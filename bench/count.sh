@@ -4,7 +4,8 @@
 #
 # usage: bash bench/count.sh encode|decode|build|clone|encode-oer|decode-oer|into|decode-turns|into-turns NAME
 #        bash bench/count.sh check|check-plan|check-plan-oer|count-plan|decode-plan|decode-within|decode-flat|convert NAME
-#        bash bench/count.sh into-oer|into-plan|into-plan-oer|into-plan-turns NAME
+#        bash bench/count.sh into-oer|into-plan|into-plan-oer|into-plan-turns|check-turns|flat-turns NAME
+#        bash bench/count.sh plan|refuse|refuse-plan NAME
 #        bash bench/count.sh len|to|slice|len-oer|to-oer|slice-oer NAME
 #
 # `len` finds the length of the encoding, `to` writes it to a writer that lets it go, and `slice` puts it into octets
@@ -29,7 +30,8 @@ wide | cam | bsm) times=20000 ;;
 esac
 forms=(rattle same hand tree)
 case $what in
-len* | to* | slice* | check* | count-plan | decode-plan | decode-within | decode-flat* | convert) forms=(rattle) ;;
+len* | to* | slice* | check* | count-plan | decode-plan | decode-within | decode-flat* | flat-turns | convert) forms=(rattle) ;;
+plan | refuse*) forms=(rattle) ;;
 clone | into*) forms=(rattle) ;;
 *-oer) forms=(rattle same) ;;
 decode-turns) forms=(rattle same hand) ;;

@@ -1,16 +1,17 @@
 #!/usr/bin/env bash
 # Makes the library for C in OUT: libtulvorn.a, libtulvorn.so, tulvorn.h and tulvorn.pc.
 #
-# usage: bindings/build.sh [--unproved | --rattle | --archive FILE] OUT
+# usage: bindings/build.sh [--unproved | --rattle | --archive FILE | --object FILE] OUT
 #
 # It proves the crates of the library, or takes what is proved, and packs the archive that `rt lib` leaves with the
 # allocator of the kit. With --rattle the code is that of Rattle's own compiler in the place of LLVM's. With --archive
 # it packs an archive that stands, as bindings/build_proved.py makes them. With --unproved it builds the same sources
 # without a proof, in some two minutes, and the version that the library tells ends with `not proved`; a folder ROOM,
-# where the environment names one, keeps what a later build does not do anew.
+# where the environment names one, keeps what a later build does not do anew. With --object it packs what the exports
+# reach of an object file, that of a program which has them and was built without a proof (tests/room.py).
 set -euo pipefail
 usage() {
-    echo "usage: bindings/build.sh [--unproved | --rattle | --archive FILE] OUT" >&2
+    echo "usage: bindings/build.sh [--unproved | --rattle | --archive FILE | --object FILE] OUT" >&2
     exit 2
 }
 here=$(cd "$(dirname "$0")" && pwd)
@@ -22,6 +23,11 @@ case "${1-}" in
     --archive)
         [ $# = 3 ] && [ -f "$2" ] || usage
         how=given archive=$(realpath "$2")
+        shift 2
+        ;;
+    --object)
+        [ $# = 3 ] && [ -f "$2" ] || usage
+        how=object archive=$(realpath "$2")
         shift 2
         ;;
 esac
@@ -43,10 +49,16 @@ objects=(--whole-archive "$archive" --no-whole-archive)
 if [ $how = unproved ]; then
     python3 "$here/build_unproved.py" "${ROOM:-$made/room}" "$made/unproved.o"
     objects=("$made/unproved.o")
+elif [ $how = object ]; then
+    objects=(--gc-sections "${names[@]/#/--undefined=}" "$archive")
 fi
 # one object of all, in which every other name is its own, so that two such libraries can be linked into one program
 ld -r -o "$made/tulvorn.o" "${objects[@]}" "$kit/c/liblibc_c.a"
 objcopy "${names[@]/#/--keep-global-symbol=}" "$made/tulvorn.o"
+if [ $how = object ]; then
+    # (else the names stay of what the program alone calls of the system)
+    objcopy --strip-unneeded "$made/tulvorn.o"
+fi
 rm -f "$out/libtulvorn.a"
 ar rcs "$out/libtulvorn.a" "$made/tulvorn.o"
 {

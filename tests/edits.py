@@ -3,7 +3,7 @@
 
 usage: tests/edits.py [CRATE..]      at the top of the repository: tries all edits of these crates, or of all
        tests/edits.py CRATE/NAME..   tries these edits alone (NAME without its ending), and notes nothing
-       tests/edits.py --due          as the gate does: those of the crates that changed, and of an eighth of the others
+       tests/edits.py --due          as the gate does: those of the crates that changed, and of a sixteenth of the others
        tests/edits.py --due --beside the same beside `rt ci`: reads from its input the name of each crate as it is proved,
                                      and tries the crate's edits then; half of the processors are left to the proofs
        tests/edits.py --anew CRATE.. tries those of these crates as in a clone where nothing is kept, and notes nothing
@@ -36,7 +36,7 @@ there where every edit was refused, and tests/edits/alone.txt says which edits h
 the edits of every crate due. It takes crates in this order, and passes over one that has more edits than are left:
 1. those whose own text or edits changed since they were tried, or were never noted;
 2. those for which only a contract or a definition below them changed;
-3. of the others those of one part of eight (`TURNS`; by estimate each takes about as long), so that a sum that was noted
+3. of the others those of one part of sixteen (`TURNS`; by estimate each takes about as long), so that a sum that was noted
    wrongly shows in time.
 Which of the first two kinds come first where not all have room, and which part is the third, is drawn from the sums of all
 crates (`drawn`). So it is the same wherever this text is tried, another as soon as a text changes that an edit rests on,
@@ -62,17 +62,27 @@ from source_functions import blanked, functions, module_of, text_of
 from sums import own_sum_of, sum_of
 
 EDITS, TRIED, ALONE = "tests/edits", "tests/edits/tried", "tests/edits/alone.txt"
-# the crates whose edits are tried in the same run, in eight parts that by estimate take about as long; the others are the last
-# part (asn_rules asn_module asn_convert asn_published_types asn_stats)
+# the crates whose edits are tried in the same run, in sixteen parts that by estimate take about as long; the others are the last
+# part (asn_newer asn_module asn_explain)
 TURNS = (
-    "asn_plan asn_fields asn_published_read asn_walk asn_examples".split(),
-    "asn_values asn_walk_into uses_tulvorn asn_first".split(),
-    "asn_walk_read asn_newer asn_notation asn_window asn_json_layout".split(),
-    "asn_tool asn_resuming asn_published asn_octet_forms".split(),
-    "asn_per asn_oer asn_message tulvorn".split(),
-    "asn_walk_feed asn_bits asn_view".split(),
-    "asn_walk_write tulvorn_c asn_json asn_explain asn_sinks".split(),
+    ["asn_values"],
+    ["asn_per"],
+    ["asn_walk_write"],
+    ["asn_walk_feed"],
+    "asn_tool asn_examples".split(),
+    ["asn_published_types"],
+    "asn_rules asn_published asn_stats".split(),
+    "tulvorn_c asn_walk".split(),
+    "asn_walk_read asn_fields".split(),
+    "asn_plan asn_window asn_sinks".split(),
+    "asn_oer uses_tulvorn asn_json_layout".split(),
+    "asn_resuming asn_notation asn_first".split(),
+    "asn_convert asn_walk_into asn_published_read asn_octet_forms".split(),
+    "asn_json asn_view tulvorn".split(),
+    "asn_bits asn_message asn_source".split(),
 )
+# the part with few edits, in whose place the gate proves and calls the archives of the library for C (tests/gate.py)
+ARCHIVES = TURNS.index(["asn_published_types"])
 # how many edits one merge has the time for, beside the proofs of all crates
 MOST = 450
 # the seconds that a check of edits may take, and three times as many beside proofs, which come first
@@ -569,11 +579,16 @@ def turn_of(name):
     return next((at for at, names in enumerate(TURNS) if name in names), len(TURNS))
 
 
+def part_of(number):
+    """The part that has its turn, by a number that was drawn."""
+    return number % (len(TURNS) + 1)
+
+
 def in_order(changed, below, others, counts, number):
     """The crates that --due takes, one after the other, and the changed ones that have to wait: of those that changed, those
     below which something did, and the others, each with the count of its edits, by a number that was drawn."""
     mixed = lambda names: sorted(names, key=lambda it: hashlib.sha256(f"{number} {it}".encode()).digest())
-    turn = [it for it in others if turn_of(it) == number % (len(TURNS) + 1)]
+    turn = [it for it in others if turn_of(it) == part_of(number)]
     taken = []
     for name in [*mixed(changed), *mixed(below), *turn]:
         if not taken or sum(counts[it] for it in [*taken, name]) <= MOST:
@@ -708,23 +723,15 @@ pub fn two_above(a: u32) -> u32
 {
     above(above(a))
 }
-
-/// The number three above.
-pub fn three_above(a: u32) -> u32
-    requires { a < 800 }
-    ensures { result ≡ a + 3 }
-{
-    above(two_above(a))
-}
 """
 WRONG = {
     "greater_is_the_lesser": ("if a < b { b } else { a }", "if a < b { a } else { b }"),
-    "above_is_two_above": ("    a + 1\n".strip("\n"), "    a + 2"),
+    "above_is_two_above": ("    a + 1", "    a + 2"),
+    "two_above_is_one_above": ("    above(above(a))", "    above(a)"),
 }
+# (it calls what a wrong edit of its group changes, and its function has a wrong edit too)
 RIGHT = {
-    "greater_by_another_test": ("if a < b { b } else { a }", "if b <= a { a } else { b }"),
-    "two_above_calls_nothing": ("    above(above(a))", "    a + 2"),
-    "three_above_the_other_way": ("    above(two_above(a))", "    two_above(above(a))"),
+    "two_above_adds_the_second_itself": ("    above(above(a))", "    above(a) + 1"),
 }
 
 
@@ -738,7 +745,7 @@ def order_is_shown():
             counts = dict.fromkeys([*names[0], *names[1], *others], 100)
             taken, waiting = in_order(*names, others, counts, number)
             room = MOST // 100
-            turn = [it for it in others if turn_of(it) == number % (len(TURNS) + 1)]
+            turn = [it for it in others if turn_of(it) == part_of(number)]
             kinds = [0 if it in names[0] else 1 if it in names[1] else 2 for it in taken]
             wanted = [*[0] * changed, *[1] * below, *[2] * len(turn)][:room]
             is_left = {*names[0], *names[1]} == {*[it for it in taken if it not in turn], *waiting}
@@ -812,6 +819,8 @@ def main(words):
     left, waiting = [], []
     if "--due" in words:
         chosen, left, waiting = due_of(chosen, edits, sums)
+        part = part_of(drawn(sums))
+        say(f"the turn: part {part + 1} of {len(TURNS) + 1}{', with the archives' if part == ARCHIVES else ''}")
     results = try_all(chosen, edits, "--beside" in words)
     if "--due" not in words and not single and not ANEW:
         note(results, sums)

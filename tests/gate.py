@@ -8,7 +8,7 @@ usage: tests/gate.py [PART..]      the parts are proofs, edits and tests; all th
 1. proofs: `rt ci` proves every crate from nothing, as many side by side as there are processors where memory holds them
    (`of_proofs`), and runs the programs as two compilers build them.
 2. edits: tests/edits.py tries itself on a tiny crate, and then the wrong bodies of the crates that changed since they
-   were tried, and of an eighth of the others. In a clone with no out/, where all parts are asked for, it goes beside the
+   were tried, and of a sixteenth of the others. In a clone with no out/, where all parts are asked for, it goes beside the
    proofs: a crate's edits begin when the crate is proved, on processors that no proof takes.
 3. tests: the programs of tests/programs are built without a proof of their own (tests/room.py), and what they write is
    compared; tests/refused_allocations.sh refuses in turn each allocation of programs; tests/first.py runs `asn_first`,
@@ -16,9 +16,10 @@ usage: tests/gate.py [PART..]      the parts are proofs, edits and tests; all th
    published_tags.py, published_sequences.py, streaming.py, forms.py, shown.py and tests/installed.sh `asn_tool`, as the gate
    has built them;
    tests/octet_counts.py and tests/published_rows.py look at rows without a program;
-   bindings/tests.sh calls the library for C from four languages, as each of two compilers makes it of what is proved,
-   and skips a language whose compiler is not there. Beside the proofs, those that want none of what is proved begin at
-   once.
+   bindings/tests.sh calls the library for C from four languages, and skips a language whose compiler is not there: each
+   time as LLVM compiles it with the test programs, without a second proof, and in one merge of sixteen, drawn as the
+   sixteenth of the edits, as each of two compilers makes it of a proof of its own. Beside the proofs, those that want
+   none of what is proved begin at once.
 
 What a step writes is shown as it comes: a line for each crate that is proved, and for each group of edits that is tried.
 The end says how many minutes of a processor each part and each of its steps took, and how many by the clock the part took
@@ -79,6 +80,18 @@ class Part:
         longest = sorted(((seconds, step) for step, seconds in self.steps.items() if seconds >= 6), reverse=True)
         for seconds, step in longest if len(self.steps) > 1 else ():
             say(f"{seconds / 60:8.1f} {step}")
+
+
+class Turn:
+    """Whether the archives of the library for C have their turn, once tests/edits.py has told it."""
+
+    def __init__(self, is_of_archives=False):
+        self.is_of_archives, self.told = is_of_archives, threading.Event()
+
+    def hear(self, line):
+        if line.startswith("the turn: "):
+            self.is_of_archives = line.rstrip("\n").endswith(", with the archives")
+            self.told.set()
 
 
 def say(text):
@@ -142,14 +155,15 @@ def of_proofs():
 PROVED = re.compile(r"rt: (\w+) (?:proved$|is kept: )")
 
 
-def proofs_and_edits(parts, once_proved):
+def proofs_and_edits(parts, turn, once_proved):
     """The proofs, and the edits beside them: each crate that is proved is named to tests/edits.py. What else waits for the
     proofs begins with their end."""
     tried = begin(["nice", "-n", "5", "tests/edits.py", "--due", "--beside"], subprocess.PIPE)
 
     def follow_edits():
         step(parts["edits"], ["nice", "-n", "5", "tests/edits.py", "--self-test"])
-        follow(parts["edits"], tried)
+        follow(parts["edits"], tried, turn.hear)
+        turn.told.set()
 
     follows = threading.Thread(target=follow_edits)
     follows.start()
@@ -173,13 +187,13 @@ def proofs_and_edits(parts, once_proved):
     follows.join()
 
 
-def proofs(part):
+def proofs(part, _turn):
     follow(part, begin(["rt", "ci"], env=of_proofs()))
 
 
-def edits(part):
+def edits(part, turn):
     step(part, ["tests/edits.py", "--self-test"])
-    step(part, ["tests/edits.py", "--due"])
+    follow(part, begin(["tests/edits.py", "--due"]), turn.hear)
 
 
 def stored(name):
@@ -224,10 +238,15 @@ def tests_of_sources(part, room):
             compare(part, [f"{room}/test_checks", name], name)
     step(part, ["tests/octet_counts.py"])
     step(part, ["tests/published_rows.py"])
+    # the library for C, of the module of those programs
+    step(part, ["bindings/build.sh", "--object", f"{room}/test_checks.o", f"{room}/library"])
+    step(part, ["bindings/tests.sh", f"{room}/library"])
 
 
-def tests_of_archives(part):
-    """Calls the library for C from each language, as each of two compilers makes it of what is proved."""
+def tests_of_archives(part, turn):
+    """Where it is their turn, calls the library for C from each language as each of two compilers makes it of a proof."""
+    if not turn.is_of_archives:
+        return say("the archives of the library for C, proved and built by two compilers: left to their turn")
     with tempfile.TemporaryDirectory(prefix="tulvorn-bindings-") as made:
         step(part, ["python3", "bindings/build_proved.py", "--as-they-stand", made])
         for it in ("llvm", "rattle"):
@@ -253,16 +272,16 @@ def tests_of_programs(part, room):
     step(part, ["tests/installed.sh", TOOL])
 
 
-def tests(part):
+def tests(part, turn):
     with tempfile.TemporaryDirectory(prefix="tulvorn-gate-") as room:
         tests_of_sources(part, room)
         tests_of_programs(part, room)
-        tests_of_archives(part)
+        tests_of_archives(part, turn)
 
 
 def all_parts():
     """All three parts side by side: the tests that want nothing of the proofs begin at once, the others after the proofs."""
-    parts = {name: Part() for name in PARTS}
+    parts, turn = {name: Part() for name in PARTS}, Turn()
     with tempfile.TemporaryDirectory(prefix="tulvorn-gate-") as room, ThreadPoolExecutor(3) as pool:
         first = pool.submit(tests_of_sources, parts["tests"], room)
 
@@ -271,8 +290,12 @@ def all_parts():
             first.result()
             tests_of_programs(parts["tests"], room)
 
+        def tests_of_turn():
+            turn.told.wait()
+            tests_of_archives(parts["tests"], turn)
+
         others = []
-        proofs_and_edits(parts, lambda: others.extend(pool.submit(it) for it in (tests_of_room, lambda: tests_of_archives(parts["tests"]))))
+        proofs_and_edits(parts, turn, lambda: others.extend(pool.submit(it) for it in (tests_of_room, tests_of_turn)))
         for it in others:
             it.result()
     return parts
@@ -286,11 +309,12 @@ def run(names):
     # (`rt ci` puts back what stood in out/ when it ends, which may not change below the edits)
     if {*names} == {*PARTS} and not glob.glob("crates/*/out"):
         return all_parts()
-    parts = {}
+    # (without the edits nothing is drawn, and who asks for the tests alone has all of them)
+    parts, turn = {}, Turn(is_of_archives="edits" not in names)
     for name, call in PARTS.items():
         if name in names:
             parts[name] = Part()
-            call(parts[name])
+            call(parts[name], turn)
     return parts
 
 

@@ -12,7 +12,8 @@ has the name of the folder, `main.rt.in` is its own file, and the others are mod
 which programs share, stands before them. A room is kept, so that a later
 call does anew only what has changed. What is built without a proof is compiled from the sources of the crates, with the
 options of a build that is proved (unproved.py); the toolchain links a program with proved libraries only where the
-program itself is proved.
+program itself is proved. Of a program that uses the library for C, and calls each export (bindings/exposing.py),
+ROOM/NAME.o is left too, which bindings/build.sh packs as that library.
 """
 import os
 import shutil
@@ -65,6 +66,11 @@ def sources_of(program):
     return found
 
 
+def has_exports(program):
+    """Whether a program uses the library for C."""
+    return "tulvorn_c" in text_of(f"{program}/uses").split()
+
+
 def lay(room, programs):
     """Lays out the crates of the repository, with what checks kept of them, and the programs beside them."""
     for name in os.listdir(f"{TOP}/crates"):
@@ -80,6 +86,13 @@ def lay(room, programs):
             os.makedirs(os.path.dirname(f"{source}/{name}"), exist_ok=True)
             shutil.copy2(path, f"{source}/{name}")
         lines.append(text_of(f"{program}/uses"))
+    if any(has_exports(it) for it in programs):
+        # (a static library is used by no crate)
+        lines[0] = lines[0].replace("tulvorn_c staticlib:", "tulvorn_c:")
+        sys.path.append(f"{TOP}/bindings")
+        import exposing
+
+        exposing.expose(room)
     with open(f"{room}/crates.txt", "w", encoding="utf-8") as it:
         it.writelines(lines)
     shutil.copy2(f"{TOP}/HANDLES", f"{room}/HANDLES")
@@ -88,7 +101,8 @@ def lay(room, programs):
 def build(room, program):
     """Builds a program without a proof, and returns whether it was built."""
     name = crate_name(program)
-    words = [sys.executable, f"{TOP}/tests/unproved.py", f"{room}/crates/{name}", TOP, f"{room}/{name}"]
+    flags = ["--exports"] if has_exports(program) else []
+    words = [sys.executable, f"{TOP}/tests/unproved.py", *flags, f"{room}/crates/{name}", TOP, f"{room}/{name}"]
     ran = subprocess.run(words, stdin=subprocess.DEVNULL, stdout=subprocess.PIPE, stderr=subprocess.STDOUT, text=True)
     if ran.returncode:
         print(f"{name} was not built:\n{ran.stdout}", file=sys.stderr, flush=True)

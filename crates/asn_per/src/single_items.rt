@@ -22,11 +22,15 @@ pub(crate) fn read_bit(cursor: &mut BitCursor<'_>) -> Result<u8, Stop>
     Ok(bit as u8)
 }
 
-/// Reads an octet.
+/// Reads an octet, at once where it begins with one of the piece.
 pub(crate) fn read_octet(cursor: &mut BitCursor<'_>) -> Result<u8, Stop>
     ensures done { Reads result (λ octet. octet) Octet cursor.old cursor.new }
     ensures stop { StopsIn result Octet cursor.old }
 {
+    if let Some(octet) = cursor.peek_octet() {
+        cursor.pass_octets(1);
+        return Ok(octet as u8);
+    }
     let octet = read_number(8, up_to(255), Why::Number, cursor)?;
     Ok(octet as u8)
 }

@@ -55,7 +55,7 @@ impl<'a, R: FeedLeaves> Leaf<R> for Scalar<'a> {
 
 /// Reads a value of a type that is neither SEQUENCE, SEQUENCE OF nor CHOICE: in one step where the rules have one for it
 /// and its units are there.
-fn read_at_hand<R: FeedLeaves>(
+pub(crate) fn read_at_hand<R: FeedLeaves>(
     alloc: Global,
     ty: &AsnType,
     units: &mut BitCursor<'_>,

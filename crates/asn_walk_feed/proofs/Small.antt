@@ -1,5 +1,5 @@
 -- Rows of numbers: how many units their values have, and that units which end within one begin it.
-use Rattle.std.proofs.Common.{rules, ◌≡◌, ◌≤◌, ◌<◌, ◌+◌, ◌-◌, ◌*◌, ◌/◌, ◌^◌, ⊎_elim, ℕ, zero, suc, true, false, Bool, List, [], ◌∷◌, ◌++◌, length, length-append, append_assoc, Option, Some, None, refl, sym, ap, ◌∙◌, subst, arith}
+use Rattle.std.proofs.Common.{◌≡◌, ◌≤◌, ◌<◌, ◌+◌, ◌-◌, ◌*◌, ⊎_elim, ℕ, zero, suc, true, false, Bool, List, [], ◌∷◌, ◌++◌, length, length-append, append_assoc, Option, Some, None, refl, sym, ap, ◌∙◌, subst, arith}
 use Rattle.std.proofs.lemmas.Bool.{true≢false}
 use Rattle.std.proofs.lemmas.List.{append-nil}
 use Rattle.std.proofs.Math.Nat.{mul_comm, mul-lt-mul_of_pos_right, mul-le-mul_right, le_of_mul-le-mul_right}
@@ -8,9 +8,7 @@ use Rattle.asn_values.specs.Parts.{AreOfProfile}
 use Rattle.asn_values.specs.Profile.{InProfile}
 use Rattle.asn_values.specs.Shape.{Shape, boolean, integer, sequence, Demand, must, Fields, no_fields, field, MoreFields, closed}
 use Rattle.asn_values.specs.View.{shape_of, part_of_field, fields_seen}
-use Rattle.asn_values.specs.declared.types.AsnType.{the_lemmas}
 use Rattle.asn_values.specs.declared.types.Field.{Field}
-use Rattle.asn_values.specs.declared.types.Need.TheVariants as need
 use Rattle.asn_values.proofs.Components.{shape_of_part}
 use Rattle.asn_values.proofs.Parts.{components_of_profile}
 use Rattle.asn_bits.specs.Numbers.{bits}
@@ -27,7 +25,6 @@ use Rattle.asn_rules.proofs.Live.Chunks.{FieldsPart, front_longer, ones-append}
 use Rattle.asn_rules.proofs.Live.Flat.{flat-ones}
 use Rattle.asn_walk.specs.Coding.{Coding, PreambleOf, AddedOf, sequence_told}
 use Rattle.asn_walk.specs.Laws.{Laws, IsSimple}
-use Rattle.asn_walk.specs.Reading.{Reads, ValuesOf}
 use Rattle.asn_walk.proofs.Parts.{fields_part_of}
 use Rattle.asn_walk_feed.proofs.Cells.{sum_mul}
 use Rattle.asn_walk_feed.specs.Feeding.{FeedLaws, IsBrief, ExtendsBy}

@@ -1,4 +1,4 @@
-use Rattle.std.proofs.Common.{rules, ◌≤◌, ◌<◌, ℕ, length, refl, ap, arith}
+use Rattle.std.proofs.Common.{length, refl, ap, arith}
 use Rattle.asn_values.specs.View.{shape_of, part_of_field, fields_seen}
 use Rattle.asn_walk_feed.proofs.Small.{first_field, all_fields, none_added, none_ends, first_ends, rest_ends}
 use Rattle.asn_walk_feed.proofs.rows.+end_in.Goals as goal

@@ -1,10 +1,9 @@
-use Rattle.std.proofs.Common.{◌≡◌, ◌+◌, ◌-◌, ◌*◌, ◌++◌, ℕ, List, length, length-append, sym, ap, ◌∙◌, subst, arith}
+use Rattle.std.proofs.Common.{◌≡◌, ◌-◌, ◌++◌, ℕ, List, length, length-append, sym, ap, ◌∙◌, subst, arith}
 use Rattle.asn_values.specs.Profile.{InProfile}
 use Rattle.asn_values.specs.Shape.{Shape, sequence}
 use Rattle.asn_values.specs.View.{shape_of, fields_seen, more_fields_of}
 use Rattle.asn_values.proofs.Parts.{components_of_profile}
 use Rattle.asn_values.proofs.Views.{sequence_of_fields}
-use Rattle.asn_bits.specs.Numbers.{unpacked}
 use Rattle.asn_bits.proofs.Splits.{length-unpacked}
 use Rattle.asn_rules.specs.Languages.{Short}
 use Rattle.asn_walk.specs.Reading.{ValuesOf}

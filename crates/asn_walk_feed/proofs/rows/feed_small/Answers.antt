@@ -1,4 +1,4 @@
-use Rattle.std.proofs.Common.{◌≡◌, ◌≤◌, ◌++◌, [], List, ℕ, length, length-append, inr, refl, sym, ap, ◌∙◌, subst, arith}
+use Rattle.std.proofs.Common.{◌≤◌, ◌++◌, List, ℕ, length, length-append, inr, refl, sym, ap, ◌∙◌, subst, arith}
 use Rattle.asn_values.specs.View.{shape_of}
 use Rattle.asn_rules.specs.Languages.{Short}
 use Rattle.asn_walk.specs.Reading.{ValuesOf}

@@ -1,5 +1,4 @@
-use Rattle.std.proofs.Common.{◌≡◌, ◌++◌, ℕ, List, take, drop, sym, ap, ◌∙◌}
-use Rattle.asn_bits.specs.Numbers.{bits}
+use Rattle.std.proofs.Common.{◌++◌, ℕ, List, drop, sym, ap, ◌∙◌}
 use Rattle.asn_walk_feed.proofs.Bits.{first_bits}
 use Rattle.asn_walk_feed.proofs.begun.Begun.push_next.Goals as goal
 

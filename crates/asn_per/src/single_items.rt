@@ -22,7 +22,8 @@ pub(crate) fn read_bit(cursor: &mut BitCursor<'_>) -> Result<u8, Stop>
     Ok(bit as u8)
 }
 
-/// Reads an octet, at once where it begins with one of the piece.
+/// Reads an octet, at once where it is one of the octets of the piece.
+#[inline(always)]
 pub(crate) fn read_octet(cursor: &mut BitCursor<'_>) -> Result<u8, Stop>
     ensures done { Reads result (λ octet. octet) Octet cursor.old cursor.new }
     ensures stop { StopsIn result Octet cursor.old }
@@ -31,6 +32,16 @@ pub(crate) fn read_octet(cursor: &mut BitCursor<'_>) -> Result<u8, Stop>
         cursor.pass_octets(1);
         return Ok(octet as u8);
     }
+    read_octet_across(cursor)
+}
+
+/// The same, where its bits are in two octets.
+#[cold]
+#[inline(never)]
+fn read_octet_across(cursor: &mut BitCursor<'_>) -> Result<u8, Stop>
+    ensures done { Reads result (λ octet. octet) Octet cursor.old cursor.new }
+    ensures stop { StopsIn result Octet cursor.old }
+{
     let octet = read_number(8, up_to(255), Why::Number, cursor)?;
     Ok(octet as u8)
 }

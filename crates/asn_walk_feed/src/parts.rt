@@ -305,6 +305,7 @@ impl<'a, R: FeedLeaves, K: InFragments<R>> Leaf<R> for Octet<'a, K> {
 
     ghost sound = { λ o. ⊤ };
 
+    #[inline(always)]
     fn read(&self, _alloc: Global, units: &mut BitCursor<'_>) -> Result<u8, Stop> {
         self.kind.read_octet(units)
     }

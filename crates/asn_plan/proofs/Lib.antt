@@ -10,5 +10,7 @@ pub mod NodeKinds
 pub mod Placing
 pub mod RangedRead
 pub mod Rows
+pub mod OpenHere
 pub mod Ordered
+pub mod StringsRead
 pub mod WordsRead

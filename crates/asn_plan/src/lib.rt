@@ -8,6 +8,7 @@ mod components;
 mod copies;
 mod counting;
 mod enumeration;
+mod fixed;
 mod items;
 mod leaves;
 mod lists;
@@ -30,12 +31,13 @@ pub use budget::{Budget, Taken, WithinFault};
 pub use build::{Build, Nothing, Values};
 pub use counting::Counting;
 pub use enumeration::Enumeration;
+pub use fixed::FixedString;
 pub use message::build_octets;
 pub use of::plan_of;
 pub use place::Place;
 pub use plan::{
     AlternativeRows, Between, ComponentRows, ElementRow, Items, Kind, Leaf, Node, Plan, Presence,
-    WithDefault,
+    Run, WithDefault,
 };
 pub use planned::Planned;
 pub use ranged::Ranged;

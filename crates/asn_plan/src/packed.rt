@@ -1,12 +1,13 @@
 //! The walk of a plan in a word, which holds the bits of several values.
-ghost use Rattle.std.specs.Prelude.{◌≡◌, ℕ, List, IfSome, IsSome};
+ghost use Rattle.std.specs.Prelude.{◌≡◌, ◌≤◌, ◌<◌, ℕ, List, IfSome, IsSome, length};
 ghost use Rattle.asn_values.specs.Profile.{InProfile};
 ghost use Rattle.asn_values.specs.Parts.{AreOfProfile};
 ghost use Rattle.asn_values.specs.Shape.{Shape, Fields};
 ghost use Rattle.asn_rules.specs.Listed.{bitmap_length};
 ghost use Rattle.asn_plan.specs.declared.plan.Kind.TheVariants as kind;
 ghost use Rattle.asn_plan.specs.declared.plan.Presence.TheVariants as presence;
-ghost use Rattle.asn_plan.specs.Plans.{IsPlan, ArePlans, BuildsNext, BuildsNumbers};
+ghost use Rattle.asn_plan.specs.Plans.{IsPlan, ArePlans, BuildsNext, BuildsNumbers, BuildsRun};
+ghost use Rattle.asn_plan.specs.Words.{before};
 
 use crate::build::Build;
 use crate::plan::{ComponentRows, Kind, Node, Presence};
@@ -14,10 +15,38 @@ use crate::rules::PlanLeaves;
 use crate::word::Word;
 use std::alloc::Global;
 
+/// Adds the entries of components from the one at this place on, which are taken from a word until no bit of it is left,
+/// and gives the place of the component after them. `None` where these do not stand in it.
+#[inline(always)]
+pub(crate) fn build_run<R: PlanLeaves, B: Build>(
+    alloc: Global,
+    nodes: &[Node],
+    parts: &[Node],
+    from: usize,
+    word: &mut Word,
+    entries: &mut B::Entries,
+    room: &mut B::Room,
+) -> Option<usize>
+    ensures on { IfSome result (λ at. from < at) }
+    ensures within { IfSome result (λ at. at ≤ length parts.now) }
+    ensures some { IfSome result (λ at. (s : B.Room) (us : List ℕ) → BuildsRun R.rules
+        (B.listed s room.old entries.old) (B.listed s room.new entries.new) nodes.now parts.now from at
+        (before word.old us) (before word.new us)) }
+{
+    for at in from..parts.len() {
+        let value = build_next::<R, B>(alloc, nodes, &parts[at], word, room)?;
+        B::present(room, entries, value)?;
+        if word.is_empty() {
+            return Some(at + 1);
+        }
+    }
+    None
+}
+
 /// What is built of the value of a component that has to be there, which is taken from a word. `None` where none stands
 /// in it.
 #[inline(always)]
-pub(crate) fn build_next<R: PlanLeaves, B: Build>(
+fn build_next<R: PlanLeaves, B: Build>(
     alloc: Global,
     nodes: &[Node],
     part: &Node,
@@ -119,6 +148,14 @@ fn build_number<R: PlanLeaves, B: Build>(
             let part = B::item(room, position)?;
             Some(part)
         }
-        Kind::Leaf(_) | Kind::Sequence(_) | Kind::List(_) | Kind::Choice(_) => None,
+        Kind::Leaf(leaf) => {
+            let Some(fixed) = &leaf.fixed else {
+                return None;
+            };
+            let number = R::next_string(fixed, word)?;
+            let part = B::string(room, fixed, number)?;
+            Some(part)
+        }
+        Kind::Sequence(_) | Kind::List(_) | Kind::Choice(_) => None,
     }
 }

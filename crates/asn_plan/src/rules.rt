@@ -1,21 +1,27 @@
 //! Encoding rules by which a plan is read.
-ghost use Rattle.std.specs.Prelude.{◌≡◌, ◌≤◌, ℕ, List, IfSome, IsNone};
+ghost use Rattle.std.specs.Prelude.{◌≡◌, ◌≤◌, ℕ, List, IfSome, IsNone, true};
 ghost use Rattle.asn_values.specs.Datum.{truth, number, item};
-ghost use Rattle.asn_values.specs.Shape.{boolean};
+ghost use Rattle.asn_values.specs.Profile.{InProfile};
+ghost use Rattle.asn_values.specs.Shape.{Shape, boolean};
 ghost use Rattle.asn_values.specs.View.{shape_of};
 ghost use Rattle.asn_rules.specs.Languages.{Spells};
+ghost use Rattle.asn_bits.specs.Numbers.{bits};
 ghost use Rattle.asn_walk.specs.Coding.{PreambleOf};
 ghost use Rattle.asn_walk.specs.Views.{preamble_seen};
 ghost use Rattle.asn_walk.specs.Integers.{IsOfProfile};
 ghost use Rattle.asn_walk.specs.Reading.{Reads, ValuesOf};
+ghost use Rattle.asn_per.specs.Per.{filling};
 ghost use Rattle.asn_per.specs.Walk.{per_coding};
 ghost use Rattle.asn_oer.specs.Walk.{oer_coding};
 ghost use Rattle.asn_plan.specs.Enumerations.{IsEnumeration};
+ghost use Rattle.asn_plan.specs.FixedStrings.{IsFixedString};
+ghost use Rattle.asn_plan.specs.Plans.{BeginsOpen, EndsOpen, TellsString};
 ghost use Rattle.asn_plan.specs.Ranged.{ranged, IsRanged};
 ghost use Rattle.asn_plan.specs.Rules.{per_parts, oer_parts};
 ghost use Rattle.asn_plan.specs.Words.{before};
 
 use crate::enumeration::Enumeration;
+use crate::fixed::FixedString;
 use crate::ranged::Ranged;
 use crate::word::Word;
 use asn_bits::BitCursor;
@@ -84,6 +90,41 @@ pub trait PlanLeaves: ReadLeaves {
             (before _word.old us) (before _word.new us)) }
     {
         None
+    }
+
+    /// Reads a string of the type from a word, and gives the number in its bits; `None` where none stands in it, and
+    /// perhaps if its length lies outside the extension root.
+    #[inline(always)]
+    fn next_string(_fixed: &FixedString, _word: &mut Word) -> Option<u64>
+        ensures { IfSome result (λ n. (t : Shape) → InProfile t → IsFixedString _fixed.now t
+            → TellsString Self.rules t _fixed.now n _word.old _word.new) }
+    {
+        None
+    }
+
+    /// Takes the length of an open type field, and gives how many octets that are: what stands in the field may then be
+    /// read where it stands. `None`, and nothing is taken, where it cannot.
+    #[inline(always)]
+    fn enter_open(_units: &mut BitCursor<'_>) -> Option<u32>
+        requires at_unit { Self.rules.at_unit _units.old }
+        ensures at_unit { Self.rules.at_unit _units.new }
+        ensures some { IfSome result (λ n.
+            BeginsOpen Self.rules n (Self.rules.to_units _units.old) (Self.rules.to_units _units.new)) }
+        ensures none { IsNone result → _units.new ≡ _units.old }
+    {
+        None
+    }
+
+    /// Takes what fills up an open type field of so many octets, after a value of so many units. Returns whether that is
+    /// the end of the field; otherwise some units may be taken.
+    #[inline(always)]
+    fn leave_open(_octets: u32, _taken: u128, _units: &mut BitCursor<'_>) -> bool
+        requires at_unit { Self.rules.at_unit _units.old }
+        ensures at_unit { Self.rules.at_unit _units.new }
+        ensures some { result ≡ true → EndsOpen Self.rules _octets _taken
+            (Self.rules.to_units _units.old) (Self.rules.to_units _units.new) }
+    {
+        false
     }
 
     /// Reads an INTEGER of the type, or gives `None` and leaves the cursor where it is: if its encoding is not complete
@@ -163,6 +204,36 @@ impl PlanLeaves for Per {
         Some(index as u32)
     }
 
+    /// The extension bit, where there is a mark, is read as the highest bit of the number: so it is 0.
+    #[inline(always)]
+    fn next_string(fixed: &FixedString, word: &mut Word) -> Option<u64> {
+        let number = word.take(fixed.bits)?;
+        if number > fixed.highest {
+            return None;
+        }
+        Some(number)
+    }
+
+    #[inline(always)]
+    fn enter_open(units: &mut BitCursor<'_>) -> Option<u32> {
+        let octets = units.peek_number(8)?;
+        if octets == 0 || octets > 127 {
+            return None;
+        }
+        units.pass(8);
+        Some(octets as u32)
+    }
+
+    #[inline(always)]
+    fn leave_open(octets: u32, taken: u128, units: &mut BitCursor<'_>) -> bool {
+        let all = 8 * u128::from(octets);
+        let zeros = zeros_after(taken);
+        if taken > all || all - taken != u128::from(zeros) {
+            return false;
+        }
+        matches!(units.take_number(zeros), Some(0))
+    }
+
     /// The extension bit, where there is a mark, is read as the highest bit of the offset: so it is 0.
     #[inline(always)]
     fn try_ranged(range: &Ranged, units: &mut BitCursor<'_>) -> Option<i128> {
@@ -185,6 +256,18 @@ impl PlanLeaves for Oer {
         }
         Oer::try_between(range.low, range.high, units)
     }
+}
+
+/// How many zeros fill up a value of so many bits to whole octets, one at least (X.691, "complete encoding").
+#[inline(always)]
+fn zeros_after(taken: u128) -> u32
+    ensures few { result ≤ 8 }
+    ensures filled { filling taken ≡ bits result 0 }
+{
+    if taken == 0 {
+        return 8;
+    }
+    (8 - (taken % 8) as u32) % 8
 }
 
 /// Encoding rules that read the parts of types and values by themselves, as PER and OER do.

@@ -1,5 +1,5 @@
 use Rattle.std.proofs.Common.{ℕ, List, drop}
-use Rattle.asn_plan.proofs.Building.{BuiltUpTo}
+use Rattle.asn_plan.specs.Plans.{BuiltUpTo}
 use Rattle.asn_plan.specs.Words.{before}
 use Rattle.asn_plan.proofs.packed.build_numbers.Given as goal
 

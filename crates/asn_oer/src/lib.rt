@@ -5,6 +5,7 @@ mod bit_items;
 mod enumerated;
 mod in_pieces;
 mod integer;
+pub mod internal;
 pub mod laws;
 mod read_leaves;
 mod rules;

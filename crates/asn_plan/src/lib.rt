@@ -42,4 +42,4 @@ pub use ranged::Ranged;
 pub use reused::{ChoiceOver, ElementsOver, Reused, Spare};
 pub use rules::{PlanLeaves, PlanRules};
 pub use walk::build_at;
-pub use word::Word;
+pub use word::{Run, Word};

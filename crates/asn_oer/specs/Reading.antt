@@ -1,5 +1,5 @@
 -- What readers of octets read from the bits of a cursor, and where they stop.
-use Rattle.std.specs.Prelude.{◌<ℤ◌, ◌⊎◌, ◌≡◌, ℕ, ℤ, pos, negsuc, Bool, true, List, [], ◌∷◌, Option, Some, None, ⊤, Result, IfOk, IfErr, IfSome}
+use Rattle.std.specs.Prelude.{◌<ℤ◌, ◌⊎◌, ◌≡◌, ℕ, ℤ, pos, Bool, true, List, [], ◌∷◌, Option, Some, None, ⊤, Result, IfOk, IfErr, IfSome}
 use Rattle.std.specs.Option.{option_map}
 use Rattle.asn_values.specs.Datum.{Datum, truth, number}
 use Rattle.asn_values.specs.Shape.{Range, Shape, boolean, integer}
@@ -8,7 +8,7 @@ use Rattle.asn_rules.specs.Chunks.{Chunk}
 use Rattle.asn_rules.specs.Listed.{IsOther, Spelt}
 use Rattle.asn_rules.specs.OctetReading.{ReadsOctets, StopsAtOctets}
 use Rattle.asn_rules.specs.declared.stop.Stop.{Stop}
-use Rattle.asn_oer.specs.Oer.{oer, unsigned_octets, signed_size}
+use Rattle.asn_oer.specs.Oer.{oer, signed_size}
 use Rattle.asn_oer.specs.SimpleTypes.{truth_told}
 
 -- ---- what a reader says of its result
@@ -61,8 +61,3 @@ abbrev pub signed_size_of : Option ℤ → Option ℤ → Option ℕ
 signed_size_of (Some low) (Some high) = signed_size low high
 signed_size_of (Some low) None = None
 signed_size_of None high = None
-
--- how many octets the integers from low to high have, where it is a fixed number
-abbrev pub fixed_size : ℤ → ℤ → Option ℕ
-fixed_size (pos low) high = unsigned_octets high
-fixed_size (negsuc low) high = signed_size (negsuc low) high

@@ -13,7 +13,7 @@ pub use Rattle.asn_rules.specs.CodecLaws.{DecodesTheEncoded, EncodesTheDecoded, 
 pub use Rattle.asn_rules.specs.IntegerSets.{IsWithin, unmarked}
 pub use Rattle.asn_rules.specs.Languages.{Inhabited}
 pub use Rattle.asn_rules.specs.Laws.{BeginningsAreLive, BeginningsAreNotRefused, EncodesAs, UnitsTellTheValue, OneValue, NoneBegins, RulesLaws, LiveIsClosed, LiveByParts, OneAnswer}
-pub use Rattle.asn_rules.specs.OctetReading.{AtOctet, ReadsOctets}
+pub use Rattle.asn_rules.specs.OctetReading.{AtOctet}
 pub use Rattle.asn_bits.specs.Numbers.{unpacked}
 pub use Rattle.asn_rules.specs.Parted.{SpellingsPart}
 pub use Rattle.asn_rules.specs.Reading.{RulesTell}
@@ -26,8 +26,8 @@ pub use Rattle.asn_oer.specs.Constructed.{LongTagOctet, LongTags, Tags}
 pub use Rattle.asn_oer.specs.ElementsAhead.{ahead_of}
 pub use Rattle.asn_oer.specs.Kinds.{KindsCompose}
 pub use Rattle.asn_oer.specs.LeafReading.{ItemsBut, BeginsWith, BeginsOtherwise, BitStringsOf, OctetStringsOf, TextsOf}
-pub use Rattle.asn_oer.specs.Oer.{oer_octets, item_number, unsigned_octets, signed_size, ranged, truth_octet, bit_octets, sized_octets, tag, oer, oer_fields}
-pub use Rattle.asn_oer.specs.Reading.{IntegersBut, IsBelowZero, signed_size_of, fixed_size, IsCounted, ValuesOf, BooleansBut, TruthOctet, Reads, ReadsSome, StopsIn}
+pub use Rattle.asn_oer.specs.Oer.{oer_octets, item_number, unsigned_octets, signed_size, ranged, bit_octets, sized_octets, tag, oer, oer_fields}
+pub use Rattle.asn_oer.specs.Reading.{IntegersBut, IsBelowZero, signed_size_of, IsCounted, ValuesOf, BooleansBut, TruthOctet, Reads, ReadsSome, StopsIn}
 pub use Rattle.asn_oer.specs.Rules.{oer_ruling}
 pub use Rattle.asn_oer.specs.Strings.{Utf8Strings}
 pub use Rattle.asn_oer.specs.Walk.{oer_coding, mark_of}

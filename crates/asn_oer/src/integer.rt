@@ -1,7 +1,7 @@
 //! INTEGER (X.696, "encoding of integer types"). A reader may leave one integer out, the excluded one: the DEFAULT of a
 //! component, which an encoder does not spell.
 ghost use Rattle.std.specs.Prelude.{◌≡◌, ◌≤ℤ◌, ◌<ℤ◌, ◌+ℤ◌, ◌^◌, pos, Some, None, OnOk, IfSome, IsNone};
-ghost use Rattle.asn_oer.specs.Words.{lowest_integer, highest_integer, FitsNumber, number, integer, InProfile, range_of, Inhabited, AtOctet, IsWithin, unmarked, between, IsOfProfile, TellsWhether, unsigned_octets, signed_size, signed_size_of, fixed_size, oer_octets, ranged, unpacked, IntegersBut, IsBelowZero, IsCounted, ValuesOf, Reads, ReadsSome, StopsIn};
+ghost use Rattle.asn_oer.specs.Words.{lowest_integer, highest_integer, FitsNumber, number, integer, InProfile, range_of, Inhabited, AtOctet, IsWithin, unmarked, between, IsOfProfile, TellsWhether, unsigned_octets, signed_size, signed_size_of, oer_octets, ranged, unpacked, IntegersBut, IsBelowZero, IsCounted, ValuesOf, Reads, ReadsSome, StopsIn};
 
 use asn_bits::BitCursor;
 use asn_bits::internal::{at_offset, at_wide_offset};
@@ -37,7 +37,7 @@ pub(crate) fn unsigned_size(high: i128) -> u32
 
 /// How many octets of two's complement hold the numbers from `low` to `high`, where it is a fixed number: as many as
 /// hold twice the one that is farthest from zero, beside whose bits stands the sign.
-fn signed_size(low: i128, high: i128) -> Option<u32>
+pub(crate) fn signed_size(low: i128, high: i128) -> Option<u32>
     requires low { lowest_integer ≤ℤ low }
     requires high { high ≤ℤ highest_integer }
     ensures { result ≡ signed_size low high }
@@ -47,20 +47,6 @@ fn signed_size(low: i128, high: i128) -> Option<u32>
         Some(unsigned_size(2 * farthest))
     } else {
         None
-    }
-}
-
-/// How many octets each INTEGER from `low` to `high` has, where it is one count for all of them (X.696, "encoding of
-/// integer types"): unsigned from a bound on that is not negative, and else in two's complement.
-pub fn fixed_size(low: i128, high: i128) -> Option<u32>
-    requires low { lowest_integer ≤ℤ low }
-    requires high { high ≤ℤ highest_integer }
-    ensures { result ≡ fixed_size low high }
-{
-    if low >= 0 {
-        Some(unsigned_size(high))
-    } else {
-        signed_size(low, high)
     }
 }
 

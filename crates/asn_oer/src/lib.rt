@@ -3,6 +3,7 @@
 
 mod bit_items;
 mod enumerated;
+mod fixed_sizes;
 mod in_pieces;
 mod integer;
 pub mod internal;

@@ -1,6 +1,6 @@
 //! What Canonical OER reads by itself: the simple types, and the parts of the composite ones.
-ghost use Rattle.std.specs.Prelude.{◌≡◌, ℕ, Some, true, false, not, OnOk, ⊤};
-ghost use Rattle.asn_oer.specs.Words.{truth, Among, Meets, AtOctet, BooleansBut, TruthOctet, truth_octet, Reads, ReadsOctets, StopsIn, ahead_of, oer_coding, mark_of};
+ghost use Rattle.std.specs.Prelude.{◌≡◌, ℕ, OnOk, ⊤};
+ghost use Rattle.asn_oer.specs.Words.{truth, Among, Meets, AtOctet, BooleansBut, TruthOctet, Reads, StopsIn, ahead_of, oer_coding, mark_of};
 
 use crate::enumerated::read_item;
 use crate::integer::{read_integer, try_fixed};
@@ -11,7 +11,7 @@ use asn_bits::internal::at_offset;
 use asn_bits::{BitCursor, Intervals};
 use asn_rules::internal::{
     self, Stop, numbers, offsets_of, read_counted, read_filled, read_length, read_octets,
-    read_octets_among, read_octets_with_length, try_counted_signed, try_octets,
+    read_octets_among, read_octets_with_length, try_counted_signed,
 };
 use asn_rules::{MAX_OCTETS, Why};
 use asn_values::profile::LOWEST_INTEGER;
@@ -186,46 +186,9 @@ pub(crate) fn read_boolean(excluded: Option<bool>, units: &mut BitCursor<'_>) ->
     ensures done { Reads result (λ b. truth b) (BooleansBut excluded) units.old units.new }
     ensures stop { StopsIn result (BooleansBut excluded) units.old }
 {
-    if let Some(left_out) = excluded
-        && try_other(left_out, units)
-    {
-        return Ok(!left_out);
-    }
-    read_truth_octet(excluded, units)
-}
-
-/// The same, where no truth value is excluded or the next octet is not that of the other one.
-fn read_truth_octet(excluded: Option<bool>, units: &mut BitCursor<'_>) -> Result<bool, Stop>
-    requires at_octet { AtOctet units.old }
-    ensures at_octet { OnOk result (AtOctet units.new) }
-    ensures done { Reads result (λ b. truth b) (BooleansBut excluded) units.old units.new }
-    ensures stop { StopsIn result (BooleansBut excluded) units.old }
-{
     let why = Why::in_number(excluded.is_some());
     let octet = read_octets_among(1, truth_octets(excluded), why, units)?;
     Ok(0 < octet)
-}
-
-/// Fast path: whether the next octet is that of the truth value that is not left out, and then takes it; otherwise takes
-/// nothing.
-fn try_other(left_out: bool, units: &mut BitCursor<'_>) -> bool
-    requires at_octet { AtOctet units.old }
-    ensures at_octet { AtOctet units.new }
-    ensures done { result ≡ true → ReadsOctets (BooleansBut (Some left_out)) (truth (not left_out)) units.old units.new }
-    ensures unchanged { result ≡ false → units.new ≡ units.old }
-{
-    let octet = other_octet(left_out);
-    let Some(_) = try_octets(1, numbers(octet, octet), units) else {
-        return false;
-    };
-    true
-}
-
-/// The octet of the truth value that is not left out.
-fn other_octet(left_out: bool) -> u64
-    ensures { result ≡ truth_octet (not left_out) }
-{
-    if left_out { 0 } else { 255 }
 }
 
 /// The octets of the truth values.

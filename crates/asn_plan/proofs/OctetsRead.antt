@@ -1,35 +1,44 @@
 -- Numbers that are told by octets taken at once, by OER.
-use Rattle.std.proofs.Common.{◌≡◌, ◌≤◌, ◌<◌, ◌+◌, ◌-◌, ◌*◌, ◌/◌, ◌%◌, ◌^◌, ◌++◌, ◌∷◌, [], inl, inr, ℕ, zero, suc, ℤ, pos, negsuc, ◌+ℤ◌, ◌≤ℤ◌, Bool, true, false, ◌&&◌, nat_lt, length, List, Option, Some, None, refl, sym, ap, subst, ◌∙◌, append_assoc, length-append, arith}
+use Rattle.std.proofs.Common.{◌≡◌, ◌≤◌, ◌<◌, ◌+◌, ◌-◌, ◌*◌, ◌/◌, ◌%◌, ◌^◌, ◌++◌, ◌∷◌, [], inl, inr, ℕ, zero, suc, ℤ, pos, negsuc, ◌+ℤ◌, ◌≤ℤ◌, Bool, true, false, ◌&&◌, nat_lt, bit_and, length, replicate, List, Option, Some, None, refl, sym, ap, subst, ◌∙◌, append_assoc, length-append, arith}
 use Rattle.std.proofs.lemmas.Bool.{le-leb, lt-ltb, ltb-true, ltb-false, and_from}
 use Rattle.std.proofs.lemmas.Int.{ints}
 use Rattle.std.proofs.lemmas.List.{append-nil}
-use Rattle.std.proofs.lemmas.Nat.{mod-mul-add}
-use Rattle.std.proofs.Math.Nat.{suc-mul, add-mod_left, mod-eq_of_lt}
+use Rattle.std.proofs.lemmas.Nat.{mod-mul-add, and_mask, pow-add}
+use Rattle.std.proofs.Math.Nat.{suc-mul, add-mod_left, mod-eq_of_lt, one-le-pow}
 use Rattle.std.specs.Int.RustNames.{int_le, int_lt}
 use Rattle.asn_values.specs.Datum.{truth, number, item}
 use Rattle.asn_values.specs.Shape.{Shape, Label, boolean, enumerated, more_labels}
 use Rattle.asn_values.specs.View.{shape_of}
-use Rattle.asn_bits.specs.Numbers.{bits, octets, packed, above, magnitude, least_signed}
+use Rattle.asn_bits.specs.Numbers.{bits, octets, packed, padding, above, magnitude, least_signed}
 use Rattle.asn_bits.specs.Sets.{AreBits}
 use Rattle.asn_bits.proofs.Above.{add_within, test_of_le, le_of_test}
 use Rattle.asn_bits.proofs.FilledBits.{unpacked-packed}
 use Rattle.asn_bits.proofs.LengthsInOctets.{one_is}
 use Rattle.asn_bits.proofs.Octets.{all_octets, length-digits, half, residue, signed_is, packed_octets}
-use Rattle.asn_bits.proofs.Splits.{unpacked-octets}
+use Rattle.asn_bits.proofs.Reading.{word_mask}
+use Rattle.asn_bits.proofs.Packing.{bits_zero}
+use Rattle.asn_bits.proofs.Splits.{unpacked-octets, two_pow_octets}
+use Rattle.asn_bits.proofs.Weights.{digits-append}
 use Rattle.asn_rules.specs.Components.{number_at}
 use Rattle.asn_rules.specs.Fields.{spelled}
 use Rattle.asn_rules.specs.IntegerSets.{magnitude_of}
 use Rattle.asn_rules.specs.Languages.{Spells}
 use Rattle.asn_rules.specs.Listed.{Spelt}
+use Rattle.asn_rules.specs.Filled.{filled_bits}
+use Rattle.asn_rules.specs.Forks.{Same}
+use Rattle.asn_rules.specs.OctetReading.{FilledFields}
 use Rattle.asn_rules.proofs.Languages.Parts.{contents-ones}
+use Rattle.asn_rules.proofs.Languages.Spellings.{units_front}
 use Rattle.asn_rules.proofs.Live.Flat.{flat-ones}
 use Rattle.asn_rules.proofs.Octets.Octetwise.{packed_front}
+use Rattle.asn_walk.specs.Coding.{PreambleOf}
 use Rattle.asn_per.specs.Kinds.{between}
 use Rattle.asn_per.proofs.Write.BetweenBounds.{between_fits}
 use Rattle.asn_oer.specs.Oer.{oer, oer_fields, unsigned_octets, ranged as ranged_octets, whole_number, item_number}
-use Rattle.asn_oer.specs.Reading.{fixed_size}
-use Rattle.asn_oer.specs.Walk.{oer_coding}
+use Rattle.asn_oer.specs.FixedSizes.{fixed_size}
+use Rattle.asn_oer.specs.Walk.{oer_coding, mark_of}
 use Rattle.asn_oer.proofs.Law.Integers.{unsigned_cases, below_bound}
+use Rattle.asn_oer.proofs.Read.PreambleReading.{preamble_leads}
 use Rattle.asn_oer.proofs.Write.WrittenNumbers.{some_same, unsigned_form, signed_form, signed_room}
 use Rattle.asn_plan.specs.Enumerations.{IsEnumeration, AreInRow, root_items_of, other_items_of}
 use Rattle.asn_plan.specs.Ranged.{ranged, held_in, IsRanged, InOctets}
@@ -59,6 +68,10 @@ octets_taken old new k n us e =
     ap (λ (t : List ℕ). t ++ us) (units_are_octets old.left old.bits ∙ ap packed e ∙ packed_number k n rest) ∙ append_assoc (octets k n) (packed rest) us
     ∙ ap (λ (t : List ℕ). octets k n ++ (t ++ us)) (sym (units_are_octets new.left new.bits))
 
+digits_bits : (k n : ℕ) → AreBits (bits k n)
+digits_bits zero n = tt
+digits_bits (suc k) n = (omega arith, digits_bits k n)
+
 -- bits that fill octets, in front of others
 pub packed_both : (xs ys : List ℕ) → AreBits xs → length xs % 8 ≡ 0 → packed (xs ++ ys) ≡ packed xs ++ packed ys
 packed_both xs ys b whole = ap (λ (l : List ℕ). packed (l ++ ys)) (sym (unpacked-packed xs b whole)) ∙ packed_front (packed xs) ys (packed_octets xs b)
@@ -85,6 +98,34 @@ word_in_front w old new whole e =
 pub octets_after : (n m : ℕ) (old new : List ℕ) → n % 8 ≡ 0 → old ≡ bits n m ++ new → length old % 8 ≡ 0 → length new % 8 ≡ 0
 octets_after n m old new whole e h = omega (arith, whole, h, ap length e, length-append (bits n m) new, length-digits 2 n m)
 
+-- ---- the preamble of a SEQUENCE
+
+-- the bits of two numbers, and the zeros that fill up the last octet
+pub preamble_held : (a : Option ℕ) (n mark m : ℕ) (r : ℕ × ℕ) (old mid new last : Word) (us : List ℕ) → r ≡ mark_of a → mark ≤ r.1 → m < 2 ^ n
+    → bits old.left old.bits ≡ bits r.0 mark ++ bits mid.left mid.bits → bits mid.left mid.bits ≡ bits n m ++ bits new.left new.bits
+    → bits new.left new.bits ≡ bits ((8 - (r.0 + n) % 8) % 8) 0 ++ bits last.left last.bits
+    → Spells oer_fields (PreambleOf oer_coding n a) (nat_lt 0 mark, m) (before oer_coding old us) (before oer_coding last us)
+preamble_held a n mark m r old mid new last us is few fits e f g =
+    let k = r.0 in
+    let z = (8 - (k + n) % 8) % 8 in
+    let ys = bits k mark ++ bits n m in
+    let xs = ys ++ bits z 0 in
+    let count : length ys ≡ k + n = omega (arith, length-append (bits k mark) (bits n m), length-digits 2 k mark, length-digits 2 n m) in
+    let whole : length xs % 8 ≡ 0 = omega (arith, count, length-append ys (bits z 0), length-digits 2 z 0) in
+    let are : AreBits xs = digits-append 2 ys (bits z 0) (digits-append 2 (bits k mark) (bits n m) (digits_bits k mark) (digits_bits n m)) (digits_bits z 0) in
+    let rest = bits last.left last.bits in
+    let all : bits old.left old.bits ≡ xs ++ rest =
+    e ∙ ap (λ (t : List ℕ). bits k mark ++ t) (f ∙ ap (λ (t : List ℕ). bits n m ++ t) g) ∙ sym (append_assoc (bits k mark) (bits n m) (bits z 0 ++ rest)) ∙ sym (append_assoc ys (bits z 0) rest) in
+    let zeros : bits z 0 ≡ padding (length ys) = bits_zero z ∙ ap (λ (i : ℕ). replicate ((8 - i % 8) % 8) 0) (sym count) in
+    let code = λ (q : ℕ × ℕ). filled_bits (bits k q.0 ++ bits n q.1) in
+    let filled : packed xs ≡ code (mark, m) = ap (λ (t : List ℕ). packed (ys ++ t)) zeros in
+    let split : before oer_coding old us ≡ code (mark, m) ++ before oer_coding last us =
+    filled_taken old last xs us are whole all ∙ ap (λ (t : List ℕ). t ++ before oer_coding last us) filled in
+    let same : Same (FilledFields k r.1 n 0) (FilledFields k r.1 n 0) = record { to = λ q cs h. h; from = λ q cs h. h } in
+    let read : Spells oer_fields (FilledFields r.0 r.1 n 0) (mark, m) (before oer_coding old us) (before oer_coding last us) =
+    subst (λ (l : List ℕ). Spells oer_fields (FilledFields k r.1 n 0) (mark, m) l (before oer_coding last us)) (sym split) (units_front code oer_fields same (mark, m) (few, omega arith, fits) (before oer_coding last us)) in
+    (preamble_leads n a (before oer_coding old us)).done (mark, m) (before oer_coding last us) (subst (λ (q : ℕ × ℕ). Spells oer_fields (FilledFields q.0 q.1 n 0) (mark, m) (before oer_coding old us) (before oer_coding last us)) is read)
+
 -- ---- INTEGER
 
 -- how far one number lies above another, where k octets hold both, is told by the last k octets of their difference
@@ -108,6 +149,20 @@ offset_is least n w p q l f whole is = go (nat_lt n least) refl
         let off : w % p ≡ n - least = ap (λ (i : ℕ). i % p) far ∙ mod-eq_of_lt (omega (arith, f)) in
         let sum : least + w % p ≡ n = omega (arith, off, above) in
         ap (λ (i : ℕ). i % p) sum ∙ mod-eq_of_lt f
+
+-- the difference as the program has it
+pub offset_held : (least n k : ℕ) → k ≤ 8 → least < 256 ^ k → n < 256 ^ k
+    → (least + bit_and ((n + (18446744073709551616 - least)) % 18446744073709551616) (18446744073709551615 / 2 ^ (64 - 8 * k))) % 256 ^ k ≡ n
+offset_held least n k few l f =
+    let w = (n + (18446744073709551616 - least)) % 18446744073709551616 in
+    let q = 256 ^ (8 - k) - 1 in
+    let some : 1 ≤ 256 ^ (8 - k) = one-le-pow (8 - k) 256 (omega arith) in
+    let one_more : 256 ^ (8 - k) ≡ suc q = omega (arith, some) in
+    let whole : 8 - k + k ≡ 8 = omega (arith, few) in
+    let all : 256 ^ (8 - k) * 256 ^ k ≡ 18446744073709551616 = sym (pow-add 256 (8 - k) k) ∙ ap (λ (i : ℕ). 256 ^ i) whole in
+    let masked : bit_and w (18446744073709551615 / 2 ^ (64 - 8 * k)) ≡ w % 256 ^ k =
+    ap (bit_and w) (word_mask (8 * k) (omega (arith, few))) ∙ and_mask w (8 * k) ∙ ap (λ (t : ℕ). w % t) (sym (two_pow_octets k)) in
+    ap (λ (i : ℕ). (least + i) % 256 ^ k) masked ∙ offset_is least n w (256 ^ k) q l f (subst (λ (i : ℕ). i * 256 ^ k ≡ 18446744073709551616) one_more all) refl
 
 -- the k octets of an integer from low on: those of low, and how far it lies above it
 held_again : (l k off n : ℕ) (z : ℤ) → 1 ≤ k → z ≡ (negsuc l +ℤ pos off) → magnitude z < 2 ^ (8 * k - 1) → l < 2 ^ (8 * k - 1) → (256 ^ k - 1 - l + off) % 256 ^ k ≡ n → residue k z ≡ n

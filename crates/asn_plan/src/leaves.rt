@@ -1,7 +1,7 @@
 //! What the rules read by themselves, for one node of a plan.
 ghost use Rattle.std.specs.Prelude.{◌≡◌, ◌≤◌, ◌<◌, ◌^◌, ◌≤ℤ◌, Some, IfSome, IsNone, IsSome, true, false};
 ghost use Rattle.asn_bits.specs.Numbers.{magnitude};
-ghost use Rattle.asn_oer.specs.Reading.{fixed_size};
+ghost use Rattle.asn_oer.specs.FixedSizes.{fixed_size};
 ghost use Rattle.asn_values.specs.Fits.{lowest_integer, highest_integer};
 ghost use Rattle.asn_values.specs.Datum.{truth, item};
 ghost use Rattle.asn_walk.specs.Coding.{AreFew};

@@ -12,6 +12,7 @@ mod items;
 mod leaves;
 mod lists;
 mod message;
+mod octets;
 mod of;
 mod open;
 mod packed;

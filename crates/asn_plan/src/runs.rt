@@ -1,5 +1,6 @@
 //! How many units may be taken at once, where values are told by numbers of bits or by octets.
 use crate::items::{are_ordered, first_in_row};
+use crate::octets::MOST_OCTETS;
 use crate::plan::Node;
 use crate::word::Run;
 use asn_bits::internal::width;
@@ -9,9 +10,6 @@ use asn_values::{AsnType, Bounds, Field, Item, Need};
 
 /// The most bits that are taken at once: so many stand in 64 bits, whatever bit they begin at.
 const MOST_BITS: u32 = 56;
-
-/// The most octets that are taken at once.
-const MOST_OCTETS: u32 = 7;
 
 /// What is counted.
 #[derive(Clone, Copy)]

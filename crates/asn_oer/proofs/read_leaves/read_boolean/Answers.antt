@@ -2,7 +2,7 @@ use Rattle.std.proofs.lemmas.Result.{err_from_is_err_and}
 use Rattle.asn_bits.specs.Numbers.{packed}
 use Rattle.asn_rules.proofs.Languages.Leads.{stops_by}
 use Rattle.asn_oer.proofs.Read.TruthReading.{truth_leads}
-use Rattle.asn_oer.proofs.read_leaves.read_truth_octet.Goals as goal
+use Rattle.asn_oer.proofs.read_leaves.read_boolean.Goals as goal
 
 pub returns-in_err-octet-clause-stop : goal.returns-in_err-octet-clause-stop
 returns-in_err-octet-clause-stop c =

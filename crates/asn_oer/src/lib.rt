@@ -15,6 +15,7 @@ mod single_items;
 mod string_reader;
 mod tags;
 mod text_items;
+mod truths;
 mod write_leaves;
 
 pub use rules::Oer;

@@ -1,5 +1,5 @@
 -- Numbers that are told by octets taken at once, by OER.
-use Rattle.std.proofs.Common.{◌≡◌, ◌≤◌, ◌<◌, ◌+◌, ◌-◌, ◌*◌, ◌/◌, ◌%◌, ◌^◌, ◌++◌, ◌∷◌, [], inl, inr, ℕ, zero, suc, ℤ, pos, negsuc, ◌+ℤ◌, ◌≤ℤ◌, Bool, true, false, ◌&&◌, nat_lt, bit_and, length, replicate, List, Option, Some, None, refl, sym, ap, subst, ◌∙◌, append_assoc, length-append, arith}
+use Rattle.std.proofs.Common.{◌≡◌, ◌≤◌, ◌<◌, ◌+◌, ◌-◌, ◌*◌, ◌/◌, ◌%◌, ◌^◌, ◌++◌, ◌∷◌, [], inl, inr, ℕ, zero, suc, ℤ, pos, negsuc, ◌+ℤ◌, ◌≤ℤ◌, ◌<ℤ◌, Bool, true, false, ◌&&◌, nat_lt, bit_and, length, replicate, List, Option, Some, None, refl, sym, ap, subst, ◌∙◌, append_assoc, length-append, arith}
 use Rattle.std.proofs.lemmas.Bool.{le-leb, lt-ltb, ltb-true, ltb-false, and_from}
 use Rattle.std.proofs.lemmas.Int.{ints}
 use Rattle.std.proofs.lemmas.List.{append-nil}
@@ -7,6 +7,7 @@ use Rattle.std.proofs.lemmas.Nat.{mod-mul-add, and_mask, pow-add}
 use Rattle.std.proofs.Math.Nat.{suc-mul, add-mod_left, mod-eq_of_lt, one-le-pow}
 use Rattle.std.specs.Int.RustNames.{int_le, int_lt}
 use Rattle.asn_values.specs.Datum.{truth, number, item}
+use Rattle.asn_values.specs.Fits.{lowest_integer, highest_integer}
 use Rattle.asn_values.specs.Shape.{Shape, Label, boolean, enumerated, more_labels}
 use Rattle.asn_values.specs.View.{shape_of}
 use Rattle.asn_bits.specs.Numbers.{bits, octets, packed, padding, above, magnitude, least_signed}
@@ -225,14 +226,33 @@ number_held r n off us vs good held e few split =
       split = split ∙ ap (λ (t : List ℕ). t ++ vs) (sym (flat-ones spelled (whole_number (between low high r.marked) z) ∙ same));
     }
 
--- which have room in them
-pub bound_fits : (low high : ℤ) (k : ℕ) → fixed_size low high ≡ Some k → low ≤ℤ high → (magnitude low < 256 ^ k) × (held_in k low < 256 ^ k) × (k ≤ 8)
+-- the low bound has room in the octets of its range
+pub record LowHeld (low : ℤ) (k : ℕ) : Type 0 where
+  pub some : low <ℤ pos 0 → 1 ≤ k
+  pub few : k ≤ 8
+  pub room : magnitude low < 256 ^ k
+  pub held : held_in k low < 256 ^ k
+
+pub bound_fits : (low high : ℤ) (k : ℕ) → fixed_size low high ≡ Some k → low ≤ℤ high → LowHeld low k
 bound_fits (pos l) high k size order =
-    let few = unsigned_room (pos l) high (pos l) k (le-leb 0 l (omega arith)) size (omega (arith, ints)) order in
-    (few, few, elim (unsigned_cases high) [ inl w ↦ (let same : w.0 ≡ k = some_same (sym w.1 ∙ size) in omega (arith, w.3, same)) | inr w ↦ absurd (cc (w, size)) ])
+    let room = unsigned_room (pos l) high (pos l) k (le-leb 0 l (omega arith)) size (omega (arith, ints)) order in
+    let few : k ≤ 8 = elim (unsigned_cases high) [ inl w ↦ (let same : w.0 ≡ k = some_same (sym w.1 ∙ size) in omega (arith, w.3, same)) | inr w ↦ absurd (cc (w, size)) ] in
+    record { some = λ h. absurd (omega (arith, ints, h)); few = few; room = room; held = room }
 bound_fits (negsuc l) high k size order =
     let room = signed_room (negsuc l) high (negsuc l) k size (le-leb l l (omega arith)) (test_of_le (negsuc l) high order) in
-    (omega (arith, room.room, half k room.some), omega (arith, room.room, half k room.some), room.few)
+    record { some = λ h. room.some; few = room.few; room = omega (arith, room.room, half k room.some); held = omega (arith, room.room, half k room.some) }
+
+-- an integer of the type is one of the profile
+pub offset_within : (r : Ranged) (off : ℕ) → IsRanged r → off ≤ r.highest → (lowest_integer ≤ℤ (r.low +ℤ pos off)) × ((r.low +ℤ pos off) ≤ℤ highest_integer)
+offset_within r off good few =
+    let w = within r good in
+    let below : off ≤ above r.low r.high = omega (arith, few, good.highest) in
+    let most : (r.low +ℤ pos off) ≤ℤ r.high = add_within r.low r.high off w.1 below in
+    (omega (arith, ints, w.0), omega (arith, ints, most, w.2))
+
+-- the octets of the low bound are no more than they hold
+pub least_fits : (r : Ranged) → IsRanged r → InOctets r → r.least < 256 ^ r.octets
+least_fits r good held = omega (arith, held.least, (bound_fits r.low r.high r.octets held.size (within r good).1).held)
 
 -- ---- BOOLEAN
 

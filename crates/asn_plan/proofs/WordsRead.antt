@@ -13,7 +13,7 @@ use Rattle.asn_rules.specs.Languages.{Spells}
 use Rattle.asn_rules.specs.Listed.{Spelt}
 use Rattle.asn_rules.proofs.Languages.Parts.{contents-ones}
 use Rattle.asn_rules.proofs.Live.Flat.{flat-ones}
-use Rattle.asn_walk.specs.Coding.{PreambleOf}
+use Rattle.asn_walk.specs.Coding.{Coding, PreambleOf}
 use Rattle.asn_per.specs.Kinds.{position_of}
 use Rattle.asn_per.specs.Per.{per, per_fields, spelled}
 use Rattle.asn_per.specs.Walk.{per_coding}
@@ -33,6 +33,10 @@ taken_first m left after count n e is =
     let split : bits left m ≡ bits count (m / 2 ^ after) ++ bits after m = ap (λ (k : ℕ). bits k m) all ∙ digits-add 2 count after m in
     let same : bits count n ≡ bits count (m / 2 ^ after) = ap (bits count) is ∙ digits-mod 2 (omega arith) count (m / 2 ^ after) in
     split ∙ ap (λ (t : List ℕ). t ++ bits after m) (sym same)
+
+-- an empty word has no units
+pub nothing_left : (c : Coding) (w : Word) (us : List ℕ) → w.left ≡ 0 → before c w us ≡ us
+nothing_left c w us e = ap (λ (n : ℕ). units_in c n w.bits ++ us) e
 
 -- the units of a word are its bits
 pub units_are_bits : (n m : ℕ) → units_in per_coding n m ≡ bits n m

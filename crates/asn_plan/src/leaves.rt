@@ -1,5 +1,5 @@
 //! What the rules read by themselves, for one node of a plan.
-ghost use Rattle.std.specs.Prelude.{◌≡◌, ◌≤◌, ◌<◌, ◌^◌, ◌≤ℤ◌, Some, IfSome, IsNone, IsSome, true, false};
+ghost use Rattle.std.specs.Prelude.{◌≡◌, ◌≤◌, ◌<◌, ◌^◌, ◌≤ℤ◌, ◌<ℤ◌, pos, Some, IfSome, IsNone, IsSome, true, false};
 ghost use Rattle.asn_bits.specs.Numbers.{magnitude};
 ghost use Rattle.asn_oer.specs.FixedSizes.{fixed_size};
 ghost use Rattle.asn_values.specs.Fits.{lowest_integer, highest_integer};
@@ -201,6 +201,7 @@ fn in_octets(marked: bool, low: i128, high: i128) -> (u32, u64)
 fn held_in(octets: u32, integer: i128) -> u64
     requires low { lowest_integer ≤ℤ integer }
     requires high { integer ≤ℤ highest_integer }
+    requires some { integer <ℤ pos 0 → 1 ≤ octets }
     requires few { octets ≤ 8 }
     requires room { magnitude integer < 256 ^ octets }
     ensures { result ≡ held_in octets integer }
@@ -208,11 +209,7 @@ fn held_in(octets: u32, integer: i128) -> u64
     if integer >= 0 {
         return integer as u64;
     }
-    let below = (-1 - integer) as u64;
-    match octets {
-        8 => u64::MAX - below,
-        _ => (1 << (8 * octets)) - 1 - below,
-    }
+    (u64::MAX >> (64 - 8 * octets)) - (-1 - integer) as u64
 }
 
 /// The type of these bounds.

@@ -1,8 +1,6 @@
 //! Numbers told one after the other by bits that were taken at once.
-ghost use Rattle.std.specs.Prelude.{◌≡◌, ◌<◌, ◌^◌, ◌++◌, ℕ, List, IfSome, IsTrue};
+ghost use Rattle.std.specs.Prelude.{◌≡◌, ◌<◌, ◌^◌, ◌++◌, IfSome, IsTrue};
 ghost use Rattle.asn_bits.specs.Numbers.{bits};
-ghost use Rattle.asn_walk.specs.Coding.{Coding};
-ghost use Rattle.asn_plan.specs.Words.{before};
 
 use crate::word::Word;
 
@@ -24,8 +22,7 @@ impl Word {
     /// No bits.
     #[inline(always)]
     pub fn none() -> Word
-        ensures same { (c : Coding) (us : List ℕ) → before c result us ≡ us }
-        ensures none { result.left ≡ 0 }
+        ensures { result.left ≡ 0 }
     {
         Word { bits: 0, left: 0 }
     }
@@ -33,7 +30,7 @@ impl Word {
     /// Whether no bit is left.
     #[inline(always)]
     pub fn is_empty(&self) -> bool
-        ensures { IsTrue result → (c : Coding) (us : List ℕ) → before c self.now us ≡ us }
+        ensures { IsTrue result → self.now.left ≡ 0 }
     {
         self.left == 0
     }

@@ -26,6 +26,7 @@ use Rattle.asn_plan.proofs.Messages.{whole_message, field_read, turned_true, tur
 use Rattle.asn_plan.proofs.NodeKinds.{if_some, number_is, truth_is, item_is, leaf_is, sequence_is, list_is, choice_is}
 use Rattle.asn_plan.proofs.Rows.{row_begins, row_further, listed_starts, listed_further, listed_ends, list_read}
 use Rattle.asn_plan.specs.Words.{before}
+use Rattle.asn_plan.proofs.WordsRead.{nothing_left}
 use Rattle.asn_plan.proofs.+walk.Goals as goal
 
 pub walk::build_at-returns-in-Some-clause-some : goal.walk::build_at-returns-in-Some-clause-some
@@ -81,13 +82,13 @@ components::build_components-returns-clause-some g t c root good p width =
     let r = g.R.ReadLeaves.rules in
     let e = c.loop-part.invariant.0.goes root good p width in
     let all = goes_ends e.2 (drop_all c.loop-part.part-index c.args.parts.now c.loop-part-test.false) in
-    let none = c.is_empty.ensures c.if-not-is_empty.false r (r.to_units c.loop-part.units) in
+    let none = nothing_left r c.loop-part.word (r.to_units c.loop-part.units) (c.is_empty.ensures c.if-not-is_empty.false) in
     record { entries = e.0; of_entries = e.1; read = rw none at all }
 
 pub components::build_part-returns-clause-some : goal.components::build_part-returns-clause-some
 components::build_part-returns-clause-some g t c some s =
     let r = g.R.ReadLeaves.rules in
-    let none = c.is_empty.ensures c.if-not-is_empty.false r in
+    let none = λ (us : List ℕ). nothing_left r c.fill.new.word us (c.is_empty.ensures c.if-not-is_empty.false) in
     rw (c.fill.ensures.same, none (r.to_units c.fill.new.units), none (r.to_units c.build_component.new.units)) (c.build_component.ensures.some some s)
 
 pub components::build_part-returns-then-not-is_empty-clause-some : goal.components::build_part-returns-then-not-is_empty-clause-some

@@ -133,25 +133,25 @@ pub record Builds {P : Type 0} (c : Coding) (built : P → Datum → Type 0) (t 
   pub of_value : built p value
   pub read : Reads c (ValuesOf c t) value old new
 
--- from a word, after which these units stand, a value of the type was read, of which this part was built
-pub record BuildsNext {P : Type 0} (c : Coding) (built : P → Datum → Type 0) (t : Shape) (p : P) (old new : Word)
-    (us : List ℕ) : Type 0 where
+-- from units, a word's and those after it, a value of the type was read, of which this part was built
+pub record BuildsNext {P : Type 0} (c : Coding) (built : P → Datum → Type 0) (t : Shape) (p : P) (us vs : List ℕ)
+    : Type 0 where
   pub value : Datum
   pub of_value : built p value
-  pub read : Spells c.ruling.fielding (ValuesOf c t) value (before old us) (before new us)
+  pub read : Spells c.ruling.fielding (ValuesOf c t) value us vs
 
 -- a string of the type, whose bits are those of the number, was read from a word, whatever units stand after it
 pub record TellsString (c : Coding) (t : Shape) (f : FixedString) (n : ℕ) (old new : Word) : Type 0 where
   pub value : Datum
   pub is : IsStringOf f n value
-  pub read : (us : List ℕ) → Spells c.ruling.fielding (ValuesOf c t) value (before old us) (before new us)
+  pub read : (us : List ℕ) → Spells c.ruling.fielding (ValuesOf c t) value (before c old us) (before c new us)
 
 -- the same of components that all have to be there
 pub record BuildsNumbers {P : Type 0} (c : Coding) (listed : P → List (Option Datum) → Type 0) (root : Fields) (p : P)
-    (old new : Word) (us : List ℕ) : Type 0 where
+    (us vs : List ℕ) : Type 0 where
   pub entries : List (Option Datum)
   pub of_entries : listed p entries
-  pub read : Spells c.ruling.fielding (Listed c.code root []) entries (before old us) (before new us)
+  pub read : Spells c.ruling.fielding (Listed c.code root []) entries us vs
 
 -- Of components, of which the first is one that the node is of, an entry was read, and put after those that were there
 -- before. P says which these were, N which there are now; left is how many presence bits there were, after how many

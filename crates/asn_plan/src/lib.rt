@@ -13,6 +13,7 @@ mod items;
 mod leaves;
 mod lists;
 mod message;
+mod octets;
 mod of;
 mod open;
 mod packed;
@@ -37,11 +38,11 @@ pub use of::plan_of;
 pub use place::Place;
 pub use plan::{
     AlternativeRows, Between, ComponentRows, ElementRow, Items, Kind, Leaf, Node, Plan, Presence,
-    Run, WithDefault,
+    Runs, WithDefault,
 };
 pub use planned::Planned;
 pub use ranged::Ranged;
 pub use reused::{ChoiceOver, ElementsOver, Reused, Spare};
 pub use rules::{PlanLeaves, PlanRules};
 pub use walk::build_at;
-pub use word::Word;
+pub use word::{Run, Word};

@@ -15,7 +15,7 @@ use crate::copies::copy_simple;
 use crate::items::items_of;
 use crate::leaves::{between_of, fixed_of};
 use crate::plan::{
-    AlternativeRows, ComponentRows, ElementRow, Kind, Leaf, Node, Plan, Presence, Run, WithDefault,
+    AlternativeRows, ComponentRows, ElementRow, Kind, Leaf, Node, Plan, Presence, Runs, WithDefault,
 };
 use crate::runs::{head_of, run_of};
 use asn_values::{Alt, AsnType, Checked, Field, Need, Size};
@@ -145,7 +145,7 @@ fn place_element(kind: Kind, size: Size, nodes: &mut Vec<Node>) -> Result<Kind, 
     nodes.push(Node {
         presence: Presence::Must,
         kind,
-        run: Run::none(),
+        run: Runs::none(),
     })?;
     Ok(Kind::List(ElementRow { size, element }))
 }
@@ -168,7 +168,7 @@ fn alternatives_of(
         parts.push(Node {
             presence: Presence::Must,
             kind,
-            run: Run::none(),
+            run: Runs::none(),
         })?;
     }
     Ok(parts)

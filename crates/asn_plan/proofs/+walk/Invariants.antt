@@ -23,7 +23,7 @@ decreases-components::build_sequence g l = 8 * length l.nodes.now
 
 abbrev pub invariant-components::build_components-loop-at : goal.invariant-components::build_components-loop-at
 invariant-components::build_components-loop-at g l =
-    BuiltUpTo g.R.ReadLeaves.rules (g.B.Build.listed l.fn.room l.room l.entries) l.nodes l.parts (drop l.at l.parts) l.fn.presence.left l.fn.presence.bitmap l.presence.left (before l.fn.word (g.R.ReadLeaves.rules.to_units l.fn.units)) (before l.word (g.R.ReadLeaves.rules.to_units l.units))
+    BuiltUpTo g.R.ReadLeaves.rules (g.B.Build.listed l.fn.room l.room l.entries) l.nodes l.parts (drop l.at l.parts) l.fn.presence.left l.fn.presence.bitmap l.presence.left (before g.R.ReadLeaves.rules l.fn.word (g.R.ReadLeaves.rules.to_units l.fn.units)) (before g.R.ReadLeaves.rules l.word (g.R.ReadLeaves.rules.to_units l.units))
     × (l.presence.bitmap ≡ l.fn.presence.bitmap) × g.R.ReadLeaves.rules.at_unit l.units
 
 abbrev pub decreases-components::build_components-loop-at : goal.decreases-components::build_components-loop-at

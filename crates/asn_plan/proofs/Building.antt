@@ -14,25 +14,7 @@ use Rattle.asn_walk.specs.Coding.{Coding, PreambleOf, absent_entries, added}
 use Rattle.asn_walk.specs.Laws.{Laws}
 use Rattle.asn_walk.proofs.SequencesRead.{none_added}
 use Rattle.asn_plan.specs.declared.plan.Node.{Node}
-use Rattle.asn_plan.specs.Plans.{ArePlans, ArePlansOfMore, BuildsEntry, absents, row}
-
--- the components that are left, of which these nodes are plans, and what is read of all once these are read
-pub record GoesOn (c : Coding) (ns rest : List Node) (root : Fields) (count bitmap left : ℕ) (us : List ℕ)
-    (es : List (Option Datum)) (vs : List ℕ) : Type 0 where
-  pub fields : Fields
-  pub good : AreOfProfile fields
-  pub plans : ArePlans ns rest fields
-  pub width : left ≡ bitmap_length fields
-  pub on : (gs : List (Option Datum)) (ws : List ℕ)
-      → Spells c.ruling.fielding (Listed c.code fields (bits left bitmap)) gs vs ws
-      → Spells c.ruling.fielding (Listed c.code root (bits count bitmap)) (es ++ gs) us ws
-
--- the same of all components that these nodes are plans of, where the entries that are read are such
-pub record BuiltUpTo (c : Coding) (P : List (Option Datum) → Type 0) (ns parts rest : List Node)
-    (count bitmap left : ℕ) (us vs : List ℕ) : Type 0 where
-  pub few : left ≤ 64
-  pub goes : (root : Fields) → AreOfProfile root → ArePlans ns parts root → count ≡ bitmap_length root
-      → (es : List (Option Datum)) × P es × GoesOn c ns rest root count bitmap left us es vs
+use Rattle.asn_plan.specs.Plans.{ArePlans, ArePlansOfMore, BuildsEntry, BuiltUpTo, GoesOn, absents, row}
 
 pub built_starts : (c : Coding) (P : List (Option Datum) → Type 0) (ns parts : List Node) (count bitmap : ℕ)
     (us : List ℕ) → count ≤ 64 → P [] → BuiltUpTo c P ns parts parts count bitmap count us us

@@ -1,6 +1,12 @@
 -- What a value takes, as its entries and elements are added one after the other.
-use Rattle.std.proofs.Common.{◌≡◌, ◌+◌, List, [], ◌∷◌, ◌++◌, Option, Some, None, refl, arith}
-use Rattle.asn_values.specs.Datum.{Datum, components, components_of, elements, elements_of}
+use Rattle.std.proofs.Common.{◌≡◌, ◌+◌, ◌∙◌, ℕ, List, [], ◌∷◌, ◌++◌, length, Option, Some, None, refl, sym, ap, arith}
+use Rattle.std.proofs.lemmas.List.{length-map}
+use Rattle.asn_values.specs.Datum.{Datum, bit_list, octet_list, components, components_of, elements, elements_of}
+use Rattle.asn_bits.specs.Sink.{bit_of}
+use Rattle.asn_bits.proofs.Octets.{length-digits}
+use Rattle.asn_bits.proofs.Prefixes.{given_length}
+use Rattle.asn_plan.specs.FixedStrings.{IsStringOf}
+use Rattle.asn_plan.specs.declared.fixed.FixedString.{FixedString}
 use Rattle.asn_plan.specs.Taken.{entries_of, entries_of_components, entries_of_elements, octets_of, octets_of_components, octets_of_elements, Takes}
 use Rattle.asn_plan.specs.declared.budget.Taken.{Taken}
 
@@ -88,3 +94,12 @@ element_counted n m p ds d e o t q =
     let a : m.entries ≡ 1 + entries_of_elements (elements_of (ds ++ d ∷ [])) = omega (arith, e, t.0, q.0, entries_element ds d) in
     let b : m.octets ≡ octets_of_elements (elements_of (ds ++ d ∷ [])) = omega (arith, o, t.1, q.1, octets_element ds d) in
     (a, b)
+
+-- ---- a string of one length
+
+pub string_counted : (f : FixedString) (n : ℕ) (k : Taken) (d : Datum) → k.entries ≡ 1 → k.octets ≡ f.length
+    → IsStringOf f n d → Takes k d
+string_counted f n k (bit_list bs) one many is =
+    (one, many ∙ sym (sym (length-map bs bit_of) ∙ ap length is.1 ∙ given_length f.length n))
+string_counted f n k (octet_list os) one many is = (one, many ∙ sym (ap length is.1 ∙ length-digits 256 f.length n))
+string_counted f n k _ one many is = absurd is

@@ -34,21 +34,21 @@ pub leaf_plan : (ns : List Node) (t : Shape) (k : Kind) → IsLeafPlan k t → I
 leaf_plan ns (sequence root more) (kind.Number b) p = absurd (let e : sequence root more ≡ ranged b.range = p in cc)
 leaf_plan ns (sequence root more) kind.Truth p = absurd (let e : sequence root more ≡ boolean = p in cc)
 leaf_plan ns (sequence root more) (kind.Item i) p = no_truth (let e : sequence root more ≡ shape_of i.of.ty = p in rw (← e) at i.is_enumeration.is)
-leaf_plan ns (sequence root more) (kind.Leaf l) p = no_truth (let e : sequence root more ≡ shape_of l.ty = p in rw (← e) at l.simple)
+leaf_plan ns (sequence root more) (kind.Leaf l) p = no_truth (let e : sequence root more ≡ shape_of l.ty = p.0 in rw (← e) at l.simple)
 leaf_plan ns (sequence root more) (kind.Sequence s) p = absurd p
 leaf_plan ns (sequence root more) (kind.List l) p = absurd p
 leaf_plan ns (sequence root more) (kind.Choice a) p = absurd p
 leaf_plan ns (sequence_of t s) (kind.Number b) p = absurd (let e : sequence_of t s ≡ ranged b.range = p in cc)
 leaf_plan ns (sequence_of t s) kind.Truth p = absurd (let e : sequence_of t s ≡ boolean = p in cc)
 leaf_plan ns (sequence_of t s) (kind.Item i) p = no_truth (let e : sequence_of t s ≡ shape_of i.of.ty = p in rw (← e) at i.is_enumeration.is)
-leaf_plan ns (sequence_of t s) (kind.Leaf l) p = no_truth (let e : sequence_of t s ≡ shape_of l.ty = p in rw (← e) at l.simple)
+leaf_plan ns (sequence_of t s) (kind.Leaf l) p = no_truth (let e : sequence_of t s ≡ shape_of l.ty = p.0 in rw (← e) at l.simple)
 leaf_plan ns (sequence_of t s) (kind.Sequence q) p = absurd p
 leaf_plan ns (sequence_of t s) (kind.List l) p = absurd p
 leaf_plan ns (sequence_of t s) (kind.Choice a) p = absurd p
 leaf_plan ns (choice root more) (kind.Number b) p = absurd (let e : choice root more ≡ ranged b.range = p in cc)
 leaf_plan ns (choice root more) kind.Truth p = absurd (let e : choice root more ≡ boolean = p in cc)
 leaf_plan ns (choice root more) (kind.Item i) p = no_truth (let e : choice root more ≡ shape_of i.of.ty = p in rw (← e) at i.is_enumeration.is)
-leaf_plan ns (choice root more) (kind.Leaf l) p = no_truth (let e : choice root more ≡ shape_of l.ty = p in rw (← e) at l.simple)
+leaf_plan ns (choice root more) (kind.Leaf l) p = no_truth (let e : choice root more ≡ shape_of l.ty = p.0 in rw (← e) at l.simple)
 leaf_plan ns (choice root more) (kind.Sequence q) p = absurd p
 leaf_plan ns (choice root more) (kind.List l) p = absurd p
 leaf_plan ns (choice root more) (kind.Choice a) p = absurd p

@@ -6,9 +6,12 @@ pub mod Entries
 pub mod Growing
 pub mod LeafTypes
 pub mod Messages
+pub mod OctetsRead
 pub mod NodeKinds
 pub mod Placing
 pub mod RangedRead
 pub mod Rows
+pub mod OpenHere
 pub mod Ordered
+pub mod StringsRead
 pub mod WordsRead

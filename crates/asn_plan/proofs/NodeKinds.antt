@@ -16,7 +16,7 @@ use Rattle.asn_plan.specs.declared.plan.Items.{Items}
 use Rattle.asn_plan.specs.declared.plan.Kind.TheVariants as kind
 use Rattle.asn_plan.specs.declared.plan.Leaf.{Leaf}
 use Rattle.asn_plan.specs.declared.plan.Node.{Node}
-use Rattle.asn_plan.specs.Plans.{IsPlan, ArePlans, ArePlansOfMore, ArePlansOfEach, ArePlansOfOthers, row}
+use Rattle.asn_plan.specs.Plans.{IsLeafPlan, IsPlan, ArePlans, ArePlansOfMore, ArePlansOfEach, ArePlansOfOthers, row}
 
 -- what is said of a part, if there is one, is said of it otherwise
 pub if_some : {A : Type 0} (o : Option A) (P Q : A → Type 0) → ((a : A) → P a → Q a) → IfSome o P → IfSome o Q
@@ -41,7 +41,7 @@ item_is ns (sequence_of u s) e p = absurd p
 item_is ns (choice root more) e p = absurd p
 item_is ns t e p = p
 
-pub leaf_is : (ns : List Node) (t : Shape) (l : Leaf) → IsPlan ns t (kind.Leaf l) → t ≡ shape_of l.ty
+pub leaf_is : (ns : List Node) (t : Shape) (l : Leaf) → IsPlan ns t (kind.Leaf l) → IsLeafPlan (kind.Leaf l) t
 leaf_is ns (sequence root more) l p = absurd p
 leaf_is ns (sequence_of u s) l p = absurd p
 leaf_is ns (choice root more) l p = absurd p

@@ -1,6 +1,7 @@
 -- Which types the nodes of a plan stand for, and what the walk of a plan says of units.
-use Rattle.std.specs.Prelude.{◌≡◌, ◌+◌, ◌-◌, ◌≤◌, ◌<◌, ℕ, zero, suc, List, [], ◌∷◌, ◌++◌, length, take, drop, Option, None, Result, Ok, Err, ⊤}
+use Rattle.std.specs.Prelude.{◌≡◌, ◌+◌, ◌-◌, ◌*◌, ◌≤◌, ◌<◌, ℕ, zero, suc, List, [], ◌∷◌, ◌++◌, length, take, drop, Option, None, IfSome, Result, Ok, Err, ⊤}
 use Rattle.asn_values.specs.Datum.{Datum}
+use Rattle.asn_values.specs.Parts.{AreOfProfile}
 use Rattle.asn_values.specs.Profile.{InProfile}
 use Rattle.asn_values.specs.Shape.{Shape, boolean, null, integer, enumerated, bit_string, octet_string, restricted, utf8_string, sequence, sequence_of, choice, Fields, no_fields, field, MoreFields, closed, marked, Demand, must, optional, default, Alternatives, no_alternatives, one_of, MoreAlternatives, closed_choice, marked_choice}
 use Rattle.asn_values.specs.View.{shape_of, datum_of, size_range_of}
@@ -12,6 +13,8 @@ use Rattle.asn_rules.specs.declared.fault.DecodeFault.{DecodeFault}
 use Rattle.asn_rules.specs.Languages.{Spells}
 use Rattle.asn_rules.specs.Listed.{Listed, bitmap_length}
 use Rattle.asn_walk.specs.Coding.{Coding, OpenOf, OpenListed, added, added_alternatives}
+use Rattle.asn_plan.specs.FixedStrings.{IsFixedString, IsStringOf}
+use Rattle.asn_plan.specs.declared.fixed.FixedString.{FixedString}
 use Rattle.asn_plan.specs.Ranged.{ranged}
 use Rattle.asn_plan.specs.Words.{before}
 use Rattle.asn_plan.specs.declared.word.Word.{Word}
@@ -25,12 +28,12 @@ use Rattle.asn_plan.specs.declared.plan.Kind.TheVariants as kind
 
 -- ---- plans
 
--- of a type without parts a node says its bounds, or holds it
+-- of a type without parts a node says its bounds, or holds it; what it says of a string of one length is so
 abbrev pub IsLeafPlan : Kind → Shape → Type 0
 IsLeafPlan (kind.Number b) t = t ≡ ranged b.range
 IsLeafPlan kind.Truth t = t ≡ boolean
 IsLeafPlan (kind.Item e) t = t ≡ shape_of e.of.ty
-IsLeafPlan (kind.Leaf l) t = t ≡ shape_of l.ty
+IsLeafPlan (kind.Leaf l) t = (t ≡ shape_of l.ty) × IfSome l.fixed (λ f. IsFixedString f t)
 IsLeafPlan (kind.Sequence s) t = ⊥
 IsLeafPlan (kind.List l) t = ⊥
 IsLeafPlan (kind.Choice a) t = ⊥
@@ -130,19 +133,25 @@ pub record Builds {P : Type 0} (c : Coding) (built : P → Datum → Type 0) (t 
   pub of_value : built p value
   pub read : Reads c (ValuesOf c t) value old new
 
--- from a word, after which these units stand, a value of the type was read, of which this part was built
-pub record BuildsNext {P : Type 0} (c : Coding) (built : P → Datum → Type 0) (t : Shape) (p : P) (old new : Word)
-    (us : List ℕ) : Type 0 where
+-- from units, a word's and those after it, a value of the type was read, of which this part was built
+pub record BuildsNext {P : Type 0} (c : Coding) (built : P → Datum → Type 0) (t : Shape) (p : P) (us vs : List ℕ)
+    : Type 0 where
   pub value : Datum
   pub of_value : built p value
-  pub read : Spells c.ruling.fielding (ValuesOf c t) value (before old us) (before new us)
+  pub read : Spells c.ruling.fielding (ValuesOf c t) value us vs
+
+-- a string of the type, whose bits are those of the number, was read from a word, whatever units stand after it
+pub record TellsString (c : Coding) (t : Shape) (f : FixedString) (n : ℕ) (old new : Word) : Type 0 where
+  pub value : Datum
+  pub is : IsStringOf f n value
+  pub read : (us : List ℕ) → Spells c.ruling.fielding (ValuesOf c t) value (before c old us) (before c new us)
 
 -- the same of components that all have to be there
 pub record BuildsNumbers {P : Type 0} (c : Coding) (listed : P → List (Option Datum) → Type 0) (root : Fields) (p : P)
-    (old new : Word) (us : List ℕ) : Type 0 where
+    (us vs : List ℕ) : Type 0 where
   pub entries : List (Option Datum)
   pub of_entries : listed p entries
-  pub read : Spells c.ruling.fielding (Listed c.code root []) entries (before old us) (before new us)
+  pub read : Spells c.ruling.fielding (Listed c.code root []) entries us vs
 
 -- Of components, of which the first is one that the node is of, an entry was read, and put after those that were there
 -- before. P says which these were, N which there are now; left is how many presence bits there were, after how many
@@ -164,6 +173,43 @@ pub record BuildsOpen {P : Type 0} (c : Coding) (built : P → Datum → Type 0)
   pub value : Datum
   pub of_value : built p value
   pub read : Reads c (OpenOf c t) value old new
+
+-- the components that are left, of which these nodes are plans, and what is read of all once these are read
+pub record GoesOn (c : Coding) (ns rest : List Node) (root : Fields) (count bitmap left : ℕ) (us : List ℕ)
+    (es : List (Option Datum)) (vs : List ℕ) : Type 0 where
+  pub fields : Fields
+  pub good : AreOfProfile fields
+  pub plans : ArePlans ns rest fields
+  pub width : left ≡ bitmap_length fields
+  pub on : (gs : List (Option Datum)) (ws : List ℕ)
+      → Spells c.ruling.fielding (Listed c.code fields (bits left bitmap)) gs vs ws
+      → Spells c.ruling.fielding (Listed c.code root (bits count bitmap)) (es ++ gs) us ws
+
+-- the same of all components that these nodes are plans of, where the entries that are read are such
+pub record BuiltUpTo (c : Coding) (P : List (Option Datum) → Type 0) (ns parts rest : List Node)
+    (count bitmap left : ℕ) (us vs : List ℕ) : Type 0 where
+  pub few : left ≤ 64
+  pub goes : (root : Fields) → AreOfProfile root → ArePlans ns parts root → count ≡ bitmap_length root
+      → (es : List (Option Datum)) × P es × GoesOn c ns rest root count bitmap left us es vs
+
+-- from the nodes at one place up to another, entries were read and put after those that were there before
+abbrev pub BuildsRun : (c : Coding) (P N : List (Option Datum) → Type 0) (ns parts : List Node) (from at : ℕ) (us vs : List ℕ) → Type 0
+BuildsRun c P N ns parts from at us vs = (count bitmap left : ℕ) (os : List ℕ)
+    → BuiltUpTo c P ns parts (drop from parts) count bitmap left os us
+    → BuiltUpTo c N ns parts (drop at parts) count bitmap left os vs
+
+-- What fills up an open type field of so many octets is read, where its value takes so many units: the units of the
+-- padding, with which it takes just these octets.
+pub record EndsOpen (c : Coding) (octets taken : ℕ) (us vs : List ℕ) : Type 0 where
+  pub all : taken + length (c.padding taken) ≡ c.octet_units * octets
+  pub split : us ≡ c.padding taken ++ vs
+
+-- Units are at the front of an open type field of so many octets, where what stands in it may be read next: a value of
+-- any type, and then what fills up the field.
+abbrev pub BeginsOpen : Coding → ℕ → List ℕ → List ℕ → Type 0
+BeginsOpen c octets us vs = (t : Shape) (d : Datum) (ws xs : List ℕ) → InProfile t
+    → Spells c.ruling.fielding (ValuesOf c t) d vs ws → EndsOpen c octets (length vs - length ws) ws xs
+    → Spells c.ruling.fielding (OpenOf c t) d us xs
 
 -- the same as `BuildsEntry` of an extension addition
 pub record BuildsAddition (c : Coding) (P N : List (Option Datum) → Type 0) (ns : List Node) (n : Node)

@@ -3,7 +3,9 @@ ghost use Rattle.std.specs.Prelude.{◌≡◌, ℕ, ◌<◌, ◌^◌, ◌++◌, 
 ghost use Rattle.asn_values.specs.Datum.{Datum, truth, number, item, components, components_of, elements, elements_of, alternative};
 ghost use Rattle.asn_values.specs.View.{datum_of, entries_seen};
 ghost use Rattle.asn_walk.specs.Integers.{IsOfProfile};
+ghost use Rattle.asn_plan.specs.FixedStrings.{IsStringOf};
 
+use crate::fixed::FixedString;
 use asn_values::Value;
 use std::alloc::Global;
 
@@ -46,6 +48,21 @@ pub trait Build {
     /// Of an ENUMERATED: the item at this position, counted from 0.
     fn item(room: &mut Self::Room, position: u32) -> Option<Self::Part>
         ensures { IfSome result (λ p. built room.old room.new p (item position)) };
+
+    /// Whether strings of one length are built of their bits, by `string`; else they are values.
+    #[inline(always)]
+    fn takes_strings() -> bool {
+        false
+    }
+
+    /// Of a BIT STRING or OCTET STRING of one length, whose bits are those of the number.
+    #[inline(always)]
+    fn string(_room: &mut Self::Room, _fixed: &FixedString, _number: u64) -> Option<Self::Part>
+        ensures { IfSome result (λ p. (d : Datum) → IsStringOf _fixed.now _number d
+            → built _room.old _room.new p d) }
+    {
+        None
+    }
 
     /// Of a value without parts; it may give up at another.
     fn value(room: &mut Self::Room, value: Value) -> Option<Self::Part>
@@ -143,6 +160,16 @@ impl Build for Nothing {
 
     #[inline(always)]
     fn item(_room: &mut (), _position: u32) -> Option<()> {
+        Some(())
+    }
+
+    #[inline(always)]
+    fn takes_strings() -> bool {
+        true
+    }
+
+    #[inline(always)]
+    fn string(_room: &mut (), _fixed: &FixedString, _number: u64) -> Option<()> {
         Some(())
     }
 

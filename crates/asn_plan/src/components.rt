@@ -17,7 +17,7 @@ use crate::build::Build;
 use crate::copies::copy_default;
 use crate::leaves::read_other;
 use crate::open::build_open;
-use crate::packed::build_next;
+use crate::packed::{build_run, fill};
 use crate::plan::{ComponentRows, Node, Presence};
 use crate::rules::PlanLeaves;
 use crate::walk::build_at;
@@ -55,7 +55,7 @@ pub(crate) fn build_sequence<R: PlanLeaves, B: Build>(
     let before = &nodes[..parts.begin];
     let root = &nodes[parts.begin..parts.middle];
     let added = &nodes[parts.middle..parts.end];
-    let mut word = R::take_word(parts.head, units);
+    let mut word = R::take_word(parts.head.of::<B>(), units);
     let preamble = read_preamble::<R>(parts.width, parts.additions, &mut word, units)?;
     let presence = PresenceBits {
         bitmap: preamble.bitmap,
@@ -89,7 +89,7 @@ fn read_preamble<R: PlanLeaves>(
     ensures at_unit { IsSome result → R.rules.at_unit units.new }
     ensures some { IfSome result (λ p.
         Spells R.rules.ruling.fielding (PreambleOf R.rules count additions) (preamble_seen p)
-        (before word.old (R.rules.to_units units.old)) (before word.new (R.rules.to_units units.new))) }
+        (before R.rules word.old (R.rules.to_units units.old)) (before R.rules word.new (R.rules.to_units units.new))) }
 {
     if !word.is_empty() {
         return R::next_preamble(count, additions, word);
@@ -147,71 +147,35 @@ fn build_components<R: PlanLeaves, B: Build>(
     ensures some { IfSome result (λ p. (root : Fields) → AreOfProfile root → ArePlans nodes.now parts.now root
         → presence.left ≡ bitmap_length root
         → BuildsComponents R.rules (B.listed room.old room.new) root presence.bitmap presence.left p
-        (before word (R.rules.to_units units.old)) (R.rules.to_units units.new)) }
+        (before R.rules word (R.rules.to_units units.old)) (R.rules.to_units units.new)) }
 {
     let mut presence = presence;
     let mut word = word;
     let mut entries = B::entries(alloc, room, count)?;
-    for part in parts {
-        build_part::<R, B>(
-            alloc,
-            nodes,
-            part,
-            &mut presence,
-            &mut word,
-            &mut entries,
-            units,
-            room,
-        )?;
+    let mut at = 0;
+    while at < parts.len() {
+        let part = &parts[at];
+        fill::<R>(part.run.of::<B>(), &mut word, units);
+        if !word.is_empty() {
+            at = build_run::<R, B>(
+                alloc,
+                nodes,
+                parts,
+                at,
+                &mut word,
+                &mut entries,
+                units,
+                room,
+            )?;
+        } else {
+            build_component::<R, B>(alloc, nodes, part, &mut presence, &mut entries, units, room)?;
+            at += 1;
+        }
     }
     if !word.is_empty() {
         return None;
     }
     Some(entries)
-}
-
-/// Takes so many units into the word, where it is empty and they are at hand.
-#[inline(always)]
-fn fill<R: PlanLeaves>(run: u32, word: &mut Word, units: &mut BitCursor<'_>)
-    requires at_unit { R.rules.at_unit units.old }
-    ensures at_unit { R.rules.at_unit units.new }
-    ensures same { before word.old (R.rules.to_units units.old) ≡ before word.new (R.rules.to_units units.new) }
-{
-    if run == 0 || !word.is_empty() {
-        return;
-    }
-    *word = R::take_word(run, units);
-}
-
-/// Adds the entry of a component, which is taken from the word, where it has bits, and else where the presence bits tell
-/// that it is there.
-#[inline(always)]
-#[cycle(walk)]
-fn build_part<R: PlanLeaves, B: Build>(
-    alloc: Global,
-    nodes: &[Node],
-    part: &Node,
-    presence: &mut PresenceBits,
-    word: &mut Word,
-    entries: &mut B::Entries,
-    units: &mut BitCursor<'_>,
-    room: &mut B::Room,
-) -> Option<()>
-    requires at_unit { R.rules.at_unit units.old }
-    requires few { presence.old.left ≤ 64 }
-    ensures at_unit { IsSome result → R.rules.at_unit units.new }
-    ensures bitmap { IsSome result → presence.new.bitmap ≡ presence.old.bitmap }
-    ensures some { IsSome result → (s : B.Room)
-        → BuildsEntry R.rules (B.listed s room.old entries.old) (B.listed s room.new entries.new)
-        nodes.now part.now presence.old.bitmap presence.old.left presence.new.left
-        (before word.old (R.rules.to_units units.old)) (before word.new (R.rules.to_units units.new)) }
-{
-    fill::<R>(part.run, word, units);
-    if !word.is_empty() {
-        let value = build_next::<R, B>(alloc, nodes, part, word, room)?;
-        return B::present(room, entries, value);
-    }
-    build_component::<R, B>(alloc, nodes, part, presence, entries, units, room)
 }
 
 /// Adds the entry of a component, which is taken where the presence bits tell that it is there.

@@ -6,6 +6,7 @@ ghost use Rattle.asn_plan.specs.Taken.{Takes, IsNoMore};
 
 use crate::budget::{Budget, Taken};
 use crate::build::Build;
+use crate::fixed::FixedString;
 use asn_values::Value;
 use std::alloc::Global;
 
@@ -97,6 +98,16 @@ impl Build for Counting {
     #[inline(always)]
     fn item(_room: &mut (), _position: u32) -> Option<Taken> {
         Some(Taken::of_string(0))
+    }
+
+    #[inline(always)]
+    fn takes_strings() -> bool {
+        true
+    }
+
+    #[inline(always)]
+    fn string(_room: &mut (), fixed: &FixedString, _number: u64) -> Option<Taken> {
+        Some(Taken::of_string(fixed.length as usize))
     }
 
     #[inline(always)]

@@ -1,33 +1,66 @@
 //! What the rules read by themselves, for one node of a plan.
-ghost use Rattle.std.specs.Prelude.{◌≡◌, ◌≤◌, ◌<◌, IfSome, IsNone, IsSome, true};
+ghost use Rattle.std.specs.Prelude.{◌≡◌, ◌≤◌, ◌<◌, ◌^◌, ◌≤ℤ◌, ◌<ℤ◌, pos, Some, IfSome, IsNone, IsSome, true, false};
+ghost use Rattle.asn_bits.specs.Numbers.{magnitude};
+ghost use Rattle.asn_oer.specs.FixedSizes.{fixed_size};
+ghost use Rattle.asn_values.specs.Fits.{lowest_integer, highest_integer};
 ghost use Rattle.asn_values.specs.Datum.{truth, item};
+ghost use Rattle.asn_walk.specs.AtOnce.{IsOnlyLength};
 ghost use Rattle.asn_walk.specs.Coding.{AreFew};
 ghost use Rattle.asn_values.specs.Profile.{InProfile, most_alternatives};
-ghost use Rattle.asn_values.specs.Shape.{boolean, integer};
-ghost use Rattle.asn_values.specs.View.{shape_of, range_of};
-ghost use Rattle.asn_plan.specs.Ranged.{ranged, IsRanged};
+ghost use Rattle.asn_values.specs.Shape.{Shape, boolean, integer};
+ghost use Rattle.asn_values.specs.View.{shape_of, range_of, size_range_of};
+ghost use Rattle.asn_plan.specs.FixedStrings.{IsFixedString, IsStringOf};
+ghost use Rattle.asn_plan.specs.Ranged.{ranged, held_in, IsRanged};
 ghost use Rattle.asn_walk.specs.Laws.{IsSimple};
 ghost use Rattle.asn_walk.specs.Reading.{Reads, ReadsOther, ReadsValue, ValuesOf};
 ghost use Rattle.asn_plan.specs.Enumerations.{IsEnumeration};
-ghost use Rattle.asn_plan.specs.Plans.{Builds};
+ghost use Rattle.asn_plan.specs.declared.plan.Kind.TheVariants as kind;
+ghost use Rattle.asn_plan.specs.Plans.{Builds, IsLeafPlan};
 
 use crate::build::Build;
 use crate::enumeration::Enumeration;
+use crate::fixed::FixedString;
 use crate::plan::{Between, Leaf, WithDefault};
 use crate::ranged::Ranged;
 use crate::rules::PlanLeaves;
-use crate::word::Word;
+use crate::word::Run;
 use asn_bits::BitCursor;
 use asn_bits::internal::{wide_offset_from, width};
+use asn_oer::internal::fixed_size;
+use asn_rules::internal::greatest_of_width;
 use asn_values::profile::MAX_ALTERNATIVES;
-use asn_values::{AsnType, Bounds, Value};
+use asn_values::{AsnType, Bounds, Size, Value};
 use asn_walk::ReadLeaves;
 use std::alloc::Global;
 
 /// What is built of a value of the type with which the units begin, and which is taken. `None` where they begin with
 /// none, where they are too few or memory is wanting.
+#[inline(always)]
+pub(crate) fn build_leaf<R: PlanLeaves, B: Build>(
+    alloc: Global,
+    leaf: &Leaf,
+    units: &mut BitCursor<'_>,
+    room: &mut B::Room,
+) -> Option<B::Part>
+    requires at_unit { R.rules.at_unit units.old }
+    ensures at_unit { IsSome result → R.rules.at_unit units.new }
+    ensures some { IfSome result (λ p. (t : Shape) → InProfile t → IsLeafPlan (kind.Leaf leaf.now) t
+        → Builds R.rules (B.built room.old room.new) t p units.old units.new) }
+{
+    if B::takes_strings()
+        && let Some(fixed) = &leaf.fixed
+        && let Some(number) = try_string::<R>(fixed, units)
+    {
+        let part = B::string(room, fixed, number)?;
+        return Some(part);
+    }
+    build_made::<R, B>(alloc, leaf, units, room)
+}
+
+/// What is built of a value of the type with which the units begin, and which is taken, once it is made. `None` where
+/// they begin with none, where they are too few or memory is wanting.
 #[inline(never)]
-pub(crate) fn build_leaf<R: ReadLeaves, B: Build>(
+fn build_made<R: ReadLeaves, B: Build>(
     alloc: Global,
     leaf: &Leaf,
     units: &mut BitCursor<'_>,
@@ -114,7 +147,7 @@ pub(crate) fn try_truth<R: PlanLeaves>(units: &mut BitCursor<'_>) -> Option<bool
     ensures none { IsNone result → units.new ≡ units.old }
 {
     let start = units.copied();
-    let mut word = R::take_word(1, units);
+    let mut word = R::take_word(Run { bits: 1, octets: 1 }, units);
     if let Some(is_true) = R::next_truth(&mut word)
         && word.is_empty()
     {
@@ -136,7 +169,11 @@ pub(crate) fn try_item<R: PlanLeaves>(items: &Enumeration, units: &mut BitCursor
     ensures none { IsNone result → units.new ≡ units.old }
 {
     let start = units.copied();
-    let mut word = R::take_word(items.bits, units);
+    let run = Run {
+        bits: items.bits,
+        octets: items.octets,
+    };
+    let mut word = R::take_word(run, units);
     if let Some(position) = R::next_item(items, &mut word)
         && word.is_empty()
     {
@@ -144,6 +181,76 @@ pub(crate) fn try_item<R: PlanLeaves>(items: &Enumeration, units: &mut BitCursor
     }
     *units = start;
     None
+}
+
+/// Reads a string of one length and gives the number in its bits, where it is at hand and of the root; otherwise takes
+/// nothing.
+#[inline(always)]
+fn try_string<R: PlanLeaves>(fixed: &FixedString, units: &mut BitCursor<'_>) -> Option<u64>
+    requires at_unit { R.rules.at_unit units.old }
+    ensures at_unit { R.rules.at_unit units.new }
+    ensures some { IfSome result (λ n. (t : Shape) → InProfile t → IsFixedString fixed.now t
+        → Builds R.rules (λ n d. IsStringOf fixed.now n d) t n units.old units.new) }
+    ensures none { IsNone result → units.new ≡ units.old }
+{
+    let start = units.copied();
+    let run = Run {
+        bits: fixed.bits,
+        octets: 0,
+    };
+    let mut word = R::take_word(run, units);
+    if let Some(number) = R::next_string(fixed, &mut word)
+        && word.is_empty()
+    {
+        return Some(number);
+    }
+    *units = start;
+    None
+}
+
+/// What is worked out of a string of one length, if it has at most 63 bits with the extension bit; `None` of any other
+/// type.
+pub(crate) fn fixed_of(ty: &AsnType) -> Option<FixedString>
+    ensures { IfSome result (λ f. IsFixedString f (shape_of ty.now)) }
+{
+    match ty {
+        AsnType::Bits(size) => {
+            let length = only_length(size)?;
+            if length > 62 {
+                return None;
+            }
+            Some(FixedString {
+                of_octets: false,
+                length,
+                highest: greatest_of_width(length),
+                bits: u32::from(size.ext) + length,
+            })
+        }
+        AsnType::Octets(size) => {
+            let length = only_length(size)?;
+            if length > 7 || size.ext {
+                return None;
+            }
+            Some(FixedString {
+                of_octets: true,
+                length,
+                highest: greatest_of_width(8 * length),
+                bits: 8 * length,
+            })
+        }
+        _ => None,
+    }
+}
+
+/// The only length that a size leaves in its root, if it leaves one.
+fn only_length(size: &Size) -> Option<u32>
+    ensures { IfSome result (λ n. IsOnlyLength (size_range_of size.now) n) }
+{
+    let high = size.high?;
+    if high != size.low {
+        return None;
+    }
+    Some(high)
 }
 
 /// The INTEGER of these bounds, if there are two, and the offsets between them have at most 64 bits with the extension
@@ -159,14 +266,49 @@ pub(crate) fn between_of(bounds: &Bounds) -> Option<Between>
     if bits > 64 {
         return None;
     }
+    let (octets, least) = in_octets(bounds.ext, low, high);
     let range = Ranged {
         low,
         high,
         marked: bounds.ext,
         highest: highest as u64,
         bits,
+        octets,
+        least,
     };
     Some(Between { range })
+}
+
+/// How many octets each number between two bounds has by OER, where it is one count for all of them, and what these hold of
+/// the low bound; else 0 and 0.
+fn in_octets(marked: bool, low: i128, high: i128) -> (u32, u64)
+    requires order { low ≤ℤ high }
+    requires low { lowest_integer ≤ℤ low }
+    requires high { high ≤ℤ highest_integer }
+    ensures { 0 < result.0 → (marked ≡ false) × (fixed_size low high ≡ Some result.0) × (result.1 ≡ held_in result.0 low) }
+{
+    if marked {
+        return (0, 0);
+    }
+    match fixed_size(low, high) {
+        Some(octets) => (octets, held_in(octets, low)),
+        None => (0, 0),
+    }
+}
+
+/// What octets hold of an integer, which has room in them.
+fn held_in(octets: u32, integer: i128) -> u64
+    requires low { lowest_integer ≤ℤ integer }
+    requires high { integer ≤ℤ highest_integer }
+    requires some { integer <ℤ pos 0 → 1 ≤ octets }
+    requires few { octets ≤ 8 }
+    requires room { magnitude integer < 256 ^ octets }
+    ensures { result ≡ held_in octets integer }
+{
+    if integer >= 0 {
+        return integer as u64;
+    }
+    (u64::MAX >> (64 - 8 * octets)) - (-1 - integer) as u64
 }
 
 /// The type of these bounds.

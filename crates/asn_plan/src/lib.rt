@@ -8,10 +8,12 @@ mod components;
 mod copies;
 mod counting;
 mod enumeration;
+mod fixed;
 mod items;
 mod leaves;
 mod lists;
 mod message;
+mod octets;
 mod of;
 mod open;
 mod packed;
@@ -30,16 +32,17 @@ pub use budget::{Budget, Taken, WithinFault};
 pub use build::{Build, Nothing, Values};
 pub use counting::Counting;
 pub use enumeration::Enumeration;
+pub use fixed::FixedString;
 pub use message::build_octets;
 pub use of::plan_of;
 pub use place::Place;
 pub use plan::{
     AlternativeRows, Between, ComponentRows, ElementRow, Items, Kind, Leaf, Node, Plan, Presence,
-    WithDefault,
+    Runs, WithDefault,
 };
 pub use planned::Planned;
 pub use ranged::Ranged;
 pub use reused::{ChoiceOver, ElementsOver, Reused, Spare};
 pub use rules::{PlanLeaves, PlanRules};
 pub use walk::build_at;
-pub use word::Word;
+pub use word::{Run, Word};

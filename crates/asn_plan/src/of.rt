@@ -13,9 +13,9 @@ ghost use Rattle.asn_plan.specs.Plans.{IsLeafPlan, IsPresence, IsPlan, IsPlanOf,
 
 use crate::copies::copy_simple;
 use crate::items::items_of;
-use crate::leaves::between_of;
+use crate::leaves::{between_of, fixed_of};
 use crate::plan::{
-    AlternativeRows, ComponentRows, ElementRow, Kind, Leaf, Node, Plan, Presence, WithDefault,
+    AlternativeRows, ComponentRows, ElementRow, Kind, Leaf, Node, Plan, Presence, Runs, WithDefault,
 };
 use crate::runs::{head_of, run_of};
 use asn_values::{Alt, AsnType, Checked, Field, Need, Size};
@@ -145,7 +145,7 @@ fn place_element(kind: Kind, size: Size, nodes: &mut Vec<Node>) -> Result<Kind, 
     nodes.push(Node {
         presence: Presence::Must,
         kind,
-        run: 0,
+        run: Runs::none(),
     })?;
     Ok(Kind::List(ElementRow { size, element }))
 }
@@ -168,7 +168,7 @@ fn alternatives_of(
         parts.push(Node {
             presence: Presence::Must,
             kind,
-            run: 0,
+            run: Runs::none(),
         })?;
     }
     Ok(parts)
@@ -235,6 +235,7 @@ fn leaf_of(alloc: Global, ty: &AsnType) -> Result<Kind, AllocError>
     if let Some(items) = items_of(alloc, ty)? {
         return Ok(Kind::Item(items));
     }
+    let fixed = fixed_of(ty);
     let ty = copy_simple(alloc, ty)?;
-    Ok(Kind::Leaf(Leaf { ty }))
+    Ok(Kind::Leaf(Leaf { ty, fixed }))
 }

@@ -58,6 +58,34 @@ pub(crate) fn build_open<R: PlanLeaves, B: Build>(
     ensures some { IfSome result (λ p. (t : Shape) → InProfile t → IsPlan nodes.now t kind.now
         → BuildsOpen R.rules (B.built room.old room.new) t p units.old units.new) }
 {
+    if let Some(octets) = R::enter_open(units) {
+        let given = R::units_left(units);
+        let part = build_at::<R, B>(alloc, nodes, kind, units, room)?;
+        let left = R::units_left(units);
+        if left > given || !R::leave_open(octets, given - left, units) {
+            return None;
+        }
+        return Some(part);
+    }
+    build_copied::<R, B>(alloc, nodes, kind, units, room)
+}
+
+/// What is built of the value in the open type field with which the units begin, and which is taken, by a copy of its
+/// octets.
+#[inline(never)]
+#[cycle(walk)]
+fn build_copied<R: PlanLeaves, B: Build>(
+    alloc: Global,
+    nodes: &[Node],
+    kind: &Kind,
+    units: &mut BitCursor<'_>,
+    room: &mut B::Room,
+) -> Option<B::Part>
+    requires at_unit { R.rules.at_unit units.old }
+    ensures at_unit { IsSome result → R.rules.at_unit units.new }
+    ensures some { IfSome result (λ p. (t : Shape) → InProfile t → IsPlan nodes.now t kind.now
+        → BuildsOpen R.rules (B.built room.old room.new) t p units.old units.new) }
+{
     let mut short = [0; SHORT_OPEN_FIELD];
     let mut long = Vec::new(alloc);
     let Ok(octets) = read_open_octets::<R>(alloc, units, &mut short, &mut long) else {

@@ -8,7 +8,9 @@ ghost use Rattle.asn_walk.specs.Laws.{IsSizeOfProfile};
 ghost use Rattle.asn_plan.specs.SimpleTypes.{is_simple};
 
 use crate::enumeration::Enumeration;
+use crate::fixed::FixedString;
 use crate::ranged::Ranged;
+use crate::word::Run;
 use asn_values::{AsnType, Size, Value};
 
 /// An INTEGER with two bounds, with what is worked out of them.
@@ -29,6 +31,8 @@ pub struct Items {
 #[derive(Debug, Drop)]
 pub struct Leaf {
     pub ty: AsnType,
+    /// What is worked out of a string of one length, if it is one whose bits may be taken at once.
+    pub fixed: Option<FixedString>,
     ghost of_profile: { InProfile (shape_of ty) },
     ghost simple: { is_simple (shape_of ty) ≡ true },
 }
@@ -40,6 +44,15 @@ pub struct WithDefault {
     pub default: Value,
     ghost of_profile: { InProfile (shape_of ty) },
     ghost good: { good_default (shape_of ty) (datum_of default) ≡ true },
+}
+
+/// How many units may be taken at once from here on.
+#[derive(Debug, Clone, Copy)]
+pub struct Runs {
+    /// Those of numbers alone.
+    pub numbers: Run,
+    /// Those of numbers, and in bits those of strings of one length too.
+    pub strings: Run,
 }
 
 /// Where the nodes of the components of a SEQUENCE stand among those of the plan, counted from 0: those of the root
@@ -54,9 +67,8 @@ pub struct ComponentRows {
     pub additions: Option<usize>,
     /// How many presence bits the root has.
     pub width: u32,
-    /// How many bits may be taken at once, where values are told by numbers of bits: the extension bit, the presence bits,
-    /// and the run of the first component.
-    pub head: u32,
+    /// The units of the extension bit and the presence bits, and the runs of the first component.
+    pub head: Runs,
 }
 
 /// How many elements a SEQUENCE OF has, and where the node of their type stands among those of the plan, counted from
@@ -112,9 +124,9 @@ pub enum Presence {
 pub struct Node {
     pub presence: Presence,
     pub kind: Kind,
-    /// How many bits may be taken at once from here on, where values are told by numbers of bits: those of this component
-    /// and of the next ones, as far as each has to be there and is a number, or a SEQUENCE of such components.
-    pub run: u32,
+    /// Those of this component and of the next ones, as far as each has to be there and is told by bits or octets, or is a
+    /// SEQUENCE of such components.
+    pub run: Runs,
 }
 
 /// A plan of a type: the nodes of its parts, and what is to be read of the type, before which all of these stand.

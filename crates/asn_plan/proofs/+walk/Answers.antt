@@ -25,7 +25,9 @@ use Rattle.asn_plan.proofs.Entries.{must_entry, present_entry, absent_entry, oth
 use Rattle.asn_plan.proofs.Messages.{whole_message, field_read, turned_true, turned_false}
 use Rattle.asn_plan.proofs.NodeKinds.{if_some, number_is, truth_is, item_is, leaf_is, sequence_is, list_is, choice_is}
 use Rattle.asn_plan.proofs.Rows.{row_begins, row_further, listed_starts, listed_further, listed_ends, list_read}
+use Rattle.asn_plan.specs.Plans.{BuildsEntry}
 use Rattle.asn_plan.specs.Words.{before}
+use Rattle.asn_plan.proofs.WordsRead.{nothing_left}
 use Rattle.asn_plan.proofs.+walk.Goals as goal
 
 pub walk::build_at-returns-in-Some-clause-some : goal.walk::build_at-returns-in-Some-clause-some
@@ -65,36 +67,35 @@ walk::build_at-returns-in_default-try_item-clause-some g t c = if_some c.build_o
     rw is (rw still at built))) c.build_other-in-Item.ensures.some
 
 pub walk::build_at-returns-in-Leaf-clause-some : goal.walk::build_at-returns-in-Leaf-clause-some
-walk::build_at-returns-in-Leaf-clause-some g t c = if_some c.build_leaf.result _ _ (λ p built s good plan. (
-    let is = leaf_is c.args.nodes.now s c.in-Leaf.leaf (rw c.in-Leaf.is at plan) in
-    rw is built)) c.build_leaf.ensures.some
+walk::build_at-returns-in-Leaf-clause-some g t c = if_some c.build_leaf.result _ _ (λ p built s good plan. built s good (leaf_is c.args.nodes.now s c.in-Leaf.leaf (rw c.in-Leaf.is at plan))) c.build_leaf.ensures.some
 
-pub components::build_components-loop-part-preserved : goal.components::build_components-loop-part-preserved
-components::build_components-loop-part-preserved g t c =
-    let h = rw (next_node c.args.parts.now c.loop-part.part-index c.part-item.result c.loop-part-test.true c.part-item.is) at c.loop-part.invariant.0 in
-    let N = g.B.Build.listed c.args.room.now c.build_part.new.room c.build_part.new.entries in
-    let b = c.in_ok-build_part.ensures in
-    (built_further N c.build_part.new.presence.left (before c.build_part.new.word (g.R.ReadLeaves.rules.to_units c.build_part.new.units)) h (rw c.loop-part.invariant.1 at b.some refl c.args.room.now), b.bitmap refl ∙ c.loop-part.invariant.1, b.at_unit refl)
+pub components::build_components-loop-at-preserved-then-not-is_empty : goal.components::build_components-loop-at-preserved-then-not-is_empty
+components::build_components-loop-at-preserved-then-not-is_empty g t c =
+    let r = g.R.ReadLeaves.rules in
+    let h = rw c.fill.ensures.same at c.loop-at.invariant.0 in
+    (c.in_ok-at.ensures.some c.args.room.now c.args.presence.left c.args.presence.bitmap c.loop-at.presence.left (before r c.args.word (r.to_units c.args.units.now)) h, c.loop-at.invariant.1, c.in_ok-at.ensures.at_unit refl)
+
+pub components::build_components-loop-at-preserved : goal.components::build_components-loop-at-preserved
+components::build_components-loop-at-preserved g t c =
+    let r = g.R.ReadLeaves.rules in
+    let x = c.index-parts-at.result in
+    let ws = r.to_units c.build_component.new.units in
+    let P = g.B.Build.listed c.args.room.now c.loop-at.room c.loop-at.entries in
+    let N = g.B.Build.listed c.args.room.now c.build_component.new.room c.build_component.new.entries in
+    let h = rw (next_node c.args.parts.now c.loop-at.at x c.loop-at-test.true c.index-parts-at.is) at c.loop-at.invariant.0 in
+    let b = c.in_ok-build_component.ensures in
+    let none = λ (us : List ℕ). nothing_left r c.fill.new.word us (c.is_empty.ensures c.if-not-is_empty.false) in
+    let read = rw c.loop-at.invariant.1 at b.some refl c.args.room.now in
+    let entry : BuildsEntry r P N c.args.nodes.now x c.args.presence.bitmap c.loop-at.presence.left c.build_component.new.presence.left (before r c.loop-at.word (r.to_units c.loop-at.units)) (before r c.fill.new.word ws) = rw (c.fill.ensures.same, none (r.to_units c.fill.new.units), none ws) read in
+    (built_further N c.build_component.new.presence.left (before r c.fill.new.word ws) h entry, b.bitmap refl ∙ c.loop-at.invariant.1, b.at_unit refl)
 
 pub components::build_components-returns-clause-some : goal.components::build_components-returns-clause-some
 components::build_components-returns-clause-some g t c root good p width =
     let r = g.R.ReadLeaves.rules in
-    let e = c.loop-part.invariant.0.goes root good p width in
-    let all = goes_ends e.2 (drop_all c.loop-part.part-index c.args.parts.now c.loop-part-test.false) in
-    let none = c.is_empty.ensures c.if-not-is_empty.false (r.to_units c.loop-part.units) in
+    let e = c.loop-at.invariant.0.goes root good p width in
+    let all = goes_ends e.2 (drop_all c.loop-at.at c.args.parts.now (omega (arith, c.loop-at-test.false))) in
+    let none = nothing_left r c.loop-at.word (r.to_units c.loop-at.units) (c.is_empty-2.ensures c.if-not-is_empty-2.false) in
     record { entries = e.0; of_entries = e.1; read = rw none at all }
-
-pub components::build_part-returns-clause-some : goal.components::build_part-returns-clause-some
-components::build_part-returns-clause-some g t c some s =
-    let r = g.R.ReadLeaves.rules in
-    let none = c.is_empty.ensures c.if-not-is_empty.false in
-    rw (c.fill.ensures.same, none (r.to_units c.fill.new.units), none (r.to_units c.build_component.new.units)) (c.build_component.ensures.some some s)
-
-pub components::build_part-returns-then-not-is_empty-clause-some : goal.components::build_part-returns-then-not-is_empty-clause-some
-components::build_part-returns-then-not-is_empty-clause-some g t c some s =
-    let r = g.R.ReadLeaves.rules in
-    let us = r.to_units c.fill.new.units in
-    rw c.fill.ensures.same (must_entry r (g.B.Build.listed s c.args.room.now c.args.entries.now) (g.B.Build.listed s c.present.new.room c.present.new.entries) c.args.nodes.now c.args.part.now c.args.presence.now.bitmap c.args.presence.now.left (before c.fill.new.word us) (before c.build_next.new.word us) (g.B.Build.built c.args.room.now c.build_next.new.room c.in_ok-value.value) (λ es d l q. c.present.ensures some s c.args.room.now es d l q) (c.in_ok-value.ensures.must refl) (λ s good p. (let b = c.in_ok-value.ensures.some s us good p in (b.value, b.of_value, b.read))))
 
 pub components::build_component-returns-in_ok-value-in-Must-clause-some : goal.components::build_component-returns-in_ok-value-in-Must-clause-some
 components::build_component-returns-in_ok-value-in-Must-clause-some g t c some s =
@@ -115,19 +116,19 @@ components::build_sequence-returns-then-not-preamble-clause-some g t c s good p 
     let q = sequence_is c.args.nodes.now s c.args.parts.now p in
     let r = g.R.ReadLeaves.rules in
     let inside : InProfile (sequence q.root q.more) = rw q.is at good in
-    let told : Spells r.ruling.fielding (PreambleOf r c.args.parts.now.width c.args.parts.now.additions) (preamble_seen c.in_ok-preamble.preamble) (r.to_units c.args.units.now) (before c.read_preamble.new.word (r.to_units c.read_preamble.new.units)) = rw (← c.take_word-word.ensures.taken) at c.in_ok-preamble.ensures.some in
+    let told : Spells r.ruling.fielding (PreambleOf r c.args.parts.now.width c.args.parts.now.additions) (preamble_seen c.in_ok-preamble.preamble) (r.to_units c.args.units.now) (before r c.read_preamble.new.word (r.to_units c.read_preamble.new.units)) = rw (← c.take_word-word.ensures.taken) at c.in_ok-preamble.ensures.some in
     let es = c.in_ok-entries.ensures.some q.root (components_of_profile q.root q.more inside) q.plans q.width in
     let all = c.in_ok-add_absent.ensures refl c.args.room.now es.entries es.of_entries in
-    rw q.is (record { value = _; of_value = c.in_ok-whole.ensures c.args.room.now _ all; read = sequence_read r c.keep_laws.ensures q.root q.more inside c.args.parts.now.width c.args.parts.now.additions q.width q.additions (preamble_seen c.in_ok-preamble.preamble) (r.to_units c.args.units.now) (before c.read_preamble.new.word (r.to_units c.read_preamble.new.units)) (r.to_units c.build_components.new.units) told es.entries es.read (turned_true c.in_ok-preamble.preamble.extended c.if-not-preamble.true) _ (absents_are _ _ q.more q.others) })
+    rw q.is (record { value = _; of_value = c.in_ok-whole.ensures c.args.room.now _ all; read = sequence_read r c.keep_laws.ensures q.root q.more inside c.args.parts.now.width c.args.parts.now.additions q.width q.additions (preamble_seen c.in_ok-preamble.preamble) (r.to_units c.args.units.now) (before r c.read_preamble.new.word (r.to_units c.read_preamble.new.units)) (r.to_units c.build_components.new.units) told es.entries es.read (turned_true c.in_ok-preamble.preamble.extended c.if-not-preamble.true) _ (absents_are _ _ q.more q.others) })
 
 pub components::build_sequence-returns-clause-some : goal.components::build_sequence-returns-clause-some
 components::build_sequence-returns-clause-some g t c s good p =
     let q = sequence_is c.args.nodes.now s c.args.parts.now p in
     let r = g.R.ReadLeaves.rules in
     let inside : InProfile (sequence q.root q.more) = rw q.is at good in
-    let told : Spells r.ruling.fielding (PreambleOf r c.args.parts.now.width c.args.parts.now.additions) (preamble_seen c.in_ok-preamble.preamble) (r.to_units c.args.units.now) (before c.read_preamble.new.word (r.to_units c.read_preamble.new.units)) = rw (← c.take_word-word.ensures.taken) at c.in_ok-preamble.ensures.some in
+    let told : Spells r.ruling.fielding (PreambleOf r c.args.parts.now.width c.args.parts.now.additions) (preamble_seen c.in_ok-preamble.preamble) (r.to_units c.args.units.now) (before r c.read_preamble.new.word (r.to_units c.read_preamble.new.units)) = rw (← c.take_word-word.ensures.taken) at c.in_ok-preamble.ensures.some in
     let es = c.in_ok-entries.ensures.some q.root (components_of_profile q.root q.more inside) q.plans q.width in
-    let all = extended_read r c.keep_laws.ensures q.root q.more inside c.args.parts.now.width c.args.parts.now.additions q.width q.additions (preamble_seen c.in_ok-preamble.preamble) (r.to_units c.args.units.now) (before c.read_preamble.new.word (r.to_units c.read_preamble.new.units)) (r.to_units c.build_components.new.units) (r.to_units c.build_additions.new.units) told es.entries es.read (turned_false c.in_ok-preamble.preamble.extended c.if-not-preamble.false) _ _ q.others (g.B.Build.listed c.args.room.now c.build_components.new.room c.in_ok-entries.entries) (g.B.Build.listed c.args.room.now c.build_additions.new.room c.build_additions.new.entries) es.of_entries (λ fs a plans. c.in_ok-build_additions.ensures.some refl c.args.room.now fs a plans) in
+    let all = extended_read r c.keep_laws.ensures q.root q.more inside c.args.parts.now.width c.args.parts.now.additions q.width q.additions (preamble_seen c.in_ok-preamble.preamble) (r.to_units c.args.units.now) (before r c.read_preamble.new.word (r.to_units c.read_preamble.new.units)) (r.to_units c.build_components.new.units) (r.to_units c.build_additions.new.units) told es.entries es.read (turned_false c.in_ok-preamble.preamble.extended c.if-not-preamble.false) _ _ q.others (g.B.Build.listed c.args.room.now c.build_components.new.room c.in_ok-entries.entries) (g.B.Build.listed c.args.room.now c.build_additions.new.room c.build_additions.new.entries) es.of_entries (λ fs a plans. c.in_ok-build_additions.ensures.some refl c.args.room.now fs a plans) in
     rw q.is (record { value = _; of_value = c.in_ok-part.ensures c.args.room.now all.0 all.1; read = all.2 })
 
 pub components::build_additions-returns-clause-some : goal.components::build_additions-returns-clause-some
@@ -277,8 +278,8 @@ open::build_complete-returns g t c s good p =
       encoding = whole_message r c.keep_laws.ensures s good o (r.to_units c.over-units.result) (r.to_units c.build_at.new.units) (r.to_units c.read_padding.new.units) over v.value v.read c.units_left-given.result c.units_left-given.ensures tt c.in-Ok.ensures.done (omega (arith, c.if-units_left-gt0.false, c.units_left-2.ensures));
     }
 
-pub open::build_open-returns-clause-some : goal.open::build_open-returns-clause-some
-open::build_open-returns-clause-some g t c s good p =
+pub open::build_copied-returns-clause-some : goal.open::build_copied-returns-clause-some
+open::build_copied-returns-clause-some g t c s good p =
     let r = g.R.ReadLeaves.rules in
     let os = c.in-Ok.octets.now in
     let held : AreOctets os = (content_of c.in-Ok.ensures.done).2 in

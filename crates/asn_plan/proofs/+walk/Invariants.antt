@@ -1,13 +1,12 @@
-use Rattle.std.proofs.Common.{◌≡◌, ◌≤◌, ◌+◌, ◌*◌, length, drop}
+use Rattle.std.proofs.Common.{◌≡◌, ◌≤◌, ◌+◌, ◌-◌, ◌*◌, length, drop}
 use Rattle.asn_values.specs.Profile.{InProfile}
 use Rattle.asn_values.specs.Shape.{Shape}
 use Rattle.asn_rules.specs.Languages.{Row}
 use Rattle.asn_walk.specs.Reading.{ValuesOf}
-use Rattle.asn_plan.specs.Plans.{IsPlan, BuildsRow}
+use Rattle.asn_plan.specs.Plans.{IsPlan, BuildsRow, BuiltUpTo}
 use Rattle.asn_plan.specs.Words.{before}
 use Rattle.asn_plan.proofs.Rows.{ListedUpTo}
 use Rattle.asn_plan.proofs.Additions.{AddedUpTo}
-use Rattle.asn_plan.proofs.Building.{BuiltUpTo}
 use Rattle.asn_plan.proofs.+walk.Given as goal
 
 abbrev pub decreases-walk::build_at : goal.decreases-walk::build_at
@@ -16,19 +15,19 @@ decreases-walk::build_at g l = 8 * length l.nodes.now + 1
 abbrev pub decreases-components::build_component : goal.decreases-components::build_component
 decreases-components::build_component g l = 8 * length l.nodes.now + 2
 
-abbrev pub decreases-components::build_part : goal.decreases-components::build_part
-decreases-components::build_part g l = 8 * length l.nodes.now + 3
-
 abbrev pub decreases-components::build_components : goal.decreases-components::build_components
-decreases-components::build_components g l = 8 * length l.nodes.now + 4
+decreases-components::build_components g l = 8 * length l.nodes.now + 3
 
 abbrev pub decreases-components::build_sequence : goal.decreases-components::build_sequence
 decreases-components::build_sequence g l = 8 * length l.nodes.now
 
-abbrev pub invariant-components::build_components-loop-part : goal.invariant-components::build_components-loop-part
-invariant-components::build_components-loop-part g l =
-    BuiltUpTo g.R.ReadLeaves.rules (g.B.Build.listed l.fn.room l.room l.entries) l.nodes l.parts (drop l.part-index l.parts) l.fn.presence.left l.fn.presence.bitmap l.presence.left (before l.fn.word (g.R.ReadLeaves.rules.to_units l.fn.units)) (before l.word (g.R.ReadLeaves.rules.to_units l.units))
+abbrev pub invariant-components::build_components-loop-at : goal.invariant-components::build_components-loop-at
+invariant-components::build_components-loop-at g l =
+    BuiltUpTo g.R.ReadLeaves.rules (g.B.Build.listed l.fn.room l.room l.entries) l.nodes l.parts (drop l.at l.parts) l.fn.presence.left l.fn.presence.bitmap l.presence.left (before g.R.ReadLeaves.rules l.fn.word (g.R.ReadLeaves.rules.to_units l.fn.units)) (before g.R.ReadLeaves.rules l.word (g.R.ReadLeaves.rules.to_units l.units))
     × (l.presence.bitmap ≡ l.fn.presence.bitmap) × g.R.ReadLeaves.rules.at_unit l.units
+
+abbrev pub decreases-components::build_components-loop-at : goal.decreases-components::build_components-loop-at
+decreases-components::build_components-loop-at g l = length l.parts - l.at
 
 abbrev pub decreases-lists::build_list : goal.decreases-lists::build_list
 decreases-lists::build_list g l = 8 * length l.nodes.now
@@ -55,17 +54,20 @@ decreases-choices::build_choice g l = 8 * length l.nodes.now
 abbrev pub decreases-open::build_complete : goal.decreases-open::build_complete
 decreases-open::build_complete g l = 8 * length l.nodes.now + 2
 
+abbrev pub decreases-open::build_copied : goal.decreases-open::build_copied
+decreases-open::build_copied g l = 8 * length l.nodes.now + 3
+
 abbrev pub decreases-open::build_open : goal.decreases-open::build_open
-decreases-open::build_open g l = 8 * length l.nodes.now + 3
+decreases-open::build_open g l = 8 * length l.nodes.now + 4
 
 abbrev pub decreases-components::build_addition : goal.decreases-components::build_addition
-decreases-components::build_addition g l = 8 * length l.nodes.now + 4
+decreases-components::build_addition g l = 8 * length l.nodes.now + 5
 
 abbrev pub decreases-components::build_open_fields : goal.decreases-components::build_open_fields
-decreases-components::build_open_fields g l = 8 * length l.nodes.now + 5
+decreases-components::build_open_fields g l = 8 * length l.nodes.now + 6
 
 abbrev pub decreases-components::build_additions : goal.decreases-components::build_additions
-decreases-components::build_additions g l = 8 * length l.nodes.now + 6
+decreases-components::build_additions g l = 8 * length l.nodes.now + 7
 
 abbrev pub invariant-components::build_open_fields-loop-part : goal.invariant-components::build_open_fields-loop-part
 invariant-components::build_open_fields-loop-part g l =

@@ -1,4 +1,4 @@
-use Rattle.std.proofs.Common.{◌≡◌, ◌<◌, ◌+◌, refl, arith}
+use Rattle.std.proofs.Common.{refl, arith}
 use Rattle.asn_plan.specs.Words.{before}
 use Rattle.asn_plan.proofs.Building.{built_further, next_node}
 use Rattle.asn_plan.proofs.Entries.{must_entry}

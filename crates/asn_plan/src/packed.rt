@@ -33,11 +33,13 @@ pub(crate) fn build_run<R: PlanLeaves, B: Build>(
         (B.listed s room.old entries.old) (B.listed s room.new entries.new) nodes.now parts.now from at
         (before word.old us) (before word.new us)) }
 {
-    for at in from..parts.len() {
+    let mut at = from;
+    while at < parts.len() {
         let value = build_next::<R, B>(alloc, nodes, &parts[at], word, room)?;
         B::present(room, entries, value)?;
+        at += 1;
         if word.is_empty() {
-            return Some(at + 1);
+            return Some(at);
         }
     }
     None

@@ -1,7 +1,7 @@
 -- What stands in slots, as values are added.
-use Rattle.std.proofs.Common.{◌≡◌, ◌+◌, ℕ, zero, suc, List, [], ◌∷◌, ◌++◌, length, get_or, map, drop, Vec, Global, Option, Some, None, refl, sym, ap, subst, ◌∙◌, append_assoc, append-nil, arith}
+use Rattle.std.proofs.Common.{◌≡◌, ◌+◌, ℕ, zero, suc, List, [], ◌∷◌, ◌++◌, length, map, drop, Vec, Global, Option, Some, None, refl, sym, ap, subst, ◌∙◌, append_assoc, append-nil, arith}
 use Rattle.std.proofs.Math.Numerals.{add-one}
-use Rattle.std.proofs.lemmas.List.{get_or_at, take_at, drop_at, drop_all, drop-append-le, length-append, length-map, map_push}
+use Rattle.std.proofs.lemmas.List.{take_at, drop_at, drop_all, drop-append-le, length-append, length-map, map_push}
 use Rattle.asn_values.specs.Datum.{Datum, components, components_of, elements, elements_of, alternative}
 use Rattle.asn_plan.specs.Plans.{absents}
 use Rattle.asn_plan.proofs.Building.{absents_more}

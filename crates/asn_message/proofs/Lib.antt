@@ -4,3 +4,4 @@ pub mod Passing
 pub mod ViewParts
 pub mod RowSteps
 mod Sourced
+mod Strings

@@ -1,5 +1,5 @@
 -- The leaves of the slots that are left, and the entries and elements that are still to be written.
-use Rattle.std.proofs.Common.{◌≡◌, ◌<◌, ◌≤◌, ◌+◌, ◌-◌, ℕ, zero, suc, List, [], ◌∷◌, ◌++◌, length, length-append, map, take, drop, min, Option, Some, None, refl, sym, ap, subst, ◌∙◌, arith}
+use Rattle.std.proofs.Common.{◌≡◌, ◌≤◌, ◌+◌, ◌-◌, ℕ, zero, suc, List, [], ◌∷◌, ◌++◌, length, length-append, map, take, drop, Option, refl, sym, ap, subst, ◌∙◌, arith}
 use Rattle.std.proofs.Math.Numerals.{add-one}
 use Rattle.std.proofs.lemmas.List.{length-map, length-drop, drop-map, drop_all, take_all}
 use Rattle.asn_values.specs.declared.value.Value.{Value}

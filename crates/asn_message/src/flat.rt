@@ -1,14 +1,16 @@
 //! A builder that puts values into slots.
-ghost use Rattle.std.specs.Prelude.{◌≡◌, ◌++◌, ℕ, List, Option, IfSome};
-ghost use Rattle.asn_values.specs.Datum.{Datum};
+ghost use Rattle.std.specs.Prelude.{◌≡◌, ◌++◌, ℕ, Bool, List, map, Option, IfSome};
+ghost use Rattle.asn_values.specs.Datum.{Datum, bit_list, octet_list};
 ghost use Rattle.asn_values.specs.View.{datum_of};
+ghost use Rattle.asn_bits.specs.Numbers.{bits, octets};
+ghost use Rattle.asn_bits.specs.Sink.{bit_of};
 ghost use Rattle.asn_walk.specs.Integers.{IsOfProfile};
 ghost use Rattle.asn_message.specs.declared.slots.Room.{Room};
 ghost use Rattle.asn_message.specs.Building.{IsPut, IsNumberAlone, AreEntries, AreElements, IsBegun, Grows};
 ghost use Rattle.asn_message.specs.Slots.{entries_inside, value_at};
 
 use crate::slots::{Content, Room, Slot};
-use asn_plan::Build;
+use asn_plan::{Build, FixedString};
 use asn_values::Value;
 use asn_values::profile::{HIGHEST_INTEGER, LOWEST_INTEGER};
 use std::alloc::Global;
@@ -68,6 +70,21 @@ impl Build for Flat {
     #[inline(always)]
     fn item(room: &mut Room, position: u32) -> Option<usize> {
         let at = put_slot(room, Content::Item(position))?;
+        Some(at)
+    }
+
+    #[inline(always)]
+    fn takes_strings() -> bool {
+        true
+    }
+
+    #[inline(always)]
+    fn string(room: &mut Room, fixed: &FixedString, number: u64) -> Option<usize> {
+        if fixed.of_octets {
+            let at = put_low_octets(room, fixed.length, number)?;
+            return Some(at);
+        }
+        let at = put_low_bits(room, fixed.length, number)?;
         Some(at)
     }
 
@@ -150,6 +167,33 @@ fn put_slot(room: &mut Room, content: Content) -> Option<usize>
         → IsPut r room.new at d) }
 {
     let at = room.push(content)?;
+    Some(at)
+}
+
+/// Puts a BIT STRING of the last `count` bits of a number into a slot.
+#[inline(never)]
+fn put_low_bits(room: &mut Room, count: u32, number: u64) -> Option<usize>
+    ensures { IfSome result (λ at. (bs : List Bool) → map bit_of bs ≡ bits count number
+        → IsPut room.old room.new at (bit_list bs)) }
+{
+    if count > 64 {
+        return None;
+    }
+    let span = room.push_low_bits(count, number)?;
+    let at = put_slot(room, Content::Bits(span))?;
+    Some(at)
+}
+
+/// Puts an OCTET STRING of the last `count` octets of a number into a slot.
+#[inline(never)]
+fn put_low_octets(room: &mut Room, count: u32, number: u64) -> Option<usize>
+    ensures { IfSome result (λ at. IsPut room.old room.new at (octet_list (octets count number))) }
+{
+    if count > 8 {
+        return None;
+    }
+    let span = room.push_low_octets(count, number)?;
+    let at = put_slot(room, Content::Octets(span))?;
     Some(at)
 }
 

@@ -1,9 +1,12 @@
 //! The slots of a value.
-ghost use Rattle.std.specs.Prelude.{◌≡◌, ◌<◌, ◌++◌, ◌∷◌, [], ℕ, List, length, vec_len, vec_capacity, IfSome, IsSome};
+ghost use Rattle.std.specs.Prelude.{◌≡◌, ◌≤◌, ◌<◌, ◌++◌, ◌∷◌, [], ℕ, Bool, List, map, length, vec_len, vec_capacity, IfSome, IsSome};
 ghost use Rattle.asn_message.specs.declared.slots.Slot.{Slot};
+ghost use Rattle.asn_bits.specs.Numbers.{bits, octets};
+ghost use Rattle.asn_bits.specs.Sink.{bit_of};
 ghost use Rattle.asn_message.specs.Building.{Grows};
 ghost use Rattle.asn_message.specs.Slots.{octets_at, bits_at};
 
+use asn_bits::internal::low_octet;
 use std::alloc::Global;
 
 /// Where a string stands among the octets of a message.
@@ -161,6 +164,50 @@ impl Room {
             return None;
         };
         Some(Span { begin, length })
+    }
+
+    /// The same of the last `count` octets of a number.
+    pub(crate) fn push_low_octets(&mut self, count: u32, number: u64) -> Option<Span>
+        requires few { count ≤ 8 }
+        ensures slots { self.new.slots ≡ self.old.slots }
+        ensures absent { self.new.absent ≡ self.old.absent }
+        ensures octets { IsSome result → self.new.octets.items ≡ self.old.octets.items ++ octets count number }
+        ensures at { IfSome result (λ s. (more : List ℕ)
+            → octets_at (self.new.octets.items ++ more) s ≡ octets count number) }
+    {
+        let begin = u32::try_from(self.octets.len()).ok()?;
+        for i in 0..count {
+            let octet = low_octet(number >> (8 * (count - 1 - i)));
+            let Ok(()) = self.octets.push(octet) else {
+                return None;
+            };
+        }
+        Some(Span {
+            begin,
+            length: count,
+        })
+    }
+
+    /// The same of the last `count` bits of a number, an octet for each.
+    pub(crate) fn push_low_bits(&mut self, count: u32, number: u64) -> Option<Span>
+        requires few { count ≤ 64 }
+        ensures slots { self.new.slots ≡ self.old.slots }
+        ensures absent { self.new.absent ≡ self.old.absent }
+        ensures octets { IsSome result → Grows self.old self.new }
+        ensures at { IfSome result (λ s. (more : List ℕ) (bs : List Bool) → map bit_of bs ≡ bits count number
+            → bits_at (self.new.octets.items ++ more) s ≡ bs) }
+    {
+        let begin = u32::try_from(self.octets.len()).ok()?;
+        for i in 0..count {
+            let bit = (number >> (count - 1 - i) & 1) as u8;
+            let Ok(()) = self.octets.push(bit) else {
+                return None;
+            };
+        }
+        Some(Span {
+            begin,
+            length: count,
+        })
     }
 
     /// The same of bits, an octet for each.

@@ -1,5 +1,5 @@
 -- Strings of one length that are told by bits taken at once, by PER.
-use Rattle.std.proofs.Common.{◌≡◌, ◌≤◌, ◌<◌, ◌+◌, ◌*◌, ◌++◌, ◌^◌, ℕ, Bool, false, length, map, List, None, refl, sym, ap, subst, ◌∙◌, append_assoc, arith}
+use Rattle.std.proofs.Common.{◌≡◌, ◌≤◌, ◌<◌, ◌++◌, ◌^◌, ℕ, Bool, false, length, map, List, None, refl, sym, ap, subst, ◌∙◌, append_assoc, arith}
 use Rattle.std.proofs.lemmas.List.{length-map}
 use Rattle.asn_values.specs.Datum.{Datum, bit_list, octet_list}
 use Rattle.asn_values.specs.Profile.{InProfile}

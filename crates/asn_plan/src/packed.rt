@@ -37,11 +37,13 @@ pub(crate) fn build_run<R: PlanLeaves, B: Build>(
         (B.listed s room.old entries.old) (B.listed s room.new entries.new) nodes.now parts.now from at
         (before R.rules word.old (R.rules.to_units units.old)) (before R.rules word.new (R.rules.to_units units.new))) }
 {
-    for at in from..parts.len() {
+    let mut at = from;
+    while at < parts.len() {
         let value = build_next::<R, B>(alloc, nodes, &parts[at], word, units, room)?;
         B::present(room, entries, value)?;
+        at += 1;
         if word.is_empty() {
-            return Some(at + 1);
+            return Some(at);
         }
     }
     None

@@ -1,4 +1,4 @@
-use Rattle.std.proofs.Common.{◌≡◌, ◌-◌, ◌+◌, ◌∙◌, [], drop, List, Option, sym, ap, refl, arith}
+use Rattle.std.proofs.Common.{◌≡◌, ◌-◌, ◌∙◌, [], drop, List, Option, sym, ap, refl, arith}
 use Rattle.asn_values.specs.Datum.{Datum}
 use Rattle.asn_values.proofs.Alternatives.{no_truth}
 use Rattle.asn_message.specs.Rows.{left_entries}

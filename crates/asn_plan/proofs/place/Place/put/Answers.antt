@@ -1,5 +1,5 @@
 use Rattle.std.proofs.Common.{rules, ◌≡◌, ◌<◌, length, arith}
-use Rattle.asn_plan.proofs.Placing.{placed, added, passed}
+use Rattle.asn_plan.proofs.Placing.{placed, added}
 use Rattle.std.proofs.Common.{refl}
 use Rattle.asn_plan.proofs.place.Place.put.Goals as goal
 

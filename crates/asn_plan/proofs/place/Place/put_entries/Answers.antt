@@ -1,5 +1,5 @@
-use Rattle.std.proofs.Common.{rules, ◌≡◌, ◌<◌, length, arith}
-use Rattle.asn_plan.proofs.Placing.{placed, added, passed}
+use Rattle.std.proofs.Common.{rules, ◌<◌, length, arith}
+use Rattle.asn_plan.proofs.Placing.{placed}
 use Rattle.asn_plan.proofs.place.Place.put_entries.Goals as goal
 
 pub returns-in-Some : goal.returns-in-Some

@@ -1,4 +1,4 @@
-use Rattle.std.proofs.Common.{rules, ◌≡◌, ◌<◌, length, arith}
+use Rattle.std.proofs.Common.{rules, ◌<◌, length, arith}
 use Rattle.asn_plan.proofs.Placing.{placed}
 use Rattle.asn_plan.proofs.place.Place.put_integer.Goals as goal
 

@@ -17,7 +17,7 @@ use asn_oer::Oer;
 use asn_oer::internal::marks;
 use asn_rules::internal::{offsets_of, try_counted_signed};
 use asn_values::profile::LOWEST_INTEGER;
-use asn_walk::Preamble;
+use asn_walk::{Preamble, ReadLeaves};
 
 /// The most octets that are taken at once.
 pub(crate) const MOST_OCTETS: u32 = 7;
@@ -86,8 +86,8 @@ impl PlanLeaves for Oer {
 
     #[inline(always)]
     fn try_ranged(range: &Ranged, units: &mut BitCursor<'_>) -> Option<i128> {
-        if range.octets == 0 {
-            return try_counted(range, units);
+        if range.octets == 0 || range.octets > MOST_OCTETS {
+            return try_apart(range, units);
         }
         let start = units.copied();
         let run = Run {
@@ -105,10 +105,11 @@ impl PlanLeaves for Oer {
     }
 }
 
-/// Reads an INTEGER with an extension mark by OER, which is spelt as one without bounds; `None`, and nothing is taken, of
-/// one without a mark, and where it is not at hand.
+/// Reads an INTEGER by OER whose octets are more than are taken at once, or not as many for all its numbers; one with an
+/// extension mark is spelt as one without bounds. `None`, and nothing is taken, where it is not at hand.
 #[inline(never)]
-fn try_counted(range: &Ranged, units: &mut BitCursor<'_>) -> Option<i128>
+#[tactic(auto, unfolding(asn_oer::specs::Walk::oer_coding, asn_oer::specs::Rules::oer_ruling))]
+fn try_apart(range: &Ranged, units: &mut BitCursor<'_>) -> Option<i128>
     requires at_octet { AtOctet units.old }
     requires ranged { IsRanged range.now }
     ensures at_octet { AtOctet units.new }
@@ -117,7 +118,7 @@ fn try_counted(range: &Ranged, units: &mut BitCursor<'_>) -> Option<i128>
     ensures none { IsNone result → units.new ≡ units.old }
 {
     if !range.marked {
-        return None;
+        return Oer::try_between(range.low, range.high, units);
     }
     let offset = try_counted_signed(offsets_of(None, None, None), units)?;
     Some(at_offset(LOWEST_INTEGER, offset))

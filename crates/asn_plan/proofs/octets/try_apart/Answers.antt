@@ -10,7 +10,7 @@ use Rattle.asn_per.specs.Kinds.{between}
 use Rattle.asn_oer.specs.Oer.{oer_fields}
 use Rattle.asn_oer.specs.Reading.{IntegersBut}
 use Rattle.asn_oer.proofs.Read.IntegerReading.{counted_signed_leads, counted_where, given, marked_leads}
-use Rattle.asn_plan.proofs.octets.try_counted.Goals as goal
+use Rattle.asn_plan.proofs.octets.try_apart.Goals as goal
 
 pub returns-clause-some : goal.returns-clause-some
 returns-clause-some c =

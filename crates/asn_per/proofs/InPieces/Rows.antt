@@ -1,5 +1,5 @@
 -- Rows of numbers in bits: a number of at most n octets has at most their bits, and a BOOLEAN has one.
-use Rattle.std.proofs.Common.{◌≡◌, ◌≢◌, ◌≤◌, ◌<◌, ◌+◌, ◌-◌, ◌*◌, ◌^◌, ◌⊎◌, ◌<ℤ◌, ◌≤ℤ◌, ◌-ℤ◌, ⊎_elim, inl, inr, ℕ, zero, suc, ℤ, pos, negsuc, ◌+ℤ◌, false, List, [], ◌++◌, length, Some, None, refl, ap, subst, arith}
+use Rattle.std.proofs.Common.{◌≡◌, ◌≤◌, ◌<◌, ◌+◌, ◌-◌, ◌*◌, ◌^◌, ◌⊎◌, ◌≤ℤ◌, ◌-ℤ◌, ⊎_elim, inl, inr, ℕ, zero, suc, ℤ, pos, ◌+ℤ◌, List, [], ◌++◌, length, None, refl, subst, arith}
 use Rattle.std.proofs.lemmas.Int.{ints}
 use Rattle.asn_values.specs.Datum.{Datum, number}
 use Rattle.asn_values.specs.Profile.{InProfile}
@@ -8,7 +8,7 @@ use Rattle.asn_bits.specs.Numbers.{width, above}
 use Rattle.asn_bits.proofs.Above.{pos-above}
 use Rattle.asn_bits.proofs.Fewest.{width_below}
 use Rattle.asn_bits.proofs.Widths.{width_holds}
-use Rattle.asn_rules.specs.Chunks.{Chunk, ones}
+use Rattle.asn_rules.specs.Chunks.{Chunk}
 use Rattle.asn_rules.specs.Languages.{Map}
 use Rattle.asn_rules.specs.Listed.{Spelt}
 use Rattle.asn_per.specs.Kinds.{Below, Integers}

@@ -1,4 +1,4 @@
-use Rattle.std.proofs.Common.{◌≡◌, ◌<◌, ◌*◌, ◌++◌}
+use Rattle.std.proofs.Common.{◌<◌}
 use Rattle.asn_bits.specs.Numbers.{bits}
 use Rattle.asn_bits.proofs.Weights.{bits_are}
 use Rattle.asn_rules.proofs.Numbers.Sets.{first_spells}

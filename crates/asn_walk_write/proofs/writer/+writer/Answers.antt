@@ -1,4 +1,4 @@
-use Rattle.std.proofs.Common.{rules, ℕ, false, ◌^◌, subst, take, drop, true, ◌≡◌, ◌∷◌, map, min, Some, None, [], ◌⊎◌, inr, OnOk, ◌+◌, ◌≤◌, refl, sym, ap, ◌∙◌, arith, ◌<◌, length, ◌-◌, inl}
+use Rattle.std.proofs.Common.{rules, ℕ, false, ◌^◌, subst, take, drop, true, ◌≡◌, ◌∷◌, map, min, Some, None, [], ◌⊎◌, inr, refl, sym, ap, ◌∙◌, arith, ◌<◌, length, ◌-◌, inl}
 use mir.Syntax.{w128}
 use mir.Val.{to_z, of_z}
 use Rattle.std.specs.Option.{option_map}
@@ -8,8 +8,6 @@ use Rattle.asn_values.specs.declared.types.AsnType.{the_lemmas}
 use Rattle.asn_values.specs.Shape.{Shape, integer, MoreFields, sequence, marked, optional}
 use Rattle.asn_values.specs.Datum.{number}
 use Rattle.asn_values.specs.Fits.{Fits, FitsLength, FitsNumber}
-use Rattle.asn_values.specs.Measures.{depth}
-use Rattle.asn_values.specs.Profile.{InProfile}
 use Rattle.asn_values.specs.View.{shape_of, datum_of, range_of, fields_of, part_of_field, demand_of, more_fields_of, size_range_of}
 use Rattle.asn_values.proofs.Views.{shape_of-Int, sequence_of_fields}
 use Rattle.asn_values.proofs.Alternatives.{fits_at, no_truth}
@@ -21,7 +19,7 @@ use Rattle.asn_sinks.specs.declared.sink.Framing.{Framing}
 use Rattle.asn_sinks.proofs.Pushing.{pushed_same}
 use Rattle.asn_rules.specs.Components.{is_spelled}
 use Rattle.asn_walk.specs.Composites.{in_open_field}
-use Rattle.asn_walk.specs.Writing.{written, Writes, TakesAt, TellsWhether, mark_bits, Advances}
+use Rattle.asn_walk.specs.Writing.{written, Writes, TakesAt, mark_bits, Advances}
 use Rattle.asn_walk.proofs.Parts.{few_components, marked_fields, added_of_profile, few_added, good_at, few_root, few_all, roots_good, additions_good}
 use Rattle.asn_walk.proofs.Widths.{demand_of_part, datum_of-Int}
 use Rattle.asn_walk_write.proofs.WriteChoices.{root_fits, added_fits, past_root, past_additions, spelled_there, root_written as choice_root_written, added_written as choice_added_written}

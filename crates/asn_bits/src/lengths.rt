@@ -1,10 +1,10 @@
 //! General lengths, and octets under them (X.691, "general length determinant").
-ghost use Rattle.std.specs.Prelude.{◌≡◌, ◌+◌, ◌*◌, ◌/◌, ◌^◌, ◌<◌, ◌≤◌, ◌≤ℤ◌, ◌++◌, length, IfOk, OnOk, OnErr, vec_len, vec_capacity};
+ghost use Rattle.std.specs.Prelude.{◌≡◌, ◌+◌, ◌*◌, ◌/◌, ◌%◌, ◌^◌, ◌<◌, ◌≤◌, ◌≤ℤ◌, ◌++◌, length, IfOk, OnOk, OnErr, vec_len, vec_capacity};
 ghost use Rattle.asn_values.specs.Fits.{lowest_integer, highest_integer};
 ghost use Rattle.asn_bits.specs.LengthBits.{first_length};
 ghost use Rattle.asn_bits.specs.Lengths.{general_octets};
-ghost use Rattle.asn_bits.specs.Numbers.{bits, least, least_signed};
-ghost use Rattle.asn_bits.specs.Sink.{IsPut};
+ghost use Rattle.asn_bits.specs.Numbers.{bits, least, least_signed, unpacked};
+ghost use Rattle.asn_bits.specs.Sink.{IsPut, AddsFilled};
 
 use crate::numbers::{least_signed_parts, octet_count};
 use crate::sink::{BitSink, put, put_octets};
@@ -46,6 +46,36 @@ impl BitSink {
     {
         let (front_bits, front, rest_bits, rest) = least_signed_parts(z);
         self.append_both(front_bits, front, rest_bits, rest)
+    }
+
+    /// Adds the octets that the bits of another sink fill, under their general length, fragments and all. An `Err` is
+    /// out of memory, and then a part of the bits may have been added.
+    pub fn push_filled(&mut self, content: BitSink) -> Result<(), AllocError>
+        requires { length content % 8 ≡ 0 }
+        ensures { OnOk result (AddsFilled self.old content self.new) }
+    {
+        let count = content.octet_count();
+        if count >= 128 {
+            let octets = content.into_octets();
+            return self.push_general_octets(octets.as_slice());
+        }
+        self.append(8, count as u64)?;
+        self.push_all_of(content)
+    }
+
+    // adds all bits of the octets, eight octets at once
+    pub(crate) fn push_words(&mut self, octets: &[u8]) -> Result<(), AllocError>
+        ensures { OnOk result (self.new ≡ self.old ++ unpacked octets.now) }
+    {
+        let mut rest = octets;
+        while let Some((eight, others)) = rest.split_first_chunk::<8>() {
+            self.append(64, u64::from_be_bytes(*eight))?;
+            rest = others;
+        }
+        if rest.is_empty() {
+            return Ok(());
+        }
+        self.push_octets(rest)
     }
 }
 

@@ -29,6 +29,8 @@ pub struct BitSink {
     // the low `count` bits of it are pending; the higher bits are garbage
     pending: u64,
     count: u32,
+    // at most 64; where fewer bits wait than this, there is room for the word that they are to fill
+    most: u32,
     // where there are fewer octets than this, no bits wait and there is room for three words more
     limit: usize,
 }
@@ -38,7 +40,9 @@ impl Model for BitSink {
 
     ghost view = { λ s. unpacked s.octets.items ++ bits s.count s.pending };
 
-    ghost invariant = { λ s. (s.count < 64) × ((0 < s.count → vec_len s.octets + 8 ≤ vec_capacity s.octets)
+    ghost invariant = { λ s. ((s.count < 64) × (s.most ≤ 64)
+        × (0 < s.most → (s.limit ≡ 0) × (vec_len s.octets + 8 ≤ vec_capacity s.octets)))
+        × ((0 < s.count → vec_len s.octets + 8 ≤ vec_capacity s.octets)
         × (0 < s.limit → (s.count ≡ 0) × (s.limit + 23 ≤ vec_capacity s.octets))) };
 }
 
@@ -51,6 +55,7 @@ impl BitSink {
             octets: Vec::new(alloc),
             pending: 0,
             count: 0,
+            most: 0,
             limit: 0,
         }
     }
@@ -68,6 +73,7 @@ impl BitSink {
             octets,
             pending: 0,
             count: 0,
+            most: 0,
             limit,
         })
     }
@@ -162,6 +168,7 @@ impl BitSink {
         push_low(&mut self.octets, self.count / 8, self.pending);
         push_low(&mut self.octets, count, n);
         self.count = 0;
+        self.most = 0;
         self.limit = self.octets.capacity() - 23;
         Ok(())
     }
@@ -177,6 +184,7 @@ impl BitSink {
         self.count = count;
         self.pending = pending;
         if count > 0 {
+            self.most = 64;
             self.limit = 0;
         }
         Ok(())
@@ -190,6 +198,7 @@ impl BitSink {
     {
         if self.count == 0 && self.octets.capacity() - self.octets.len() >= octets.len() {
             push_all(&mut self.octets, octets);
+            self.most = 0;
             return Ok(());
         }
         self.push_octets(octets)
@@ -211,6 +220,7 @@ impl BitSink {
         );
         self.count = count;
         self.pending = pending;
+        self.most = 64;
         self.limit = 0;
         Ok(())
     }
@@ -244,6 +254,23 @@ impl BitSink {
         without_spare(octets)
     }
 
+    // how many octets the bits fill
+    pub(crate) fn octet_count(&self) -> usize
+        requires { length self.now % 8 ≡ 0 }
+        ensures { 8 * result ≡ length self.now }
+    {
+        self.octets.len() + (self.count / 8) as usize
+    }
+
+    // adds all bits of another sink, which fill octets
+    pub(crate) fn push_all_of(&mut self, other: BitSink) -> Result<(), AllocError>
+        requires { length other % 8 ≡ 0 }
+        ensures { OnOk result (self.new ≡ self.old ++ other) }
+    {
+        self.push_words(other.octets.as_slice())?;
+        self.append(other.count, last_octets(other.count / 8, other.pending))
+    }
+
     // adds n in k bits, in one step
     #[inline(always)]
     pub(crate) fn append(&mut self, k: u32, n: u64) -> Result<(), AllocError>
@@ -252,12 +279,12 @@ impl BitSink {
         ensures ok { OnOk result (self.new ≡ self.old ++ bits k n) }
         ensures err { OnErr result (self.new ≡ self.old) }
     {
-        let count = self.count;
-        if count == 0 || count + k >= 64 {
+        let count = self.count + k;
+        if count >= self.most {
             return self.append_word(k, n);
         }
         self.pending = shift_in(self.pending, k, n);
-        self.count = count + k;
+        self.count = count;
         Ok(())
     }
 
@@ -275,6 +302,7 @@ impl BitSink {
         let (count, pending) = put(&mut self.octets, self.count, self.pending, k, n);
         self.count = count;
         self.pending = pending;
+        self.most = 64;
         self.limit = 0;
         Ok(())
     }
@@ -291,6 +319,7 @@ impl BitSink {
         let (count, pending) = put(&mut self.octets, self.count, self.pending, k, n);
         self.count = count;
         self.pending = pending;
+        self.most = 64;
         self.limit = 0;
         Ok(())
     }
@@ -310,6 +339,7 @@ impl BitSink {
         let (count, pending) = put(&mut self.octets, count, pending, k, n);
         self.count = count;
         self.pending = pending;
+        self.most = 64;
         self.limit = 0;
         Ok(())
     }

@@ -12,7 +12,7 @@ ghost use Rattle.asn_walk.specs.Views.{index_seen};
 ghost use Rattle.asn_per.specs.Reading.{Reads, ReadsMark, StopsAtMark, StopsIn, only};
 
 use asn_bits::BitCursor;
-use asn_bits::internal::width;
+use asn_bits::internal::width_up_to;
 use asn_rules::Why;
 use asn_rules::internal::{NumberSet, Stop, bits_left, read_constrained, read_number, read_up_to};
 use asn_sinks::Sink;
@@ -37,7 +37,7 @@ pub(crate) fn write_index<S: Sink>(
     match index {
         Index::Root(index) => {
             let mark_bits = u32::from(marked);
-            sink.push_number(mark_bits + width(root as u128), index as u64)
+            sink.push_number(mark_bits + width_up_to(root as u64 - 1), index as u64)
         }
         Index::Added(index) => {
             sink.push(true)?;

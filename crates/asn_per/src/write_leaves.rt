@@ -11,6 +11,7 @@ use crate::items::write_item;
 use crate::rules::Per;
 use crate::sizes::{Following, write_size};
 use crate::string_items::{Items, write_sized};
+use asn_bits::internal::shift_in;
 use asn_rules::Unwritten;
 use asn_sinks::{Framing, Sink};
 use asn_values::internal::{item_fits, length_fits, octets_fit, text_fits, unicode_fits};
@@ -81,6 +82,9 @@ impl WriteLeaves for Per {
         let Some(extended) = extended else {
             return write_bitmap(count, bitmap, sink);
         };
+        if count < 64 {
+            return sink.push_number(1 + count, shift_in(u64::from(extended), count, bitmap));
+        }
         sink.push(extended)?;
         write_bitmap(count, bitmap, sink)
     }

@@ -71,10 +71,10 @@ impl Sink for BitSink {
     fn end_field(&mut self, outer: BitSink, framing: Framing) -> Result<(), AllocError> {
         let mut content = mem::replace(self, outer);
         content.pad()?;
-        let octets = content.into_octets();
         match framing {
-            Framing::General => BitSink::push_general_octets(self, octets.as_slice()),
+            Framing::General => self.push_filled(content),
             Framing::Single => {
+                let octets = content.into_octets();
                 push_single_length(octets.len() as u64, self)?;
                 BitSink::push_row(self, octets.as_slice())
             }

@@ -3,10 +3,10 @@ use Rattle.std.proofs.Common.{◌≡◌, ◌↔◌, ◌⊎◌, ◌≤◌, ℕ, B
 use Rattle.std.proofs.lemmas.Bool.{not-false}
 use Rattle.std.proofs.lemmas.List.{append-nil}
 use Rattle.asn_values.specs.Datum.{Datum}
-use Rattle.asn_values.specs.Shape.{Shape, Demand, must, optional, default, Fields, no_fields, field}
+use Rattle.asn_values.specs.Shape.{Shape, Demand, must, optional, default, Fields, no_fields, field, MoreFields, sequence}
 use Rattle.asn_values.specs.Fits.{Fits, FitsDemand, FitsEach}
 use Rattle.asn_values.specs.Measures.{depth, fields_depth}
-use Rattle.asn_values.specs.Profile.{InProfile}
+use Rattle.asn_values.specs.Profile.{InProfile, good_default}
 use Rattle.asn_values.specs.Parts.{IsGoodDemand}
 use Rattle.asn_values.specs.View.{Part, fields_of, demand_of}
 use Rattle.asn_values.specs.declared.types.Need.{Need}
@@ -160,6 +160,16 @@ pub spelt_unless_default : (n : Need) (d : Datum) → ((x : Value) → n ≡ nee
 spelt_unless_default need.Must d h = refl
 spelt_unless_default need.Optional d h = refl
 spelt_unless_default (need.Default x) d h = absurd (h x refl)
+
+-- a SEQUENCE, which has no DEFAULT, is spelt
+pub spelt_sequence : (demand : Demand) (t : Shape) (root : Fields) (more : MoreFields) (d : Datum) → t ≡ sequence root more → IsGoodDemand demand t
+    → is_spelled demand (Some d) ≡ true
+spelt_sequence must t root more d e g = refl
+spelt_sequence optional t root more d e g = refl
+spelt_sequence (default x) t root more d e g = absurd (none x (subst (λ (s : Shape). good_default s x ≡ true) e g))
+  where
+    none : (x : Datum) → good_default (sequence root more) x ≡ true → ⊥
+    none x h = absurd (cc)
 
 -- one that is spelt
 pub written_more : {Sink : Type 0} {push : Pushing Sink} {c : Coding} (laws : WriteLaws c) {all : List Part} {entries : List (Option Datum)}

@@ -1,7 +1,8 @@
 -- What is written of a value, whatever it is taken from.
+use Rattle.std.specs.Global.{Vec}
 use Rattle.std.specs.Prelude.{◌≡◌, ◌<◌, ◌^◌, ◌++◌, ℕ, Bool, true, List, [], length, map, Option}
 use Rattle.asn_values.specs.declared.types.Alt.{Alt}
-use Rattle.asn_values.specs.declared.types.AsnType.{AsnType}
+use Rattle.asn_values.specs.declared.types.AsnType.{AsnType, Seq}
 use Rattle.asn_values.specs.declared.types.Field.{Field}
 use Rattle.asn_values.specs.declared.types.Size.{Size}
 use Rattle.asn_values.specs.Datum.{Datum, elements, elements_of}
@@ -34,6 +35,12 @@ WritesWhole {Sink} {Origin} stands wants level c old new t d =
 -- each entry is one of its component
 abbrev pub EachFits : List Field → List (Option Datum) → Type 0
 EachFits fs es = FitsEach (fields_seen fs) es
+
+-- the type is a SEQUENCE of these components, and of these additions where there is an extension mark
+pub record IsSequence (t : AsnType) : Type 0 where
+  pub root : Vec Field
+  pub ext : Option (Vec Field)
+  pub is : t ≡ Seq root ext
 
 -- a sink has taken the root of a SEQUENCE, with this extension bit; and its extension additions
 abbrev pub WritesRootOf : {Sink : Type 0} → Pushing Sink → Coding → Sink → Sink → Option Bool → List Field → List (Option Datum) → Type 0

@@ -1,14 +1,14 @@
 //! Which components of a SEQUENCE are encoded.
-ghost use Rattle.std.specs.Prelude.{◌≡◌, ◌↔◌, ◌≤◌, ◌<◌, ◌^◌, IsTrue, length};
+ghost use Rattle.std.specs.Prelude.{◌≡◌, ◌≤◌, ◌<◌, ◌^◌, length};
 ghost use Rattle.std.specs.Option.{option_map};
 ghost use Rattle.asn_values.specs.Parts.{AreOfProfile, IsGoodDemand};
 ghost use Rattle.asn_values.specs.Shape.{demands};
 ghost use Rattle.asn_values.specs.View.{datum_of, part_of_field, fields_seen};
 ghost use Rattle.asn_bits.specs.Numbers.{bits};
-ghost use Rattle.asn_rules.specs.Components.{is_spelled, presence};
+ghost use Rattle.asn_rules.specs.Components.{is_default, is_spelled, presence};
 
 use asn_source::Source;
-use asn_values::{Field, Need, Value, same};
+use asn_values::{Field, Need, Value};
 use asn_walk::has_presence_bit;
 
 /// How many presence bits the components have, and the bitmap as a number, its first bit the highest.
@@ -44,18 +44,20 @@ pub(crate) fn is_encoded<V: Source>(field: &Field, entry: Option<V>) -> bool
         return true;
     };
     match value.leaf() {
-        Some(leaf) => !are_same(default, leaf),
+        Some(leaf) => !is_default(default, leaf),
         None => true,
     }
 }
 
-/// Whether both are the same value: of BOOLEANs, which most components with a DEFAULT are, it is asked at once.
+/// Whether a value is this DEFAULT: a BOOLEAN, an INTEGER or an ENUMERATED.
 #[inline(always)]
-fn are_same(left: &Value, right: &Value) -> bool
-    ensures { IsTrue result ↔ (datum_of left.now ≡ datum_of right.now) }
+fn is_default(default: &Value, value: &Value) -> bool
+    ensures { result ≡ is_default (datum_of default.now) (datum_of value.now) }
 {
-    match (left, right) {
+    match (default, value) {
         (Value::Bool(truth), Value::Bool(other)) => *truth == *other,
-        _ => same(left, right),
+        (Value::Int(number), Value::Int(other)) => *number == *other,
+        (Value::Enum(index), Value::Enum(other)) => *index == *other,
+        _ => false,
     }
 }

@@ -1,5 +1,5 @@
 //! The writer of values.
-ghost use Rattle.std.specs.Prelude.{◌≡◌, ◌+◌, ◌≤◌, ◌<◌, OnOk, length};
+ghost use Rattle.std.specs.Prelude.{◌≡◌, ◌+◌, ◌≤◌, ◌<◌, OnOk, Some, None, length};
 ghost use Rattle.std.specs.List.{AllByRecursion};
 ghost use Rattle.asn_values.specs.Fits.{Fits, FitsAlternative};
 ghost use Rattle.asn_values.specs.Measures.{depth, fields_depth, choice_depth};
@@ -8,7 +8,7 @@ ghost use Rattle.asn_values.specs.Profile.{InProfile};
 ghost use Rattle.asn_values.specs.View.{shape_of, sequence_of_seen, fields_seen, alternatives_seen};
 ghost use Rattle.asn_walk.specs.Composites.{each_code, open_code};
 ghost use Rattle.asn_walk.specs.Writing.{TellsWhether, Writes, TakesAt, AreOptional};
-ghost use Rattle.asn_walk_write.specs.Sources.{EachFits, WritesDatum, WritesOpenDatum, WritesWhole, WritesRootOf, WritesAdditionsOf, WritesAlternativeOf, WritesOpenAlternativeOf, WritesListOf, WritesRowOf, list_of};
+ghost use Rattle.asn_walk_write.specs.Sources.{EachFits, WritesDatum, WritesOpenDatum, WritesWhole, IsSequence, WritesRootOf, WritesAdditionsOf, WritesAlternativeOf, WritesOpenAlternativeOf, WritesListOf, WritesRowOf, list_of};
 
 use crate::encoded::{is_encoded, presence_bitmap};
 use crate::lengths::FieldLengths;
@@ -83,20 +83,7 @@ fn write<R: WriteLeaves, S: FieldLengths, V: Source>(
 {
     R::keep_write_laws();
     match ty {
-        AsnType::Seq { root, ext } => {
-            let Some(entries) = value.entries() else {
-                return Err(Unwritten::NotOfType);
-            };
-            match ext {
-                None => write_root::<R, S, V>(None, root, entries, level, sink),
-                Some(additions) => {
-                    let (root_entries, addition_entries) = V::split_entries(entries, root.len());
-                    let extended = V::is_any_present(addition_entries);
-                    write_root::<R, S, V>(Some(extended), root, root_entries, level, sink)?;
-                    write_additions::<R, S, V>(additions, addition_entries, level, sink)
-                }
-            }
-        }
+        AsnType::Seq { .. } => write_sequence::<R, S, V>(ty, value, level, sink),
         AsnType::Choice { root, ext } => {
             let Some(chosen) = value.chosen() else {
                 return Err(Unwritten::NotOfType);
@@ -139,6 +126,45 @@ fn write<R: WriteLeaves, S: FieldLengths, V: Source>(
     }
 }
 
+/// Writes a value of a SEQUENCE, where it is one: its root, and after it the extension additions, where there is an
+/// extension mark.
+#[inline(always)]
+#[cycle(writer)]
+fn write_sequence<R: WriteLeaves, S: FieldLengths, V: Source>(
+    ty: &AsnType,
+    value: V,
+    level: usize,
+    sink: &mut S,
+) -> Result<(), Unwritten<S::Fault>>
+    requires sequence { IsSequence ty.now }
+    requires of_profile { InProfile (shape_of ty.now) }
+    requires deep { level + depth (shape_of ty.now) ≤ 32 }
+    ensures of_type { TellsWhether result (Fits (shape_of ty.now) (V.datum value)) }
+    ensures written { OnOk result (WritesDatum (TakesAt S.stands S.wants_lengths level) R.rules
+        sink.old sink.new ty.now (V.datum value)) }
+{
+    R::keep_write_laws();
+    let AsnType::Seq { root, ext } = ty else {
+        unreachable!()
+    };
+    let Some(entries) = value.entries() else {
+        return Err(Unwritten::NotOfType);
+    };
+    let Some(additions) = ext else {
+        return write_plain::<R, S, V>(root, entries, level, sink);
+    };
+    let (root_entries, addition_entries) = V::split_entries(entries, root.len());
+    let extended = V::is_any_present(addition_entries);
+    write_marked::<R, S, V>(extended, root, root_entries, level, sink)?;
+    if extended {
+        return write_additions::<R, S, V>(additions, addition_entries, level, sink);
+    }
+    if additions.len() != V::count_entries(addition_entries) {
+        return Err(Unwritten::NotOfType);
+    }
+    Ok(())
+}
+
 /// Writes a value, where it is one of the alternative at this index.
 #[cycle(writer)]
 fn write_alternative<R: WriteLeaves, S: FieldLengths, V: Source>(
@@ -179,8 +205,46 @@ fn write_added_alternative<R: WriteLeaves, S: FieldLengths, V: Source>(
     write_open_field::<R, S, V>(&alternatives[index].ty, value, level, sink)
 }
 
+/// Writes the components of a SEQUENCE without an extension mark, where each entry is one of its component.
+#[cycle(writer)]
+fn write_plain<R: WriteLeaves, S: FieldLengths, V: Source>(
+    fields: &[Field],
+    entries: V::Entries,
+    level: usize,
+    sink: &mut S,
+) -> Result<(), Unwritten<S::Fault>>
+    requires of_profile { AreOfProfile (fields_seen fields.now) }
+    requires few { length fields.now ≤ 64 }
+    requires deep { level + fields_depth (fields_seen fields.now) ≤ 32 }
+    ensures of_type { TellsWhether result (EachFits fields.now (V.entries_left entries)) }
+    ensures written { OnOk result (WritesRootOf (TakesAt S.stands S.wants_lengths level) R.rules
+        sink.old sink.new None fields.now (V.entries_left entries)) }
+{
+    write_root::<R, S, V>(None, fields, entries, level, sink)
+}
+
+/// Writes the components of the root of a SEQUENCE with an extension mark, where each entry is one of its component.
+#[cycle(writer)]
+fn write_marked<R: WriteLeaves, S: FieldLengths, V: Source>(
+    extended: bool,
+    fields: &[Field],
+    entries: V::Entries,
+    level: usize,
+    sink: &mut S,
+) -> Result<(), Unwritten<S::Fault>>
+    requires of_profile { AreOfProfile (fields_seen fields.now) }
+    requires few { length fields.now ≤ 64 }
+    requires deep { level + fields_depth (fields_seen fields.now) ≤ 32 }
+    ensures of_type { TellsWhether result (EachFits fields.now (V.entries_left entries)) }
+    ensures written { OnOk result (WritesRootOf (TakesAt S.stands S.wants_lengths level) R.rules
+        sink.old sink.new (Some extended) fields.now (V.entries_left entries)) }
+{
+    write_root::<R, S, V>(Some(extended), fields, entries, level, sink)
+}
+
 /// Writes the components of the root of a SEQUENCE, where each entry is one of its component: the extension bit, where
 /// there is an extension mark, the presence bitmap, and the components that are encoded.
+#[inline(always)]
 #[cycle(writer)]
 fn write_root<R: WriteLeaves, S: FieldLengths, V: Source>(
     extended: Option<bool>,
@@ -238,6 +302,9 @@ fn write_components<R: WriteLeaves, S: FieldLengths, V: Source>(
             && !matches!(field.need, Need::Default(_))
         {
             R::write_number(bounds, *number, sink)?;
+        } else if let AsnType::Seq { .. } = &field.ty {
+            // a SEQUENCE has no DEFAULT
+            write::<R, S, V>(&field.ty, value, level, sink)?;
         } else if is_encoded(field, Some(value)) {
             write::<R, S, V>(&field.ty, value, level, sink)?;
         }

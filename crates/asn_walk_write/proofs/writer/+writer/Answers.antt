@@ -9,7 +9,7 @@ use Rattle.asn_values.specs.Shape.{Shape, integer, MoreFields, sequence, marked,
 use Rattle.asn_values.specs.Datum.{number}
 use Rattle.asn_values.specs.Fits.{Fits, FitsLength, FitsNumber}
 use Rattle.asn_values.specs.View.{shape_of, datum_of, range_of, fields_of, part_of_field, demand_of, more_fields_of, size_range_of}
-use Rattle.asn_values.proofs.Views.{shape_of-Int}
+use Rattle.asn_values.proofs.Views.{shape_of-Int, sequence_of_fields}
 use Rattle.asn_values.proofs.Alternatives.{fits_at, no_truth}
 use Rattle.asn_values.proofs.Components.{shape_of_part}
 use Rattle.asn_values.proofs.InnerTypes.{element_of_profile}
@@ -23,15 +23,15 @@ use Rattle.asn_walk.specs.Writing.{written, Writes, TakesAt, mark_bits, Advances
 use Rattle.asn_walk.proofs.Parts.{few_components, marked_fields, added_of_profile, few_added, good_at, few_root, few_all, roots_good, additions_good}
 use Rattle.asn_walk.proofs.Widths.{demand_of_part, datum_of-Int}
 use Rattle.asn_walk_write.proofs.WriteChoices.{root_fits, added_fits, past_root, past_additions, spelled_there, root_written as choice_root_written, added_written as choice_added_written}
-use Rattle.asn_walk_write.proofs.WriteComponents.{each_bits, each_ends, no_items, both_tests, written_starts, written_passes, spelt_unless_default, written_more, written_absent}
+use Rattle.asn_walk_write.proofs.WriteComponents.{each_bits, each_ends, no_items, both_tests, written_starts, written_passes, spelt_unless_default, spelt_sequence, written_more, written_absent}
 use Rattle.asn_walk_write.proofs.WriteEntries.{of_sequence, parts_of_profile, unmarked_fits, marked_fits as fits_marked, other_number, added_optional}
 use Rattle.asn_walk_write.proofs.Levels.{root_deep, additions_deep, roots_deep, added_deep, deep_at}
 use Rattle.asn_walk_write.proofs.Taking.{takes_laws, takes_pushed, pushed_at, field_taken, open_bits_are, complete_taken}
 use Rattle.asn_walk_write.proofs.WriteLists.{leaves_at, advances_at, fragments_start, elements_start, list_fits, other_count, list_written, elements_next, next_value, fewer_left, parts_fit, fragments_next, fragments_end, fragments_fit}
-use Rattle.asn_walk_write.proofs.WriteSequences.{none_fit, some_bits_there, opened_starts, opened_more, root_written, additions_written, sequence_written, unmarked_written}
+use Rattle.asn_walk_write.proofs.WriteSequences.{none_fit, some_bits_there, opened_starts, opened_more, root_written, none_written, additions_written, sequence_written, unmarked_written}
 use Rattle.asn_walk_write.proofs.WriteTells.{tells_by, tells_err, written_by}
 use Rattle.asn_walk_write.proofs.writer.+writer.Goals as goal
-use Rattle.asn_walk_write.proofs.writer.+writer.Goals.{write_components-in-Optional, write_components-in_default-matches, write_components-in-Default, write_components-in_default-matches-2, write-in_default-ext-via-in-Some-ext-2+else-index-known-2, write-in_default-ext-via-in_default-ext}
+use Rattle.asn_walk_write.proofs.writer.+writer.Goals.{write_components-in-Optional, write_components-in_default-matches, write_components-in-Default, write_components-in_default-matches-2, write-in_default-ext-via-in-Some-ext+else-index-known-2, write-in_default-ext-via-in_default-ext}
 
 -- ---- complete encodings and open type fields
 
@@ -65,84 +65,137 @@ write_open_field-returns-clause-written g t c =
 
 -- ---- SEQUENCE
 
-pub write-write_root-requires : goal.write-write_root-requires
-write-write_root-requires g t c κs within =
+pub write-write_sequence-requires : goal.write-write_sequence-requires
+write-write_sequence-requires g t c κs within =
+    (search (rules, the_lemmas), (within.0, (within.1.0, (within.1.1.0, (within.1.1.1.0, (within.1.1.1.1.0, (within.1.1.1.1.1.0, (within.1.1.1.1.1.1.0, (within.1.1.1.1.1.1.1.0, (within.1.1.1.1.1.1.1.1, (record { root = c.in-Seq.root; ext = c.in-Seq.ext; is = c.in-Seq.is }, (c.requires.of_profile, c.requires.deep))))))))))))
+
+pub write_sequence-unreachable-unreachable : goal.write_sequence-unreachable-unreachable
+write_sequence-unreachable-unreachable g t c = absurd (c.in_default.not-Seq c.requires.sequence.root c.requires.sequence.ext c.requires.sequence.is)
+
+pub write_sequence-write_plain-requires : goal.write_sequence-write_plain-requires
+write_sequence-write_plain-requires g t c κs within =
     let fs = c.deref.result.now in
     let vs = g.V.Source.entries_left c.in-Some.entries in
     let s = of_sequence c.args.ty.now (g.V.Source.datum c.args.value) c.in-Seq.root c.in-Seq.ext fs vs c.in-Seq.is (rw c.in-Some.is at c.entries.ensures.some) c.deref.ensures.value in
     (search (rules, the_lemmas), (within.0, (within.1.0, (within.1.1.0, (within.1.1.1.0, (within.1.1.1.1.0, (within.1.1.1.1.1.0, (within.1.1.1.1.1.1.0, (within.1.1.1.1.1.1.1.0, (within.1.1.1.1.1.1.1.1, (parts_of_profile s c.requires.of_profile, (few_components fs s.shape c.requires.of_profile, root_deep c.args.level s.shape c.requires.deep))))))))))))
 
-pub write-write_root-requires-in-Some-ext : goal.write-write_root-requires-in-Some-ext
-write-write_root-requires-in-Some-ext g t c κs within =
-    let fs = c.deref-in-Some-ext.result.now in
+pub write_sequence-write_marked-requires : goal.write_sequence-write_marked-requires
+write_sequence-write_marked-requires g t c κs within =
+    let fs = c.deref-2.result.now in
     let vs = g.V.Source.entries_left c.in-Some.entries in
-    let s = of_sequence c.args.ty.now (g.V.Source.datum c.args.value) c.in-Seq.root c.in-Seq.ext fs vs c.in-Seq.is (rw c.in-Some.is at c.entries.ensures.some) c.deref-in-Some-ext.ensures.value in
+    let s = of_sequence c.args.ty.now (g.V.Source.datum c.args.value) c.in-Seq.root c.in-Seq.ext fs vs c.in-Seq.is (rw c.in-Some.is at c.entries.ensures.some) c.deref-2.ensures.value in
     (search (rules, the_lemmas), (within.0, (within.1.0, (within.1.1.0, (within.1.1.1.0, (within.1.1.1.1.0, (within.1.1.1.1.1.0, (within.1.1.1.1.1.1.0, (within.1.1.1.1.1.1.1.0, (within.1.1.1.1.1.1.1.1, (parts_of_profile s c.requires.of_profile, (few_components fs s.shape c.requires.of_profile, root_deep c.args.level s.shape c.requires.deep))))))))))))
 
-pub write-write_additions-requires : goal.write-write_additions-requires
-write-write_additions-requires g t c κs within =
-    let fs = c.deref-in-Some-ext.result.now in
+pub write_sequence-write_additions-requires : goal.write_sequence-write_additions-requires
+write_sequence-write_additions-requires g t c κs within =
+    let fs = c.deref-2.result.now in
     let vs = g.V.Source.entries_left c.in-Some.entries in
-    let s = of_sequence c.args.ty.now (g.V.Source.datum c.args.value) c.in-Seq.root c.in-Seq.ext fs vs c.in-Seq.is (rw c.in-Some.is at c.entries.ensures.some) c.deref-in-Some-ext.ensures.value in
-    let gs = c.deref-in-Some-ext-2.result.now in
-    let more : more_fields_of c.in-Seq.ext ≡ marked (fields_of (map part_of_field gs)) = marked_fields c.in-Seq.ext c.in-Some-ext.additions gs c.in-Some-ext.is c.deref-in-Some-ext-2.ensures.value in
+    let s = of_sequence c.args.ty.now (g.V.Source.datum c.args.value) c.in-Seq.root c.in-Seq.ext fs vs c.in-Seq.is (rw c.in-Some.is at c.entries.ensures.some) c.deref-2.ensures.value in
+    let gs = c.deref-then-extended.result.now in
+    let more : more_fields_of c.in-Seq.ext ≡ marked (fields_of (map part_of_field gs)) = marked_fields c.in-Seq.ext c.in-Some-ext.additions gs c.in-Some-ext.is c.deref-then-extended.ensures.value in
     let type : shape_of c.args.ty.now ≡ sequence (fields_of (map part_of_field fs)) (marked (fields_of (map part_of_field gs))) = s.shape ∙ ap (λ (m : MoreFields). sequence (fields_of (map part_of_field fs)) m) more in
     (search (rules, the_lemmas), (within.0, (within.1.0, (within.1.1.0, (within.1.1.1.0, (within.1.1.1.1.0, (within.1.1.1.1.1.0, (within.1.1.1.1.1.1.0, (within.1.1.1.1.1.1.1.0, (within.1.1.1.1.1.1.1.1, (added_of_profile gs type c.requires.of_profile, (added_optional gs type c.requires.of_profile, (few_added gs type c.requires.of_profile, additions_deep c.args.level type c.requires.deep)))))))))))))
 
-pub write-returns-in-None-clause-of_type : goal.write-returns-in-None-clause-of_type
-write-returns-in-None-clause-of_type g t c =
+pub write_sequence-returns-in_default-ext-clause-of_type : goal.write_sequence-returns-in_default-ext-clause-of_type
+write_sequence-returns-in_default-ext-clause-of_type g t c =
     let fs = c.deref.result.now in
     let vs = g.V.Source.entries_left c.in-Some.entries in
     let s = of_sequence c.args.ty.now (g.V.Source.datum c.args.value) c.in-Seq.root c.in-Seq.ext fs vs c.in-Seq.is (rw c.in-Some.is at c.entries.ensures.some) c.deref.ensures.value in
-    tells_by c.write_root.result (unmarked_fits s (ap more_fields_of c.in-None.is)) c.write_root.ensures.of_type
+    tells_by c.write_plain.result (unmarked_fits s (ap more_fields_of c.in_default-ext.is)) c.write_plain.ensures.of_type
 
-pub write-returns-in-None-clause-written : goal.write-returns-in-None-clause-written
-write-returns-in-None-clause-written g t c =
+pub write_sequence-returns-in_default-ext-clause-written : goal.write_sequence-returns-in_default-ext-clause-written
+write_sequence-returns-in_default-ext-clause-written g t c =
     let fs = c.deref.result.now in
     let vs = g.V.Source.entries_left c.in-Some.entries in
     let s = of_sequence c.args.ty.now (g.V.Source.datum c.args.value) c.in-Seq.root c.in-Seq.ext fs vs c.in-Seq.is (rw c.in-Some.is at c.entries.ensures.some) c.deref.ensures.value in
-    let none = ap more_fields_of c.in-None.is in
-    written_by c.write_root.result c.write_root.ensures.of_type
-    (λ each e. unmarked_written (takes_laws g.S.Sink.stands g.S.Sink.wants_lengths c.args.level) c.keep_write_laws.ensures c.args.sink.now c.write_root.new.sink fs (more_fields_of c.in-Seq.ext) vs s c.requires.of_profile ((unmarked_fits s none).0 each) none each e)
-    c.write_root.ensures.written
+    let none = ap more_fields_of c.in_default-ext.is in
+    written_by c.write_plain.result c.write_plain.ensures.of_type
+    (λ each e. unmarked_written (takes_laws g.S.Sink.stands g.S.Sink.wants_lengths c.args.level) c.keep_write_laws.ensures c.args.sink.now c.write_plain.new.sink fs (more_fields_of c.in-Seq.ext) vs s c.requires.of_profile ((unmarked_fits s none).0 each) none each e)
+    c.write_plain.ensures.written
 
-pub write-returns-in_err-write_root-in-Some-ext-clause-of_type : goal.write-returns-in_err-write_root-in-Some-ext-clause-of_type
-write-returns-in_err-write_root-in-Some-ext-clause-of_type g t c =
-    let fs = c.deref-in-Some-ext.result.now in
+pub write_sequence-returns-in_err-write_marked-clause-of_type : goal.write_sequence-returns-in_err-write_marked-clause-of_type
+write_sequence-returns-in_err-write_marked-clause-of_type g t c =
+    let fs = c.deref-2.result.now in
     let vs = g.V.Source.entries_left c.in-Some.entries in
-    let s = of_sequence c.args.ty.now (g.V.Source.datum c.args.value) c.in-Seq.root c.in-Seq.ext fs vs c.in-Seq.is (rw c.in-Some.is at c.entries.ensures.some) c.deref-in-Some-ext.ensures.value in
-    let front : g.V.Source.entries_left c.split_entries-root_entries.result.0 ≡ take (length fs) vs = c.split_entries-root_entries.ensures.first ∙ ap (λ (n : ℕ). take n vs) (omega (arith, c.len.ensures, c.deref-in-Some-ext.ensures.len)) in
-    let back : g.V.Source.entries_left c.split_entries-root_entries.result.1 ≡ drop (length fs) vs = c.split_entries-root_entries.ensures.others ∙ ap (λ (n : ℕ). drop n vs) (omega (arith, c.len.ensures, c.deref-in-Some-ext.ensures.len)) in
+    let s = of_sequence c.args.ty.now (g.V.Source.datum c.args.value) c.in-Seq.root c.in-Seq.ext fs vs c.in-Seq.is (rw c.in-Some.is at c.entries.ensures.some) c.deref-2.ensures.value in
     let gs = c.in-Some-ext.additions.items in
-    let both = fits_marked fs vs gs s (marked_fields c.in-Seq.ext c.in-Some-ext.additions gs c.in-Some-ext.is refl) (g.V.Source.entries_left c.split_entries-root_entries.result.0) (g.V.Source.entries_left c.split_entries-root_entries.result.1) front back in
-    tells_err c.from_residual.result c.in_err-write_root-in-Some-ext.field-0.0 c.from_residual.ensures.1 (λ f. (both.1 f).0) c.in_err-write_root-in-Some-ext.ensures.of_type
-
-pub write-returns-in_ok-write_root-in-Some-ext-clause-of_type : goal.write-returns-in_ok-write_root-in-Some-ext-clause-of_type
-write-returns-in_ok-write_root-in-Some-ext-clause-of_type g t c =
-    let fs = c.deref-in-Some-ext.result.now in
-    let vs = g.V.Source.entries_left c.in-Some.entries in
-    let s = of_sequence c.args.ty.now (g.V.Source.datum c.args.value) c.in-Seq.root c.in-Seq.ext fs vs c.in-Seq.is (rw c.in-Some.is at c.entries.ensures.some) c.deref-in-Some-ext.ensures.value in
-    let front : g.V.Source.entries_left c.split_entries-root_entries.result.0 ≡ take (length fs) vs = c.split_entries-root_entries.ensures.first ∙ ap (λ (n : ℕ). take n vs) (omega (arith, c.len.ensures, c.deref-in-Some-ext.ensures.len)) in
-    let back : g.V.Source.entries_left c.split_entries-root_entries.result.1 ≡ drop (length fs) vs = c.split_entries-root_entries.ensures.others ∙ ap (λ (n : ℕ). drop n vs) (omega (arith, c.len.ensures, c.deref-in-Some-ext.ensures.len)) in
-    let gs = c.deref-in-Some-ext-2.result.now in
-    let more : more_fields_of c.in-Seq.ext ≡ marked (fields_of (map part_of_field gs)) = marked_fields c.in-Seq.ext c.in-Some-ext.additions gs c.in-Some-ext.is c.deref-in-Some-ext-2.ensures.value in
+    let more : more_fields_of c.in-Seq.ext ≡ marked (fields_of (map part_of_field gs)) = marked_fields c.in-Seq.ext c.in-Some-ext.additions gs c.in-Some-ext.is refl in
+    let front : g.V.Source.entries_left c.split_entries-root_entries.result.0 ≡ take (length fs) vs = c.split_entries-root_entries.ensures.first ∙ ap (λ (n : ℕ). take n vs) (omega (arith, c.len.ensures, c.deref-2.ensures.len)) in
+    let back : g.V.Source.entries_left c.split_entries-root_entries.result.1 ≡ drop (length fs) vs = c.split_entries-root_entries.ensures.others ∙ ap (λ (n : ℕ). drop n vs) (omega (arith, c.len.ensures, c.deref-2.ensures.len)) in
     let both = fits_marked fs vs gs s more (g.V.Source.entries_left c.split_entries-root_entries.result.0) (g.V.Source.entries_left c.split_entries-root_entries.result.1) front back in
-    tells_by c.write_additions.result (λ f. both.0 (c.in_ok-write_root-in-Some-ext.ensures.of_type, f), λ f. (both.1 f).1) c.write_additions.ensures.of_type
+    tells_err c.from_residual.result c.in_err-write_marked.field-0.0 c.from_residual.ensures.1 (λ f. (both.1 f).0) c.in_err-write_marked.ensures.of_type
 
-pub write-returns-in_ok-write_root-in-Some-ext-clause-written : goal.write-returns-in_ok-write_root-in-Some-ext-clause-written
-write-returns-in_ok-write_root-in-Some-ext-clause-written g t c =
-    let fs = c.deref-in-Some-ext.result.now in
+pub write_sequence-returns-then-extended-clause-of_type : goal.write_sequence-returns-then-extended-clause-of_type
+write_sequence-returns-then-extended-clause-of_type g t c =
+    let fs = c.deref-2.result.now in
     let vs = g.V.Source.entries_left c.in-Some.entries in
-    let s = of_sequence c.args.ty.now (g.V.Source.datum c.args.value) c.in-Seq.root c.in-Seq.ext fs vs c.in-Seq.is (rw c.in-Some.is at c.entries.ensures.some) c.deref-in-Some-ext.ensures.value in
-    let front : g.V.Source.entries_left c.split_entries-root_entries.result.0 ≡ take (length fs) vs = c.split_entries-root_entries.ensures.first ∙ ap (λ (n : ℕ). take n vs) (omega (arith, c.len.ensures, c.deref-in-Some-ext.ensures.len)) in
-    let back : g.V.Source.entries_left c.split_entries-root_entries.result.1 ≡ drop (length fs) vs = c.split_entries-root_entries.ensures.others ∙ ap (λ (n : ℕ). drop n vs) (omega (arith, c.len.ensures, c.deref-in-Some-ext.ensures.len)) in
-    let gs = c.deref-in-Some-ext-2.result.now in
-    let more : more_fields_of c.in-Seq.ext ≡ marked (fields_of (map part_of_field gs)) = marked_fields c.in-Seq.ext c.in-Some-ext.additions gs c.in-Some-ext.is c.deref-in-Some-ext-2.ensures.value in
+    let s = of_sequence c.args.ty.now (g.V.Source.datum c.args.value) c.in-Seq.root c.in-Seq.ext fs vs c.in-Seq.is (rw c.in-Some.is at c.entries.ensures.some) c.deref-2.ensures.value in
+    let gs = c.deref-then-extended.result.now in
+    let more : more_fields_of c.in-Seq.ext ≡ marked (fields_of (map part_of_field gs)) = marked_fields c.in-Seq.ext c.in-Some-ext.additions gs c.in-Some-ext.is c.deref-then-extended.ensures.value in
+    let front : g.V.Source.entries_left c.split_entries-root_entries.result.0 ≡ take (length fs) vs = c.split_entries-root_entries.ensures.first ∙ ap (λ (n : ℕ). take n vs) (omega (arith, c.len.ensures, c.deref-2.ensures.len)) in
+    let back : g.V.Source.entries_left c.split_entries-root_entries.result.1 ≡ drop (length fs) vs = c.split_entries-root_entries.ensures.others ∙ ap (λ (n : ℕ). drop n vs) (omega (arith, c.len.ensures, c.deref-2.ensures.len)) in
+    let both = fits_marked fs vs gs s more (g.V.Source.entries_left c.split_entries-root_entries.result.0) (g.V.Source.entries_left c.split_entries-root_entries.result.1) front back in
+    tells_by c.write_additions.result (λ f. both.0 (c.in_ok-write_marked.ensures.of_type, f), λ f. (both.1 f).1) c.write_additions.ensures.of_type
+
+pub write_sequence-returns-then-extended-clause-written : goal.write_sequence-returns-then-extended-clause-written
+write_sequence-returns-then-extended-clause-written g t c =
+    let fs = c.deref-2.result.now in
+    let vs = g.V.Source.entries_left c.in-Some.entries in
+    let s = of_sequence c.args.ty.now (g.V.Source.datum c.args.value) c.in-Seq.root c.in-Seq.ext fs vs c.in-Seq.is (rw c.in-Some.is at c.entries.ensures.some) c.deref-2.ensures.value in
+    let gs = c.deref-then-extended.result.now in
+    let more : more_fields_of c.in-Seq.ext ≡ marked (fields_of (map part_of_field gs)) = marked_fields c.in-Seq.ext c.in-Some-ext.additions gs c.in-Some-ext.is c.deref-then-extended.ensures.value in
+    let front : g.V.Source.entries_left c.split_entries-root_entries.result.0 ≡ take (length fs) vs = c.split_entries-root_entries.ensures.first ∙ ap (λ (n : ℕ). take n vs) (omega (arith, c.len.ensures, c.deref-2.ensures.len)) in
+    let back : g.V.Source.entries_left c.split_entries-root_entries.result.1 ≡ drop (length fs) vs = c.split_entries-root_entries.ensures.others ∙ ap (λ (n : ℕ). drop n vs) (omega (arith, c.len.ensures, c.deref-2.ensures.len)) in
     let both = fits_marked fs vs gs s more (g.V.Source.entries_left c.split_entries-root_entries.result.0) (g.V.Source.entries_left c.split_entries-root_entries.result.1) front back in
     written_by c.write_additions.result c.write_additions.ensures.of_type
-    (λ each e. sequence_written (takes_laws g.S.Sink.stands g.S.Sink.wants_lengths c.args.level) c.keep_write_laws.ensures c.args.sink.now c.write_root-in-Some-ext.new.sink c.write_additions.new.sink fs gs c.in-Seq.ext vs (g.V.Source.entries_left c.split_entries-root_entries.result.0) (g.V.Source.entries_left c.split_entries-root_entries.result.1)
-    c.is_any_present-extended.result s c.requires.of_profile (both.0 (c.in_ok-write_root-in-Some-ext.ensures.of_type, each)) more front back c.is_any_present-extended.ensures c.in_ok-write_root-in-Some-ext.ensures.written e)
+    (λ each e. sequence_written (takes_laws g.S.Sink.stands g.S.Sink.wants_lengths c.args.level) c.keep_write_laws.ensures c.args.sink.now c.write_marked.new.sink c.write_additions.new.sink fs gs c.in-Seq.ext vs (g.V.Source.entries_left c.split_entries-root_entries.result.0) (g.V.Source.entries_left c.split_entries-root_entries.result.1)
+    c.is_any_present-extended.result s c.requires.of_profile (both.0 (c.in_ok-write_marked.ensures.of_type, each)) more front back c.is_any_present-extended.ensures c.in_ok-write_marked.ensures.written e)
     c.write_additions.ensures.written
+
+pub write_sequence-returns-then-len-count_entries-clause-of_type : goal.write_sequence-returns-then-len-count_entries-clause-of_type
+write_sequence-returns-then-len-count_entries-clause-of_type g t c =
+    let fs = c.deref-2.result.now in
+    let vs = g.V.Source.entries_left c.in-Some.entries in
+    let s = of_sequence c.args.ty.now (g.V.Source.datum c.args.value) c.in-Seq.root c.in-Seq.ext fs vs c.in-Seq.is (rw c.in-Some.is at c.entries.ensures.some) c.deref-2.ensures.value in
+    let gs = c.in-Some-ext.additions.items in
+    let more : more_fields_of c.in-Seq.ext ≡ marked (fields_of (map part_of_field gs)) = marked_fields c.in-Seq.ext c.in-Some-ext.additions gs c.in-Some-ext.is refl in
+    let front : g.V.Source.entries_left c.split_entries-root_entries.result.0 ≡ take (length fs) vs = c.split_entries-root_entries.ensures.first ∙ ap (λ (n : ℕ). take n vs) (omega (arith, c.len.ensures, c.deref-2.ensures.len)) in
+    let back : g.V.Source.entries_left c.split_entries-root_entries.result.1 ≡ drop (length fs) vs = c.split_entries-root_entries.ensures.others ∙ ap (λ (n : ℕ). drop n vs) (omega (arith, c.len.ensures, c.deref-2.ensures.len)) in
+    let both = fits_marked fs vs gs s more (g.V.Source.entries_left c.split_entries-root_entries.result.0) (g.V.Source.entries_left c.split_entries-root_entries.result.1) front back in
+    λ f. other_number gs (g.V.Source.entries_left c.split_entries-root_entries.result.1) (λ e. c.if-len-count_entries.true (omega (arith, e, c.len-2.ensures, c.count_entries.ensures, c.in-Some-ext.additions.ok))) (both.1 f).1
+
+pub write_sequence-returns-clause-of_type : goal.write_sequence-returns-clause-of_type
+write_sequence-returns-clause-of_type g t c =
+    let fs = c.deref-2.result.now in
+    let vs = g.V.Source.entries_left c.in-Some.entries in
+    let s = of_sequence c.args.ty.now (g.V.Source.datum c.args.value) c.in-Seq.root c.in-Seq.ext fs vs c.in-Seq.is (rw c.in-Some.is at c.entries.ensures.some) c.deref-2.ensures.value in
+    let gs = c.in-Some-ext.additions.items in
+    let more : more_fields_of c.in-Seq.ext ≡ marked (fields_of (map part_of_field gs)) = marked_fields c.in-Seq.ext c.in-Some-ext.additions gs c.in-Some-ext.is refl in
+    let front : g.V.Source.entries_left c.split_entries-root_entries.result.0 ≡ take (length fs) vs = c.split_entries-root_entries.ensures.first ∙ ap (λ (n : ℕ). take n vs) (omega (arith, c.len.ensures, c.deref-2.ensures.len)) in
+    let back : g.V.Source.entries_left c.split_entries-root_entries.result.1 ≡ drop (length fs) vs = c.split_entries-root_entries.ensures.others ∙ ap (λ (n : ℕ). drop n vs) (omega (arith, c.len.ensures, c.deref-2.ensures.len)) in
+    let both = fits_marked fs vs gs s more (g.V.Source.entries_left c.split_entries-root_entries.result.0) (g.V.Source.entries_left c.split_entries-root_entries.result.1) front back in
+    let type : shape_of c.args.ty.now ≡ sequence (fields_of (map part_of_field fs)) (marked (fields_of (map part_of_field gs))) = s.shape ∙ ap (λ (m : MoreFields). sequence (fields_of (map part_of_field fs)) m) more in
+    let none = sym c.is_any_present-extended.ensures ∙ c.if-extended.false in
+    both.0 (c.in_ok-write_marked.ensures.of_type, none_fit (map part_of_field gs) (g.V.Source.entries_left c.split_entries-root_entries.result.1) (added_optional gs type c.requires.of_profile) (omega (arith, length-map gs part_of_field, c.if-len-count_entries.false, c.len-2.ensures, c.count_entries.ensures, c.in-Some-ext.additions.ok)) none)
+
+pub write_sequence-returns-clause-written : goal.write_sequence-returns-clause-written
+write_sequence-returns-clause-written g t c =
+    let fs = c.deref-2.result.now in
+    let vs = g.V.Source.entries_left c.in-Some.entries in
+    let s = of_sequence c.args.ty.now (g.V.Source.datum c.args.value) c.in-Seq.root c.in-Seq.ext fs vs c.in-Seq.is (rw c.in-Some.is at c.entries.ensures.some) c.deref-2.ensures.value in
+    let gs = c.in-Some-ext.additions.items in
+    let more : more_fields_of c.in-Seq.ext ≡ marked (fields_of (map part_of_field gs)) = marked_fields c.in-Seq.ext c.in-Some-ext.additions gs c.in-Some-ext.is refl in
+    let front : g.V.Source.entries_left c.split_entries-root_entries.result.0 ≡ take (length fs) vs = c.split_entries-root_entries.ensures.first ∙ ap (λ (n : ℕ). take n vs) (omega (arith, c.len.ensures, c.deref-2.ensures.len)) in
+    let back : g.V.Source.entries_left c.split_entries-root_entries.result.1 ≡ drop (length fs) vs = c.split_entries-root_entries.ensures.others ∙ ap (λ (n : ℕ). drop n vs) (omega (arith, c.len.ensures, c.deref-2.ensures.len)) in
+    let both = fits_marked fs vs gs s more (g.V.Source.entries_left c.split_entries-root_entries.result.0) (g.V.Source.entries_left c.split_entries-root_entries.result.1) front back in
+    let type : shape_of c.args.ty.now ≡ sequence (fields_of (map part_of_field fs)) (marked (fields_of (map part_of_field gs))) = s.shape ∙ ap (λ (m : MoreFields). sequence (fields_of (map part_of_field fs)) m) more in
+    let none = sym c.is_any_present-extended.ensures ∙ c.if-extended.false in
+    let all = none_fit (map part_of_field gs) (g.V.Source.entries_left c.split_entries-root_entries.result.1) (added_optional gs type c.requires.of_profile) (omega (arith, length-map gs part_of_field, c.if-len-count_entries.false, c.len-2.ensures, c.count_entries.ensures, c.in-Some-ext.additions.ok)) none in
+    let laws = takes_laws g.S.Sink.stands g.S.Sink.wants_lengths c.args.level in
+    let new = c.write_marked.new.sink in
+    sequence_written laws c.keep_write_laws.ensures c.args.sink.now new new fs gs c.in-Seq.ext vs (g.V.Source.entries_left c.split_entries-root_entries.result.0) (g.V.Source.entries_left c.split_entries-root_entries.result.1)
+    c.is_any_present-extended.result s c.requires.of_profile (both.0 (c.in_ok-write_marked.ensures.of_type, all)) more front back c.is_any_present-extended.ensures c.in_ok-write_marked.ensures.written
+    (none_written laws c.keep_write_laws.ensures new (fields_of (map part_of_field gs)) (g.V.Source.entries_left c.split_entries-root_entries.result.1) none)
 
 -- ---- its root
 
@@ -243,9 +296,23 @@ write_components-loop-field-preserved-in_ok-write g t c =
     let f = g.met.V.Source.each_gives c.loop-field.field-iterator.b (Some c.in-Some.entry) c.next.new.self.b c.in-Some.ensures.steps.1 in
     let d = g.V.Source.datum c.in-Some-entry.value in
     let some : option_map g.V.Source.datum c.in-Some.entry ≡ Some d = ap (option_map g.V.Source.datum) c.in-Some-entry.is in
+    let h = rw (e, f, some) at c.loop-field.invariant in
     let shape = shape_of_part c.in-Some.field.now in
-    written_more c.keep_write_laws.ensures (rw (e, f, some) at c.loop-field.invariant) (sym c.is_encoded.ensures ∙ c.if-is_encoded.true) (subst (λ (x : Shape). Fits x d) (sym shape) c.in_ok-write.ensures.of_type)
+    let fs = c.in-Seq.root.items in
+    let seen : (part_of_field c.in-Some.field.now).shape ≡ sequence (fields_of (map part_of_field fs)) (more_fields_of c.in-Seq.ext) = shape ∙ sequence_of_fields c.in-Some.field.now.ty c.in-Seq.root c.in-Seq.ext fs c.in-Seq.is refl in
+    let spelt = spelt_sequence (part_of_field c.in-Some.field.now).demand (part_of_field c.in-Some.field.now).shape (fields_of (map part_of_field fs)) (more_fields_of c.in-Seq.ext) d seen h.components.of_profile.1 in
+    written_more c.keep_write_laws.ensures h spelt (subst (λ (x : Shape). Fits x d) (sym shape) c.in_ok-write.ensures.of_type)
     (subst (λ (x : Shape). Writes (TakesAt g.S.Sink.stands g.S.Sink.wants_lengths c.args.level) g.R.WriteLeaves.rules c.loop-field.sink c.write.new.sink (g.R.WriteLeaves.rules.code x d)) (sym shape) c.in_ok-write.ensures.written)
+
+pub write_components-loop-field-preserved-in_ok-write-2 : goal.write_components-loop-field-preserved-in_ok-write-2
+write_components-loop-field-preserved-in_ok-write-2 g t c =
+    let e : c.loop-field.field-iterator.a.rest.now ≡ c.in-Some.field.now ∷ c.next.new.self.a.rest.now = c.in-Some.ensures.steps.0 in
+    let f = g.met.V.Source.each_gives c.loop-field.field-iterator.b (Some c.in-Some.entry) c.next.new.self.b c.in-Some.ensures.steps.1 in
+    let d = g.V.Source.datum c.in-Some-entry.value in
+    let some : option_map g.V.Source.datum c.in-Some.entry ≡ Some d = ap (option_map g.V.Source.datum) c.in-Some-entry.is in
+    let shape = shape_of_part c.in-Some.field.now in
+    written_more c.keep_write_laws.ensures (rw (e, f, some) at c.loop-field.invariant) (sym c.is_encoded.ensures ∙ c.if-is_encoded.true) (subst (λ (x : Shape). Fits x d) (sym shape) c.in_ok-write-2.ensures.of_type)
+    (subst (λ (x : Shape). Writes (TakesAt g.S.Sink.stands g.S.Sink.wants_lengths c.args.level) g.R.WriteLeaves.rules c.loop-field.sink c.write-then-is_encoded.new.sink (g.R.WriteLeaves.rules.code x d)) (sym shape) c.in_ok-write-2.ensures.written)
 
 -- ---- its additions
 
@@ -367,60 +434,60 @@ write-write_index-requires-clause-few g t c =
 
 pub write-write_alternative-requires : goal.write-write_alternative-requires
 write-write_alternative-requires g t c κs within =
-    let alts = c.deref-then-index-known.result.now in
-    let inside : c.in-Some-chosen.chosen.0 < length alts = omega (arith, c.if-index-known.true, c.len-known.ensures, c.deref-then-index-known.ensures.len) in
-    (search (rules, the_lemmas), (within.0, (within.1.0, (within.1.1.0, (within.1.1.1.0, (within.1.1.1.1.0, (within.1.1.1.1.1.0, (within.1.1.1.1.1.1.0, (within.1.1.1.1.1.1.1.0, (within.1.1.1.1.1.1.1.1, (roots_good c.args.ty.now c.in-Choice.root c.in-Choice.ext c.in-Choice.is c.requires.of_profile alts c.deref-then-index-known.ensures.value, (inside, roots_deep c.args.level c.args.ty.now c.in-Choice.root c.in-Choice.ext c.in-Choice.is c.requires.deep alts c.deref-then-index-known.ensures.value))))))))))))
+    let alts = c.deref.result.now in
+    let inside : c.in-Some.chosen.0 < length alts = omega (arith, c.if-index-known.true, c.len-known.ensures, c.deref.ensures.len) in
+    (search (rules, the_lemmas), (within.0, (within.1.0, (within.1.1.0, (within.1.1.1.0, (within.1.1.1.1.0, (within.1.1.1.1.1.0, (within.1.1.1.1.1.1.0, (within.1.1.1.1.1.1.1.0, (within.1.1.1.1.1.1.1.1, (roots_good c.args.ty.now c.in-Choice.root c.in-Choice.ext c.in-Choice.is c.requires.of_profile alts c.deref.ensures.value, (inside, roots_deep c.args.level c.args.ty.now c.in-Choice.root c.in-Choice.ext c.in-Choice.is c.requires.deep alts c.deref.ensures.value))))))))))))
 
 pub write-returns-then-index-known-clause-of_type : goal.write-returns-then-index-known-clause-of_type
 write-returns-then-index-known-clause-of_type g t c =
     tells_by c.write_alternative.result
-    (root_fits c.args.ty.now (g.V.Source.datum c.args.value) c.in-Choice.root c.in-Choice.ext c.in-Some-chosen.chosen.0 (g.V.Source.datum c.in-Some-chosen.chosen.1) c.in-Choice.is c.in-Some-chosen.ensures.some c.len-known.result c.len-known.ensures
-    c.if-index-known.true c.deref-then-index-known.result.now c.deref-then-index-known.ensures.value)
+    (root_fits c.args.ty.now (g.V.Source.datum c.args.value) c.in-Choice.root c.in-Choice.ext c.in-Some.chosen.0 (g.V.Source.datum c.in-Some.chosen.1) c.in-Choice.is c.in-Some.ensures.some c.len-known.result c.len-known.ensures
+    c.if-index-known.true c.deref.result.now c.deref.ensures.value)
     c.write_alternative.ensures.of_type
 
 pub write-returns-then-index-known-clause-written : goal.write-returns-then-index-known-clause-written
 write-returns-then-index-known-clause-written g t c =
     on_ok_weaker c.write_alternative.result
-    (λ e. choice_root_written c.args.ty.now (g.V.Source.datum c.args.value) c.in-Choice.root c.in-Choice.ext c.in-Some-chosen.chosen.0 (g.V.Source.datum c.in-Some-chosen.chosen.1) c.in-Choice.is c.in-Some-chosen.ensures.some c.len-known.result c.len-known.ensures (takes_laws g.S.Sink.stands g.S.Sink.wants_lengths c.args.level) c.keep_write_laws.ensures
-    c.if-index-known.true c.deref-then-index-known.result.now c.args.sink.now c.write_index.new.sink c.write_alternative.new.sink c.is_some.result c.deref-then-index-known.ensures.value c.is_some.ensures (pushed_at g.S.Sink.stands g.S.Sink.wants_lengths c.args.level g.met.S.Sink.pushes_stand c.in_ok-write_index-in-Choice.ensures) e)
+    (λ e. choice_root_written c.args.ty.now (g.V.Source.datum c.args.value) c.in-Choice.root c.in-Choice.ext c.in-Some.chosen.0 (g.V.Source.datum c.in-Some.chosen.1) c.in-Choice.is c.in-Some.ensures.some c.len-known.result c.len-known.ensures (takes_laws g.S.Sink.stands g.S.Sink.wants_lengths c.args.level) c.keep_write_laws.ensures
+    c.if-index-known.true c.deref.result.now c.args.sink.now c.write_index.new.sink c.write_alternative.new.sink c.is_some.result c.deref.ensures.value c.is_some.ensures (pushed_at g.S.Sink.stands g.S.Sink.wants_lengths c.args.level g.met.S.Sink.pushes_stand c.in_ok-write_index-in-Choice.ensures) e)
     c.write_alternative.ensures.written
 
-pub write-write_index-requires-in-Some-ext-2-clause-few : goal.write-write_index-requires-in-Some-ext-2-clause-few
-write-write_index-requires-in-Some-ext-2-clause-few g t c =
+pub write-write_index-requires-in-Some-ext-clause-few : goal.write-write_index-requires-in-Some-ext-clause-few
+write-write_index-requires-in-Some-ext-clause-few g t c =
     few_root c.args.ty.now c.in-Choice.root c.in-Choice.ext c.in-Choice.is c.requires.of_profile c.len-known.result c.len-known.ensures
 
-pub write-write_index-requires-in-Some-ext-2-clause-within : goal.write-write_index-requires-in-Some-ext-2-clause-within
-write-write_index-requires-in-Some-ext-2-clause-within g t c =
-    let few = few_all c.args.ty.now c.in-Choice.root c.in-Choice.ext c.in-Choice.is c.requires.of_profile c.len-known.result c.len-known.ensures c.in-Some-ext-2.additions c.in-Some-ext-2.is in
+pub write-write_index-requires-in-Some-ext-clause-within : goal.write-write_index-requires-in-Some-ext-clause-within
+write-write_index-requires-in-Some-ext-clause-within g t c =
+    let few = few_all c.args.ty.now c.in-Choice.root c.in-Choice.ext c.in-Choice.is c.requires.of_profile c.len-known.result c.len-known.ensures c.in-Some-ext.additions c.in-Some-ext.is in
     omega (arith, c.if-index-known-2.true, few)
 
 pub write-write_added_alternative-requires : goal.write-write_added_alternative-requires
 write-write_added_alternative-requires g t c κs within =
-    let more = c.deref-in-Some-ext-2-2.result.now in
-    let inside : c.in-Some-chosen.chosen.0 - c.len-known.result < length more = omega (arith, c.if-index-known-2.true, c.deref-in-Some-ext-2-2.ensures.len) in
-    (search (rules, the_lemmas), (within.0, (within.1.0, (within.1.1.0, (within.1.1.1.0, (within.1.1.1.1.0, (within.1.1.1.1.1.0, (within.1.1.1.1.1.1.0, (within.1.1.1.1.1.1.1.0, (within.1.1.1.1.1.1.1.1, (additions_good c.args.ty.now c.in-Choice.root c.in-Choice.ext c.in-Choice.is c.requires.of_profile c.in-Some-ext-2.additions more c.in-Some-ext-2.is c.deref-in-Some-ext-2-2.ensures.value, (inside, added_deep c.args.level c.args.ty.now c.in-Choice.root c.in-Choice.ext c.in-Choice.is c.requires.deep c.in-Some-ext-2.additions more c.in-Some-ext-2.is c.deref-in-Some-ext-2-2.ensures.value))))))))))))
+    let more = c.deref-in-Some-ext.result.now in
+    let inside : c.in-Some.chosen.0 - c.len-known.result < length more = omega (arith, c.if-index-known-2.true, c.deref-in-Some-ext.ensures.len) in
+    (search (rules, the_lemmas), (within.0, (within.1.0, (within.1.1.0, (within.1.1.1.0, (within.1.1.1.1.0, (within.1.1.1.1.1.0, (within.1.1.1.1.1.1.0, (within.1.1.1.1.1.1.1.0, (within.1.1.1.1.1.1.1.1, (additions_good c.args.ty.now c.in-Choice.root c.in-Choice.ext c.in-Choice.is c.requires.of_profile c.in-Some-ext.additions more c.in-Some-ext.is c.deref-in-Some-ext.ensures.value, (inside, added_deep c.args.level c.args.ty.now c.in-Choice.root c.in-Choice.ext c.in-Choice.is c.requires.deep c.in-Some-ext.additions more c.in-Some-ext.is c.deref-in-Some-ext.ensures.value))))))))))))
 
-pub write-returns-in_ok-write_index-in-Some-ext-2-clause-of_type : goal.write-returns-in_ok-write_index-in-Some-ext-2-clause-of_type
-write-returns-in_ok-write_index-in-Some-ext-2-clause-of_type g t c =
+pub write-returns-in_ok-write_index-in-Some-ext-clause-of_type : goal.write-returns-in_ok-write_index-in-Some-ext-clause-of_type
+write-returns-in_ok-write_index-in-Some-ext-clause-of_type g t c =
     tells_by c.write_added_alternative.result
-    (added_fits c.args.ty.now (g.V.Source.datum c.args.value) c.in-Choice.root c.in-Choice.ext c.in-Some-chosen.chosen.0 (g.V.Source.datum c.in-Some-chosen.chosen.1) c.in-Choice.is c.in-Some-chosen.ensures.some c.len-known.result c.len-known.ensures
-    c.if-index-known.false c.in-Some-ext-2.additions c.deref-in-Some-ext-2-2.result.now c.in-Some-ext-2.is c.deref-in-Some-ext-2-2.ensures.value)
+    (added_fits c.args.ty.now (g.V.Source.datum c.args.value) c.in-Choice.root c.in-Choice.ext c.in-Some.chosen.0 (g.V.Source.datum c.in-Some.chosen.1) c.in-Choice.is c.in-Some.ensures.some c.len-known.result c.len-known.ensures
+    c.if-index-known.false c.in-Some-ext.additions c.deref-in-Some-ext.result.now c.in-Some-ext.is c.deref-in-Some-ext.ensures.value)
     c.write_added_alternative.ensures.of_type
 
-pub write-returns-in_ok-write_index-in-Some-ext-2-clause-written : goal.write-returns-in_ok-write_index-in-Some-ext-2-clause-written
-write-returns-in_ok-write_index-in-Some-ext-2-clause-written g t c =
+pub write-returns-in_ok-write_index-in-Some-ext-clause-written : goal.write-returns-in_ok-write_index-in-Some-ext-clause-written
+write-returns-in_ok-write_index-in-Some-ext-clause-written g t c =
     on_ok_weaker c.write_added_alternative.result
-    (λ e. choice_added_written c.args.ty.now (g.V.Source.datum c.args.value) c.in-Choice.root c.in-Choice.ext c.in-Some-chosen.chosen.0 (g.V.Source.datum c.in-Some-chosen.chosen.1) c.in-Choice.is c.in-Some-chosen.ensures.some c.len-known.result c.len-known.ensures (takes_laws g.S.Sink.stands g.S.Sink.wants_lengths c.args.level) c.keep_write_laws.ensures
-    c.if-index-known.false c.in-Some-ext-2.additions c.deref-in-Some-ext-2-2.result.now c.args.sink.now c.write_index-in-Some-ext-2.new.sink c.write_added_alternative.new.sink c.in-Some-ext-2.is c.deref-in-Some-ext-2-2.ensures.value (pushed_at g.S.Sink.stands g.S.Sink.wants_lengths c.args.level g.met.S.Sink.pushes_stand c.in_ok-write_index-in-Some-ext-2.ensures) e)
+    (λ e. choice_added_written c.args.ty.now (g.V.Source.datum c.args.value) c.in-Choice.root c.in-Choice.ext c.in-Some.chosen.0 (g.V.Source.datum c.in-Some.chosen.1) c.in-Choice.is c.in-Some.ensures.some c.len-known.result c.len-known.ensures (takes_laws g.S.Sink.stands g.S.Sink.wants_lengths c.args.level) c.keep_write_laws.ensures
+    c.if-index-known.false c.in-Some-ext.additions c.deref-in-Some-ext.result.now c.args.sink.now c.write_index-in-Some-ext.new.sink c.write_added_alternative.new.sink c.in-Some-ext.is c.deref-in-Some-ext.ensures.value (pushed_at g.S.Sink.stands g.S.Sink.wants_lengths c.args.level g.met.S.Sink.pushes_stand c.in_ok-write_index-in-Some-ext.ensures) e)
     c.write_added_alternative.ensures.written
 
 pub write-returns-in_default-ext-clause-of_type : goal.write-returns-in_default-ext-clause-of_type
 write-returns-in_default-ext-clause-of_type g t c = elim c.in_default-ext.branch [
-  | write-in_default-ext-via-in-Some-ext-2+else-index-known-2 w ↦
-      past_additions c.args.ty.now (g.V.Source.datum c.args.value) c.in-Choice.root c.in-Choice.ext c.in-Some-chosen.chosen.0 (g.V.Source.datum c.in-Some-chosen.chosen.1) c.in-Choice.is c.in-Some-chosen.ensures.some c.len-known.result c.len-known.ensures
-      c.if-index-known.false w.in-Some-ext-2.additions w.in-Some-ext-2.is (omega (arith, w.if-index-known-2.false))
+  | write-in_default-ext-via-in-Some-ext+else-index-known-2 w ↦
+      past_additions c.args.ty.now (g.V.Source.datum c.args.value) c.in-Choice.root c.in-Choice.ext c.in-Some.chosen.0 (g.V.Source.datum c.in-Some.chosen.1) c.in-Choice.is c.in-Some.ensures.some c.len-known.result c.len-known.ensures
+      c.if-index-known.false w.in-Some-ext.additions w.in-Some-ext.is (omega (arith, w.if-index-known-2.false))
   | write-in_default-ext-via-in_default-ext w ↦
-      past_root c.args.ty.now (g.V.Source.datum c.args.value) c.in-Choice.root c.in-Choice.ext c.in-Some-chosen.chosen.0 (g.V.Source.datum c.in-Some-chosen.chosen.1) c.in-Choice.is c.in-Some-chosen.ensures.some c.len-known.result c.len-known.ensures
+      past_root c.args.ty.now (g.V.Source.datum c.args.value) c.in-Choice.root c.in-Choice.ext c.in-Some.chosen.0 (g.V.Source.datum c.in-Some.chosen.1) c.in-Choice.is c.in-Some.ensures.some c.len-known.result c.len-known.ensures
       c.if-index-known.false w.in_default-ext.is
 ]
 

@@ -145,7 +145,8 @@ fn build_numbers<R: PlanLeaves, B: Build>(
 pub(crate) fn fill<R: PlanLeaves>(run: Run, word: &mut Word, units: &mut BitCursor<'_>)
     requires at_unit { R.rules.at_unit units.old }
     ensures at_unit { R.rules.at_unit units.new }
-    ensures same { before R.rules word.old (R.rules.to_units units.old) ≡ before R.rules word.new (R.rules.to_units units.new) }
+    ensures same { before R.rules word.old (R.rules.to_units units.old)
+        ≡ before R.rules word.new (R.rules.to_units units.new) }
 {
     if !word.is_empty() {
         return;

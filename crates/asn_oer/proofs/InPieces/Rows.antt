@@ -1,5 +1,5 @@
 -- Rows of numbers in octets: a number of at most n octets has as many or fewer, and a BOOLEAN has one.
-use Rattle.std.proofs.Common.{◌≡◌, ◌≤◌, ◌<◌, ◌+◌, ◌-◌, ◌*◌, ◌/◌, ◌%◌, ◌^◌, ◌⊎◌, ◌&&◌, ◌<ℤ◌, ◌≤ℤ◌, ⊎_elim, inl, inr, ℕ, ℤ, pos, negsuc, Bool, true, false, List, [], ◌++◌, length, Option, Some, None, refl, sym, ap, subst, ◌∙◌, length-append, arith}
+use Rattle.std.proofs.Common.{◌≡◌, ◌≤◌, ◌-◌, ◌*◌, ◌^◌, ◌⊎◌, ◌<ℤ◌, ◌≤ℤ◌, ⊎_elim, inl, inr, ℕ, ℤ, pos, negsuc, Bool, true, false, List, [], ◌++◌, length, Option, Some, None, refl, sym, subst, ◌∙◌, length-append, arith}
 use Rattle.std.specs.Int.RustNames.{int_le, int_lt}
 use Rattle.std.proofs.lemmas.Bool.{true≢false}
 use Rattle.std.proofs.lemmas.Int.{ints}
@@ -7,7 +7,7 @@ use Rattle.asn_values.specs.Datum.{Datum, number}
 use Rattle.asn_values.specs.Profile.{InProfile}
 use Rattle.asn_values.specs.Shape.{Range, Shape, boolean, integer}
 use Rattle.asn_bits.proofs.FilledBits.{length-packed}
-use Rattle.asn_rules.specs.Chunks.{Chunk, ones}
+use Rattle.asn_rules.specs.Chunks.{Chunk}
 use Rattle.asn_rules.specs.IntegerSets.{magnitude_of}
 use Rattle.asn_rules.specs.Languages.{Map}
 use Rattle.asn_rules.specs.Listed.{Spelt}

@@ -1,5 +1,5 @@
 -- Rows of numbers in bits: a number of at most n octets has at most their bits, and a BOOLEAN has one.
-use Rattle.std.proofs.Common.{◌≡◌, ◌≤◌, ◌<◌, ◌+◌, ◌-◌, ◌*◌, ◌^◌, ◌⊎◌, ◌≤ℤ◌, ◌-ℤ◌, ⊎_elim, inl, inr, ℕ, zero, suc, ℤ, pos, ◌+ℤ◌, List, [], ◌++◌, length, None, refl, subst, arith}
+use Rattle.std.proofs.Common.{◌≡◌, ◌≤◌, ◌<◌, ◌*◌, ◌^◌, ◌⊎◌, ◌≤ℤ◌, ◌-ℤ◌, ⊎_elim, inl, inr, ℕ, zero, suc, ℤ, pos, ◌+ℤ◌, List, [], ◌++◌, length, None, refl, subst, arith}
 use Rattle.std.proofs.lemmas.Int.{ints}
 use Rattle.asn_values.specs.Datum.{Datum, number}
 use Rattle.asn_values.specs.Profile.{InProfile}

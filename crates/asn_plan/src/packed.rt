@@ -154,7 +154,7 @@ pub(crate) fn fill<R: PlanLeaves>(run: Run, word: &mut Word, units: &mut BitCurs
     *word = R::take_word(run, units);
 }
 
-/// What is built of a number, which is taken from a word. `None` where none stands in it.
+/// What is built of a number or of a string of one length, which is taken from a word. `None` where none stands in it.
 #[inline(always)]
 fn build_number<R: PlanLeaves, B: Build>(
     nodes: &[Node],

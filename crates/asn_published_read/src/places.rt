@@ -161,15 +161,12 @@ fn letter_of_numbers(tokens: &Tokens<'_>, at: usize) -> Option<i128> {
         return Some(column.saturating_mul(16).saturating_add(row));
     }
     let third = next(next(second));
-    let parts = [
-        (first, 127, Sign::Comma),
-        (second, 255, Sign::Comma),
-        (third, 255, Sign::Comma),
-        (next(next(third)), 255, Sign::RightBrace),
-    ];
-    let mut code = 0i128;
-    for (place, most, sign) in &parts {
-        let part = part_at(tokens, *place, *most, *sign)?;
+    let mut code = part_at(tokens, first, 127, Sign::Comma)?;
+    for part in [
+        part_at(tokens, second, 255, Sign::Comma)?,
+        part_at(tokens, third, 255, Sign::Comma)?,
+        part_at(tokens, next(next(third)), 255, Sign::RightBrace)?,
+    ] {
         code = code.saturating_mul(256).saturating_add(part);
     }
     Some(code)

@@ -11,11 +11,6 @@ fn text_at<'t>(items: &[Token<'t>], index: usize) -> &'t str {
     }
 }
 
-/// Whether the text of an item is this word.
-fn is_word(items: &[Token<'_>], index: usize, word: &str) -> bool {
-    *text_at(items, index).as_bytes() == *word.as_bytes()
-}
-
 /// Whether a sign stands at an index.
 fn is_sign(items: &[Token<'_>], index: usize, sign: Sign) -> bool {
     match items.get(index) {
@@ -34,7 +29,7 @@ fn is_prefix(items: &[Token<'_>], at: usize, is_default: bool) -> bool {
     }
     let word = text_at(items, reference);
     if is_sign(items, next(reference), Sign::Colon) {
-        return is_capital(word) && !is_word(items, reference, "TAG");
+        return is_capital(word) && word != "TAG";
     }
     // a tag has a class, a number or the name of one
     is_default && is_capital(word) && !["UNIVERSAL", "APPLICATION", "PRIVATE"].contains(&word)
@@ -52,17 +47,19 @@ fn is_capital(word: &str) -> bool {
 /// `is_default` holds: a module says so with its head.
 fn default_at(items: &[Token<'_>], at: usize, is_default: bool) -> bool {
     let second = next(next(at));
-    if is_word(items, at, "DEFINITIONS") {
-        is_word(items, second, "INSTRUCTIONS") && !is_word(items, next(at), "TAG")
-    } else {
+    if text_at(items, at) != "DEFINITIONS" {
         is_default
+    } else if text_at(items, second) == "INSTRUCTIONS" {
+        text_at(items, next(at)) != "TAG"
+    } else {
+        false
     }
 }
 
 /// The index after the syntax of a class, whose brackets are groups, where its WITH stands at `at`; else the next one.
 fn after_syntax(items: &[Token<'_>], others: &[usize], at: usize) -> usize {
     let braces = next(next(at));
-    let is_syntax = is_word(items, at, "WITH") && is_word(items, next(at), "SYNTAX");
+    let is_syntax = text_at(items, at) == "WITH" && text_at(items, next(at)) == "SYNTAX";
     match others.get(braces) {
         Some(other) if is_syntax => next((*other).max(at)),
         _ => next(at),
@@ -89,7 +86,7 @@ pub(crate) fn mark_prefixes(items: &mut Vec<Token<'_>>, others: &[usize]) {
 
 /// Whether an encoding reference is one of PER or OER, whose instructions say how values are encoded.
 pub(crate) fn is_own_reference(word: &str) -> bool {
-    ["PER", "OER"].contains(&word)
+    word == "PER" || word == "OER"
 }
 
 /// Whether one of the tags and encoding prefixes at `from` has an instruction of PER or OER.

@@ -54,8 +54,8 @@ fn told(alloc: Global, ty: &Checked, message: &[u8]) -> Result<String> {
 /// Tells what becomes of five messages.
 pub(crate) fn convert_commands(rt: &impl Print, alloc: Global) -> Result<()> {
     let ty = command_type(alloc)?;
-    for line in &["00", "5900", "a0", "c0", "7f"] {
-        let message = hex::decode(alloc, *line)?;
+    for line in ["00", "5900", "a0", "c0", "7f"] {
+        let message = hex::decode(alloc, line)?;
         println!(rt; "per {line} {}", told(alloc, &ty, &message)?)?;
     }
     Ok(())

@@ -62,8 +62,8 @@ fn told(alloc: Global, ty: &Checked, octets: &[u8]) -> Result<String> {
 pub(crate) fn decode_messages(rt: &impl Print, alloc: Global) -> Result<()> {
     let module = read_explained(alloc, TEXT)?;
     let ty = module.type_named("Message").context("no type Message")?;
-    for line in &["d0b4d820", "50b4c0", "58b4e0", "50b4", "50b4c000"] {
-        let octets = hex::decode(alloc, *line)?;
+    for line in ["d0b4d820", "50b4c0", "58b4e0", "50b4", "50b4c000"] {
+        let octets = hex::decode(alloc, line)?;
         println!(rt; "{line}: {}", told(alloc, ty, &octets)?)?;
     }
     Ok(())

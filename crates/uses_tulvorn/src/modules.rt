@@ -43,8 +43,8 @@ pub(crate) fn read_modules(rt: &impl Print, alloc: Global) -> Result<()> {
     let module = read_explained(alloc, TEXT)?;
     show_types(rt, alloc, &module)?;
     let ty = module.type_named("Msg").context("no type Msg")?;
-    for line in &["6b04", "28"] {
-        let octets = hex::decode(alloc, *line)?;
+    for line in ["6b04", "28"] {
+        let octets = hex::decode(alloc, line)?;
         let value = decode::<Per>(alloc, ty, &octets)?;
         let id = id_of(&ty.view(&value)).context("no id")?;
         println!(rt; "{line} {}, id {id}", to_json(alloc, ty, &value)?)?;

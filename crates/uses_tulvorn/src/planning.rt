@@ -70,8 +70,8 @@ pub(crate) fn look_at_logs(rt: &impl Print, alloc: Global) -> Result<()> {
     let module = read_explained(alloc, TEXT)?;
     let ty = module.type_named("Log").context("no type Log")?;
     let planned = Planned::new(alloc, ty.copy()?)?;
-    for line in &["12340100", "123401c0", "12340400", "123404", "12340101"] {
-        let octets = hex::decode(alloc, *line)?;
+    for line in ["12340100", "123401c0", "12340400", "123404", "12340101"] {
+        let octets = hex::decode(alloc, line)?;
         println!(rt; "{line}: {}", told(alloc, &planned, &octets)?)?;
     }
     Ok(())

@@ -90,16 +90,16 @@ fn watch(rt: &impl Print, alloc: Global, ty: &Checked, octets: &[u8]) -> Result<
 /// Tells the messages of three streams, and what the octets of three messages settle.
 pub(crate) fn read_streams(rt: &impl Print, alloc: Global) -> Result<()> {
     let ty = track_type(alloc)?;
-    for line in &[
+    for line in [
         "1234203900000700",
         "12342039001234",
         "1234203900ffff30393f80",
     ] {
-        let octets = hex::decode(alloc, *line)?;
+        let octets = hex::decode(alloc, line)?;
         follow(rt, alloc, &ty, octets.as_slice())?;
     }
-    for line in &["1234203900", "1234", "123430393f80"] {
-        let octets = hex::decode(alloc, *line)?;
+    for line in ["1234203900", "1234", "123430393f80"] {
+        let octets = hex::decode(alloc, line)?;
         watch(rt, alloc, &ty, &octets)?;
     }
     Ok(())

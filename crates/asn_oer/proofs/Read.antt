@@ -1,5 +1,6 @@
 -- Where the readers of OER stand, and what they cite at each exit.
 pub mod TruthReading
+pub mod OtherTruths
 pub mod IntegerReading
 pub mod ItemReading
 pub mod BitReading

@@ -1,4 +1,5 @@
 pub mod Oer
+pub mod FixedSizes
 pub mod Rules
 pub mod NumberVectors
 pub mod StringVectors

@@ -37,7 +37,7 @@ pub(crate) fn unsigned_size(high: i128) -> u32
 
 /// How many octets of two's complement hold the numbers from `low` to `high`, where it is a fixed number: as many as
 /// hold twice the one that is farthest from zero, beside whose bits stands the sign.
-fn signed_size(low: i128, high: i128) -> Option<u32>
+pub(crate) fn signed_size(low: i128, high: i128) -> Option<u32>
     requires low { lowest_integer ≤ℤ low }
     requires high { high ≤ℤ highest_integer }
     ensures { result ≡ signed_size low high }

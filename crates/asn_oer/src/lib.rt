@@ -3,8 +3,10 @@
 
 mod bit_items;
 mod enumerated;
+mod fixed_sizes;
 mod in_pieces;
 mod integer;
+pub mod internal;
 pub mod laws;
 mod read_leaves;
 mod rules;
@@ -13,6 +15,7 @@ mod single_items;
 mod string_reader;
 mod tags;
 mod text_items;
+mod truths;
 mod write_leaves;
 
 pub use rules::Oer;

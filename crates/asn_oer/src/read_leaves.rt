@@ -7,6 +7,7 @@ use crate::integer::{read_integer, try_fixed};
 use crate::rules::Oer;
 use crate::string_reader::{read_bit_string, read_octet_string, read_text, read_utf8_string};
 use crate::tags::read_tag;
+use crate::truths::try_other;
 use asn_bits::internal::at_offset;
 use asn_bits::{BitCursor, Intervals};
 use asn_rules::internal::{
@@ -57,6 +58,9 @@ impl ReadLeaves for Oer {
     fn read_other(ty: &AsnType, default: &Value, units: &mut BitCursor<'_>) -> Result<Value, Stop> {
         match (ty, default) {
             (AsnType::Bool, Value::Bool(truth)) => {
+                if try_other(*truth, units) {
+                    return Ok(Value::Bool(!*truth));
+                }
                 Ok(Value::Bool(read_boolean(Some(*truth), units)?))
             }
             (AsnType::Int(bounds), Value::Int(number)) => {
@@ -168,7 +172,8 @@ impl ReadLeaves for Oer {
 }
 
 /// How many bits the extension bit has, and the highest number that they may hold: 1 only where additions are listed.
-fn marks(additions: Option<usize>) -> (u32, u64)
+#[inline(always)]
+pub fn marks(additions: Option<usize>) -> (u32, u64)
     ensures { result ≡ mark_of additions }
 {
     match additions {

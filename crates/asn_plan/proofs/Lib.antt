@@ -6,6 +6,7 @@ pub mod Entries
 pub mod Growing
 pub mod LeafTypes
 pub mod Messages
+pub mod OctetsRead
 pub mod NodeKinds
 pub mod Placing
 pub mod RangedRead

@@ -13,7 +13,7 @@ use Rattle.asn_rules.specs.Languages.{Spells}
 use Rattle.asn_rules.specs.Listed.{Spelt}
 use Rattle.asn_rules.proofs.Languages.Parts.{contents-ones}
 use Rattle.asn_rules.proofs.Live.Flat.{flat-ones}
-use Rattle.asn_walk.specs.Coding.{PreambleOf}
+use Rattle.asn_walk.specs.Coding.{Coding, PreambleOf}
 use Rattle.asn_per.specs.Kinds.{position_of}
 use Rattle.asn_per.specs.Per.{per, per_fields, spelled}
 use Rattle.asn_per.specs.Walk.{per_coding}
@@ -22,16 +22,35 @@ use Rattle.asn_per.proofs.Read.ItemIndexes.{root_items}
 use Rattle.asn_per.proofs.Read.PreambleReading.{marked_preamble}
 use Rattle.asn_per.proofs.Types.Ranks.{place_back}
 use Rattle.asn_plan.specs.Enumerations.{IsEnumeration, is_enumerated, root_items_of, other_items_of}
+use Rattle.asn_plan.specs.Words.{units_in, before}
 use Rattle.asn_plan.specs.declared.enumeration.Enumeration.{Enumeration}
+use Rattle.asn_plan.specs.declared.word.Word.{Word}
 
 -- the first of the bits that are left
-pub taken_first : (m left after count n : ℕ) (us : List ℕ) → after + count ≡ left → n ≡ m / 2 ^ after % 2 ^ count
-    → bits left m ++ us ≡ bits count n ++ (bits after m ++ us)
-taken_first m left after count n us e is =
+pub taken_first : (m left after count n : ℕ) → after + count ≡ left → n ≡ m / 2 ^ after % 2 ^ count → bits left m ≡ bits count n ++ bits after m
+taken_first m left after count n e is =
     let all : left ≡ count + after = omega (arith, e) in
     let split : bits left m ≡ bits count (m / 2 ^ after) ++ bits after m = ap (λ (k : ℕ). bits k m) all ∙ digits-add 2 count after m in
     let same : bits count n ≡ bits count (m / 2 ^ after) = ap (bits count) is ∙ digits-mod 2 (omega arith) count (m / 2 ^ after) in
-    ap (λ (t : List ℕ). t ++ us) split ∙ append_assoc (bits count (m / 2 ^ after)) (bits after m) us ∙ ap (λ (t : List ℕ). t ++ (bits after m ++ us)) (sym same)
+    split ∙ ap (λ (t : List ℕ). t ++ bits after m) (sym same)
+
+-- an empty word has no units
+pub nothing_left : (c : Coding) (w : Word) (us : List ℕ) → w.left ≡ 0 → before c w us ≡ us
+nothing_left c w us e = ap (λ (n : ℕ). units_in c n w.bits ++ us) e
+
+-- the units of a word are its bits
+pub units_are_bits : (n m : ℕ) → units_in per_coding n m ≡ bits n m
+unfolding per_coding
+units_are_bits zero m = refl
+units_are_bits (suc n) m = refl
+
+-- the first of them, and the others
+pub bits_taken : (old new : Word) (k n : ℕ) (us : List ℕ) → bits old.left old.bits ≡ bits k n ++ bits new.left new.bits
+    → before per_coding old us ≡ bits k n ++ before per_coding new us
+bits_taken old new k n us e =
+    let rest = bits new.left new.bits in
+    ap (λ (t : List ℕ). t ++ us) (units_are_bits old.left old.bits ∙ e) ∙ append_assoc (bits k n) rest us
+    ∙ ap (λ (t : List ℕ). bits k n ++ (t ++ us)) (sym (units_are_bits new.left new.bits))
 
 -- one bit
 pub bit_first : (n : ℕ) → n < 2 → bits 1 n ≡ bit_of (nat_lt 0 n) ∷ []

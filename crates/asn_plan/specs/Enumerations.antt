@@ -1,5 +1,5 @@
 -- An ENUMERATED whose items stand in the order of their numbers, with what is worked out of them.
-use Rattle.std.specs.Prelude.{◌≡◌, ◌+◌, ◌<◌, ℕ, Bool, true, false, List, [], length}
+use Rattle.std.specs.Prelude.{◌≡◌, ◌+◌, ◌<◌, ℕ, pos, Bool, true, false, List, [], length}
 use Rattle.asn_values.specs.Profile.{InProfile}
 use Rattle.asn_values.specs.Shape.{Shape, Label, MoreLabels, enumerated, closed_labels, has_more_labels}
 use Rattle.asn_values.specs.View.{shape_of}
@@ -26,6 +26,10 @@ is_enumerated _ = false
 abbrev pub AreInOrder : List Label → Type 0
 AreInOrder ls = (p : ℕ) → p < length ls → rank ls (number_at ls p) ≡ p
 
+-- the numbers of the items run on from n, and none is above 127
+abbrev pub AreInRow : ℕ → List Label → Type 0
+AreInRow n ls = (p : ℕ) → p < length ls → (number_at ls p ≡ pos (n + p)) × (n + p < 128)
+
 -- the type is an ENUMERATED of the profile, the items of its root stand in their order, and what stands beside the type
 -- was worked out of it
 pub record IsEnumeration (e : Enumeration) : Type 0 where
@@ -34,3 +38,4 @@ pub record IsEnumeration (e : Enumeration) : Type 0 where
   pub ordered : AreInOrder (root_items_of (shape_of e.ty))
   pub count : e.highest + 1 ≡ length (root_items_of (shape_of e.ty))
   pub bits : e.bits ≡ bit_of (has_more_labels (other_items_of (shape_of e.ty))) + width (length (root_items_of (shape_of e.ty)))
+  pub octets : 0 < e.octets → AreInRow e.first (root_items_of (shape_of e.ty))

@@ -13,8 +13,6 @@ use Rattle.asn_rules.specs.Languages.{Spells}
 use Rattle.asn_rules.specs.Listed.{Listed, bitmap_length}
 use Rattle.asn_walk.specs.Coding.{Coding, OpenOf, OpenListed, added, added_alternatives}
 use Rattle.asn_plan.specs.Ranged.{ranged}
-use Rattle.asn_plan.specs.Words.{before}
-use Rattle.asn_plan.specs.declared.word.Word.{Word}
 use Rattle.asn_walk.specs.Reading.{Reads, ValuesOf}
 use Rattle.asn_plan.specs.declared.plan.Plan.{Plan}
 use Rattle.asn_plan.specs.declared.plan.Node.{Node}
@@ -130,19 +128,19 @@ pub record Builds {P : Type 0} (c : Coding) (built : P → Datum → Type 0) (t 
   pub of_value : built p value
   pub read : Reads c (ValuesOf c t) value old new
 
--- from a word, after which these units stand, a value of the type was read, of which this part was built
-pub record BuildsNext {P : Type 0} (c : Coding) (built : P → Datum → Type 0) (t : Shape) (p : P) (old new : Word)
-    (us : List ℕ) : Type 0 where
+-- from units, a word's and those after it, a value of the type was read, of which this part was built
+pub record BuildsNext {P : Type 0} (c : Coding) (built : P → Datum → Type 0) (t : Shape) (p : P) (us vs : List ℕ)
+    : Type 0 where
   pub value : Datum
   pub of_value : built p value
-  pub read : Spells c.ruling.fielding (ValuesOf c t) value (before old us) (before new us)
+  pub read : Spells c.ruling.fielding (ValuesOf c t) value us vs
 
 -- the same of components that all have to be there
 pub record BuildsNumbers {P : Type 0} (c : Coding) (listed : P → List (Option Datum) → Type 0) (root : Fields) (p : P)
-    (old new : Word) (us : List ℕ) : Type 0 where
+    (us vs : List ℕ) : Type 0 where
   pub entries : List (Option Datum)
   pub of_entries : listed p entries
-  pub read : Spells c.ruling.fielding (Listed c.code root []) entries (before old us) (before new us)
+  pub read : Spells c.ruling.fielding (Listed c.code root []) entries us vs
 
 -- Of components, of which the first is one that the node is of, an entry was read, and put after those that were there
 -- before. P says which these were, N which there are now; left is how many presence bits there were, after how many

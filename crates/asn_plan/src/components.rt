@@ -17,7 +17,7 @@ use crate::build::Build;
 use crate::copies::copy_default;
 use crate::leaves::read_other;
 use crate::open::build_open;
-use crate::packed::build_next;
+use crate::packed::{build_next, fill};
 use crate::plan::{ComponentRows, Node, Presence};
 use crate::rules::PlanLeaves;
 use crate::walk::build_at;
@@ -89,7 +89,7 @@ fn read_preamble<R: PlanLeaves>(
     ensures at_unit { IsSome result → R.rules.at_unit units.new }
     ensures some { IfSome result (λ p.
         Spells R.rules.ruling.fielding (PreambleOf R.rules count additions) (preamble_seen p)
-        (before word.old (R.rules.to_units units.old)) (before word.new (R.rules.to_units units.new))) }
+        (before R.rules word.old (R.rules.to_units units.old)) (before R.rules word.new (R.rules.to_units units.new))) }
 {
     if !word.is_empty() {
         return R::next_preamble(count, additions, word);
@@ -147,7 +147,7 @@ fn build_components<R: PlanLeaves, B: Build>(
     ensures some { IfSome result (λ p. (root : Fields) → AreOfProfile root → ArePlans nodes.now parts.now root
         → presence.left ≡ bitmap_length root
         → BuildsComponents R.rules (B.listed room.old room.new) root presence.bitmap presence.left p
-        (before word (R.rules.to_units units.old)) (R.rules.to_units units.new)) }
+        (before R.rules word (R.rules.to_units units.old)) (R.rules.to_units units.new)) }
 {
     let mut presence = presence;
     let mut word = word;
@@ -168,19 +168,6 @@ fn build_components<R: PlanLeaves, B: Build>(
         return None;
     }
     Some(entries)
-}
-
-/// Takes so many units into the word, where it is empty and they are at hand.
-#[inline(always)]
-fn fill<R: PlanLeaves>(run: u32, word: &mut Word, units: &mut BitCursor<'_>)
-    requires at_unit { R.rules.at_unit units.old }
-    ensures at_unit { R.rules.at_unit units.new }
-    ensures same { before word.old (R.rules.to_units units.old) ≡ before word.new (R.rules.to_units units.new) }
-{
-    if run == 0 || !word.is_empty() {
-        return;
-    }
-    *word = R::take_word(run, units);
 }
 
 /// Adds the entry of a component, which is taken from the word, where it has bits, and else where the presence bits tell
@@ -204,11 +191,11 @@ fn build_part<R: PlanLeaves, B: Build>(
     ensures some { IsSome result → (s : B.Room)
         → BuildsEntry R.rules (B.listed s room.old entries.old) (B.listed s room.new entries.new)
         nodes.now part.now presence.old.bitmap presence.old.left presence.new.left
-        (before word.old (R.rules.to_units units.old)) (before word.new (R.rules.to_units units.new)) }
+        (before R.rules word.old (R.rules.to_units units.old)) (before R.rules word.new (R.rules.to_units units.new)) }
 {
     fill::<R>(part.run, word, units);
     if !word.is_empty() {
-        let value = build_next::<R, B>(alloc, nodes, part, word, room)?;
+        let value = build_next::<R, B>(alloc, nodes, part, word, units, room)?;
         return B::present(room, entries, value);
     }
     build_component::<R, B>(alloc, nodes, part, presence, entries, units, room)

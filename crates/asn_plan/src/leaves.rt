@@ -1,11 +1,14 @@
 //! What the rules read by themselves, for one node of a plan.
-ghost use Rattle.std.specs.Prelude.{◌≡◌, ◌≤◌, ◌<◌, IfSome, IsNone, IsSome, true};
+ghost use Rattle.std.specs.Prelude.{◌≡◌, ◌≤◌, ◌<◌, ◌^◌, ◌≤ℤ◌, ◌<ℤ◌, pos, Some, IfSome, IsNone, IsSome, true, false};
+ghost use Rattle.asn_bits.specs.Numbers.{magnitude};
+ghost use Rattle.asn_oer.specs.FixedSizes.{fixed_size};
+ghost use Rattle.asn_values.specs.Fits.{lowest_integer, highest_integer};
 ghost use Rattle.asn_values.specs.Datum.{truth, item};
 ghost use Rattle.asn_walk.specs.Coding.{AreFew};
 ghost use Rattle.asn_values.specs.Profile.{InProfile, most_alternatives};
 ghost use Rattle.asn_values.specs.Shape.{boolean, integer};
 ghost use Rattle.asn_values.specs.View.{shape_of, range_of};
-ghost use Rattle.asn_plan.specs.Ranged.{ranged, IsRanged};
+ghost use Rattle.asn_plan.specs.Ranged.{ranged, held_in, IsRanged};
 ghost use Rattle.asn_walk.specs.Laws.{IsSimple};
 ghost use Rattle.asn_walk.specs.Reading.{Reads, ReadsOther, ReadsValue, ValuesOf};
 ghost use Rattle.asn_plan.specs.Enumerations.{IsEnumeration};
@@ -16,9 +19,10 @@ use crate::enumeration::Enumeration;
 use crate::plan::{Between, Leaf, WithDefault};
 use crate::ranged::Ranged;
 use crate::rules::PlanLeaves;
-use crate::word::Word;
+use crate::word::Run;
 use asn_bits::BitCursor;
 use asn_bits::internal::{wide_offset_from, width};
+use asn_oer::internal::fixed_size;
 use asn_values::profile::MAX_ALTERNATIVES;
 use asn_values::{AsnType, Bounds, Value};
 use asn_walk::ReadLeaves;
@@ -114,7 +118,7 @@ pub(crate) fn try_truth<R: PlanLeaves>(units: &mut BitCursor<'_>) -> Option<bool
     ensures none { IsNone result → units.new ≡ units.old }
 {
     let start = units.copied();
-    let mut word = R::take_word(1, units);
+    let mut word = R::take_word(Run { bits: 1, octets: 1 }, units);
     if let Some(is_true) = R::next_truth(&mut word)
         && word.is_empty()
     {
@@ -136,7 +140,11 @@ pub(crate) fn try_item<R: PlanLeaves>(items: &Enumeration, units: &mut BitCursor
     ensures none { IsNone result → units.new ≡ units.old }
 {
     let start = units.copied();
-    let mut word = R::take_word(items.bits, units);
+    let run = Run {
+        bits: items.bits,
+        octets: items.octets,
+    };
+    let mut word = R::take_word(run, units);
     if let Some(position) = R::next_item(items, &mut word)
         && word.is_empty()
     {
@@ -159,14 +167,49 @@ pub(crate) fn between_of(bounds: &Bounds) -> Option<Between>
     if bits > 64 {
         return None;
     }
+    let (octets, least) = in_octets(bounds.ext, low, high);
     let range = Ranged {
         low,
         high,
         marked: bounds.ext,
         highest: highest as u64,
         bits,
+        octets,
+        least,
     };
     Some(Between { range })
+}
+
+/// How many octets each number between two bounds has by OER, where it is one count for all of them, and what these hold of
+/// the low bound; else 0 and 0.
+fn in_octets(marked: bool, low: i128, high: i128) -> (u32, u64)
+    requires order { low ≤ℤ high }
+    requires low { lowest_integer ≤ℤ low }
+    requires high { high ≤ℤ highest_integer }
+    ensures { 0 < result.0 → (marked ≡ false) × (fixed_size low high ≡ Some result.0) × (result.1 ≡ held_in result.0 low) }
+{
+    if marked {
+        return (0, 0);
+    }
+    match fixed_size(low, high) {
+        Some(octets) => (octets, held_in(octets, low)),
+        None => (0, 0),
+    }
+}
+
+/// What octets hold of an integer, which has room in them.
+fn held_in(octets: u32, integer: i128) -> u64
+    requires low { lowest_integer ≤ℤ integer }
+    requires high { integer ≤ℤ highest_integer }
+    requires some { integer <ℤ pos 0 → 1 ≤ octets }
+    requires few { octets ≤ 8 }
+    requires room { magnitude integer < 256 ^ octets }
+    ensures { result ≡ held_in octets integer }
+{
+    if integer >= 0 {
+        return integer as u64;
+    }
+    (u64::MAX >> (64 - 8 * octets)) - (-1 - integer) as u64
 }
 
 /// The type of these bounds.

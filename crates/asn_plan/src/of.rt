@@ -18,6 +18,7 @@ use crate::plan::{
     AlternativeRows, ComponentRows, ElementRow, Kind, Leaf, Node, Plan, Presence, WithDefault,
 };
 use crate::runs::{head_of, run_of};
+use crate::word::Run;
 use asn_values::{Alt, AsnType, Checked, Field, Need, Size};
 use asn_walk::bitmap_width;
 use std::alloc::{AllocError, Global};
@@ -145,7 +146,7 @@ fn place_element(kind: Kind, size: Size, nodes: &mut Vec<Node>) -> Result<Kind, 
     nodes.push(Node {
         presence: Presence::Must,
         kind,
-        run: 0,
+        run: Run { bits: 0, octets: 0 },
     })?;
     Ok(Kind::List(ElementRow { size, element }))
 }
@@ -168,7 +169,7 @@ fn alternatives_of(
         parts.push(Node {
             presence: Presence::Must,
             kind,
-            run: 0,
+            run: Run { bits: 0, octets: 0 },
         })?;
     }
     Ok(parts)

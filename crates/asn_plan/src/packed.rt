@@ -7,11 +7,13 @@ ghost use Rattle.asn_rules.specs.Listed.{bitmap_length};
 ghost use Rattle.asn_plan.specs.declared.plan.Kind.TheVariants as kind;
 ghost use Rattle.asn_plan.specs.declared.plan.Presence.TheVariants as presence;
 ghost use Rattle.asn_plan.specs.Plans.{IsPlan, ArePlans, BuildsNext, BuildsNumbers};
+ghost use Rattle.asn_plan.specs.Words.{before};
 
 use crate::build::Build;
 use crate::plan::{ComponentRows, Kind, Node, Presence};
 use crate::rules::PlanLeaves;
-use crate::word::Word;
+use crate::word::{Run, Word};
+use asn_bits::BitCursor;
 use std::alloc::Global;
 
 /// What is built of the value of a component that has to be there, which is taken from a word. `None` where none stands
@@ -22,17 +24,21 @@ pub(crate) fn build_next<R: PlanLeaves, B: Build>(
     nodes: &[Node],
     part: &Node,
     word: &mut Word,
+    units: &mut BitCursor<'_>,
     room: &mut B::Room,
 ) -> Option<B::Part>
+    requires at_unit { R.rules.at_unit units.old }
+    ensures at_unit { IsSome result → R.rules.at_unit units.new }
     ensures must { IsSome result → part.now.presence ≡ presence.Must }
-    ensures some { IfSome result (λ p. (t : Shape) (us : List ℕ) → InProfile t → IsPlan nodes.now t part.now.kind
-        → BuildsNext R.rules (B.built room.old room.new) t p word.old word.new us) }
+    ensures some { IfSome result (λ p. (t : Shape) → InProfile t → IsPlan nodes.now t part.now.kind
+        → BuildsNext R.rules (B.built room.old room.new) t p
+        (before R.rules word.old (R.rules.to_units units.old)) (before R.rules word.new (R.rules.to_units units.new))) }
 {
     let Presence::Must = &part.presence else {
         return None;
     };
     match &part.kind {
-        Kind::Sequence(parts) => build_row::<R, B>(alloc, nodes, parts, word, room),
+        Kind::Sequence(parts) => build_row::<R, B>(alloc, nodes, parts, word, units, room),
         _ => build_number::<R, B>(nodes, part, word, room),
     }
 }
@@ -45,10 +51,14 @@ fn build_row<R: PlanLeaves, B: Build>(
     nodes: &[Node],
     rows: &ComponentRows,
     word: &mut Word,
+    units: &mut BitCursor<'_>,
     room: &mut B::Room,
 ) -> Option<B::Part>
-    ensures { IfSome result (λ p. (t : Shape) (us : List ℕ) → InProfile t → IsPlan nodes.now t (kind.Sequence rows.now)
-        → BuildsNext R.rules (B.built room.old room.new) t p word.old word.new us) }
+    requires at_unit { R.rules.at_unit units.old }
+    ensures at_unit { IsSome result → R.rules.at_unit units.new }
+    ensures some { IfSome result (λ p. (t : Shape) → InProfile t → IsPlan nodes.now t (kind.Sequence rows.now)
+        → BuildsNext R.rules (B.built room.old room.new) t p
+        (before R.rules word.old (R.rules.to_units units.old)) (before R.rules word.new (R.rules.to_units units.new))) }
 {
     R::keep_laws();
     if rows.begin >= rows.middle || rows.middle < rows.end || rows.middle > nodes.len() {
@@ -63,33 +73,52 @@ fn build_row<R: PlanLeaves, B: Build>(
     }
     let before = &nodes[..rows.begin];
     let root = &nodes[rows.begin..rows.middle];
-    let entries = build_numbers::<R, B>(alloc, before, root, word, room)?;
+    let entries = build_numbers::<R, B>(alloc, before, root, word, units, room)?;
     let part = B::sequence(room, entries)?;
     Some(part)
 }
 
-/// What is built of the numbers of components, each of which has to be there, which are taken from a word. `None` where
-/// these do not stand in it.
+/// What is built of the numbers of components, each of which has to be there, which are taken from a word, and from the
+/// next ones. `None` where these do not stand in them.
 #[inline(always)]
 fn build_numbers<R: PlanLeaves, B: Build>(
     alloc: Global,
     nodes: &[Node],
     parts: &[Node],
     word: &mut Word,
+    units: &mut BitCursor<'_>,
     room: &mut B::Room,
 ) -> Option<B::Entries>
-    ensures { IfSome result (λ p. (root : Fields) (us : List ℕ) → AreOfProfile root → ArePlans nodes.now parts.now root
-        → 0 ≡ bitmap_length root → BuildsNumbers R.rules (B.listed room.old room.new) root p word.old word.new us) }
+    requires at_unit { R.rules.at_unit units.old }
+    ensures at_unit { IsSome result → R.rules.at_unit units.new }
+    ensures some { IfSome result (λ p. (root : Fields) → AreOfProfile root → ArePlans nodes.now parts.now root
+        → 0 ≡ bitmap_length root → BuildsNumbers R.rules (B.listed room.old room.new) root p
+        (before R.rules word.old (R.rules.to_units units.old)) (before R.rules word.new (R.rules.to_units units.new))) }
 {
     let mut entries = B::entries(alloc, room, parts.len())?;
     for part in parts {
         let Presence::Must = &part.presence else {
             return None;
         };
+        fill::<R>(part.run, word, units);
         let value = build_number::<R, B>(nodes, part, word, room)?;
         B::present(room, &mut entries, value)?;
     }
     Some(entries)
+}
+
+/// Takes so many units into the word, where it is empty and they are at hand.
+#[inline(always)]
+pub(crate) fn fill<R: PlanLeaves>(run: Run, word: &mut Word, units: &mut BitCursor<'_>)
+    requires at_unit { R.rules.at_unit units.old }
+    ensures at_unit { R.rules.at_unit units.new }
+    ensures same { before R.rules word.old (R.rules.to_units units.old)
+        ≡ before R.rules word.new (R.rules.to_units units.new) }
+{
+    if !word.is_empty() {
+        return;
+    }
+    *word = R::take_word(run, units);
 }
 
 /// What is built of a number, which is taken from a word. `None` where none stands in it.
@@ -101,7 +130,7 @@ fn build_number<R: PlanLeaves, B: Build>(
     room: &mut B::Room,
 ) -> Option<B::Part>
     ensures { IfSome result (λ p. (t : Shape) (us : List ℕ) → InProfile t → IsPlan nodes.now t part.now.kind
-        → BuildsNext R.rules (B.built room.old room.new) t p word.old word.new us) }
+        → BuildsNext R.rules (B.built room.old room.new) t p (before R.rules word.old us) (before R.rules word.new us)) }
 {
     match &part.kind {
         Kind::Number(number) => {

@@ -9,6 +9,7 @@ ghost use Rattle.asn_plan.specs.SimpleTypes.{is_simple};
 
 use crate::enumeration::Enumeration;
 use crate::ranged::Ranged;
+use crate::word::Run;
 use asn_values::{AsnType, Size, Value};
 
 /// An INTEGER with two bounds, with what is worked out of them.
@@ -54,9 +55,9 @@ pub struct ComponentRows {
     pub additions: Option<usize>,
     /// How many presence bits the root has.
     pub width: u32,
-    /// How many bits may be taken at once, where values are told by numbers of bits: the extension bit, the presence bits,
-    /// and the run of the first component.
-    pub head: u32,
+    /// How many units may be taken at once: those of the extension bit and the presence bits, and the run of the first
+    /// component.
+    pub head: Run,
 }
 
 /// How many elements a SEQUENCE OF has, and where the node of their type stands among those of the plan, counted from
@@ -112,9 +113,9 @@ pub enum Presence {
 pub struct Node {
     pub presence: Presence,
     pub kind: Kind,
-    /// How many bits may be taken at once from here on, where values are told by numbers of bits: those of this component
-    /// and of the next ones, as far as each has to be there and is a number, or a SEQUENCE of such components.
-    pub run: u32,
+    /// How many units may be taken at once from here on: those of this component and of the next ones, as far as each has to
+    /// be there and is a number, or a SEQUENCE of such components.
+    pub run: Run,
 }
 
 /// A plan of a type: the nodes of its parts, and what is to be read of the type, before which all of these stand.

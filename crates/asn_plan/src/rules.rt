@@ -1,5 +1,6 @@
 //! Encoding rules by which a plan is read.
-ghost use Rattle.std.specs.Prelude.{◌≡◌, ◌≤◌, ℕ, List, IfSome, IsNone};
+ghost use Rattle.std.specs.Prelude.{◌≡◌, ◌≤◌, ◌%◌, ◌++◌, ℕ, List, IfSome, IsNone};
+ghost use Rattle.asn_bits.specs.Numbers.{bits};
 ghost use Rattle.asn_values.specs.Datum.{truth, number, item};
 ghost use Rattle.asn_values.specs.Shape.{boolean};
 ghost use Rattle.asn_values.specs.View.{shape_of};
@@ -17,7 +18,7 @@ ghost use Rattle.asn_plan.specs.Words.{before};
 
 use crate::enumeration::Enumeration;
 use crate::ranged::Ranged;
-use crate::word::Word;
+use crate::word::{Run, Word};
 use asn_bits::BitCursor;
 use asn_bits::internal::at_offset;
 use asn_oer::Oer;
@@ -29,62 +30,42 @@ use asn_walk::{Preamble, ReadLeaves};
 /// What a plan asks of a set of rules beside the parts that any walk asks for: values by what was worked out of their
 /// types once.
 pub trait PlanLeaves: ReadLeaves {
-    /// Takes this many units at once, where a value begins with a number of bits and they are at hand: otherwise none.
-    #[inline(always)]
-    fn take_word(_count: u32, _units: &mut BitCursor<'_>) -> Word
-        requires at_unit { Self.rules.at_unit _units.old }
-        ensures at_unit { Self.rules.at_unit _units.new }
-        ensures taken { Self.rules.to_units _units.old ≡ before result (Self.rules.to_units _units.new) }
-    {
-        Word::none()
-    }
+    /// Takes this many units at once, where they are at hand and a number of bits holds them; otherwise none.
+    fn take_word(run: Run, units: &mut BitCursor<'_>) -> Word
+        requires at_unit { Self.rules.at_unit units.old }
+        ensures at_unit { Self.rules.at_unit units.new }
+        ensures taken { Self.rules.to_units units.old ≡ before Self.rules result (Self.rules.to_units units.new) };
 
     /// Reads the extension bit, where there is an extension mark with this many additions, and a presence bitmap of
     /// `count` bits from a word; `None` where they do not stand in it.
-    #[inline(always)]
-    fn next_preamble(_count: u32, _additions: Option<usize>, _word: &mut Word) -> Option<Preamble>
-        requires few { _count ≤ 64 }
+    fn next_preamble(count: u32, additions: Option<usize>, word: &mut Word) -> Option<Preamble>
+        requires few { count ≤ 64 }
         ensures some { IfSome result (λ p. (us : List ℕ)
-            → Spells Self.rules.ruling.fielding (PreambleOf Self.rules _count _additions) (preamble_seen p)
-            (before _word.old us) (before _word.new us)) }
-    {
-        None
-    }
+            → Spells Self.rules.ruling.fielding (PreambleOf Self.rules count additions) (preamble_seen p)
+            (before Self.rules word.old us) (before Self.rules word.new us)) };
 
     /// Reads an INTEGER of the type from a word; `None` where none stands in it, and perhaps if the value lies outside
     /// the extension root.
-    #[inline(always)]
-    fn next_ranged(_range: &Ranged, _word: &mut Word) -> Option<i128>
-        requires ranged { IsRanged _range.now }
+    fn next_ranged(range: &Ranged, word: &mut Word) -> Option<i128>
+        requires ranged { IsRanged range.now }
         ensures some { IfSome result (λ z. (us : List ℕ)
-            → Spells Self.rules.ruling.fielding (ValuesOf Self.rules (ranged _range.now)) (number z)
-            (before _word.old us) (before _word.new us)) }
-        ensures of_integers { IfSome result IsOfProfile }
-    {
-        None
-    }
+            → Spells Self.rules.ruling.fielding (ValuesOf Self.rules (ranged range.now)) (number z)
+            (before Self.rules word.old us) (before Self.rules word.new us)) }
+        ensures of_integers { IfSome result IsOfProfile };
 
     /// Reads a BOOLEAN from a word; `None` where none stands in it.
-    #[inline(always)]
-    fn next_truth(_word: &mut Word) -> Option<bool>
+    fn next_truth(word: &mut Word) -> Option<bool>
         ensures { IfSome result (λ b. (us : List ℕ)
             → Spells Self.rules.ruling.fielding (ValuesOf Self.rules boolean) (truth b)
-            (before _word.old us) (before _word.new us)) }
-    {
-        None
-    }
+            (before Self.rules word.old us) (before Self.rules word.new us)) };
 
     /// Reads an ENUMERATED of the type from a word, and gives the position of the item; `None` where none stands in it,
     /// and for an item that is no one of the root.
-    #[inline(always)]
-    fn next_item(_items: &Enumeration, _word: &mut Word) -> Option<u32>
-        requires { IsEnumeration _items.now }
+    fn next_item(items: &Enumeration, word: &mut Word) -> Option<u32>
+        requires { IsEnumeration items.now }
         ensures { IfSome result (λ p. (us : List ℕ)
-            → Spells Self.rules.ruling.fielding (ValuesOf Self.rules (shape_of _items.now.ty)) (item p)
-            (before _word.old us) (before _word.new us)) }
-    {
-        None
-    }
+            → Spells Self.rules.ruling.fielding (ValuesOf Self.rules (shape_of items.now.ty)) (item p)
+            (before Self.rules word.old us) (before Self.rules word.new us)) };
 
     /// Reads an INTEGER of the type, or gives `None` and leaves the cursor where it is: if its encoding is not complete
     /// or not valid, and perhaps if the value lies outside the extension root.
@@ -101,20 +82,8 @@ pub trait PlanLeaves: ReadLeaves {
 #[tactic(auto, unfolding(asn_per::specs::Walk::per_coding, asn_per::specs::Rules::per_ruling))]
 impl PlanLeaves for Per {
     #[inline(always)]
-    fn take_word(count: u32, units: &mut BitCursor<'_>) -> Word {
-        if count > 63 {
-            return Word::none();
-        }
-        let Some(bits) = units.peek_number(count) else {
-            return Word::none();
-        };
-        match Word::of(bits, count) {
-            Some(word) => {
-                units.pass(count);
-                word
-            }
-            None => Word::none(),
-        }
+    fn take_word(run: Run, units: &mut BitCursor<'_>) -> Word {
+        take_bits(run.bits, units)
     }
 
     #[inline(always)]
@@ -176,14 +145,24 @@ impl PlanLeaves for Per {
     }
 }
 
-impl PlanLeaves for Oer {
-    /// An INTEGER with an extension mark is spelt as one without bounds.
-    #[inline(always)]
-    fn try_ranged(range: &Ranged, units: &mut BitCursor<'_>) -> Option<i128> {
-        if range.marked {
-            return None;
+/// Takes so many bits, where some are asked for and they are at hand; otherwise none.
+#[inline(always)]
+pub(crate) fn take_bits(count: u32, units: &mut BitCursor<'_>) -> Word
+    ensures whole { count % 8 ≡ 0 → result.left % 8 ≡ 0 }
+    ensures taken { units.old ≡ bits result.left result.bits ++ units.new }
+{
+    if count == 0 || count > 63 {
+        return Word::none();
+    }
+    let Some(bits) = units.peek_number(count) else {
+        return Word::none();
+    };
+    match Word::of(bits, count) {
+        Some(word) => {
+            units.pass(count);
+            word
         }
-        Oer::try_between(range.low, range.high, units)
+        None => Word::none(),
     }
 }
 

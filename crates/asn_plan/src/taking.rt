@@ -1,7 +1,6 @@
 //! Numbers told one after the other by bits that were taken at once.
-ghost use Rattle.std.specs.Prelude.{◌≡◌, ◌<◌, ◌^◌, ◌++◌, ℕ, List, IfSome, IsTrue};
+ghost use Rattle.std.specs.Prelude.{◌≡◌, ◌<◌, ◌^◌, ◌++◌, IfSome, IsTrue};
 ghost use Rattle.asn_bits.specs.Numbers.{bits};
-ghost use Rattle.asn_plan.specs.Words.{before};
 
 use crate::word::Word;
 
@@ -9,7 +8,7 @@ impl Word {
     /// The bits of a number, the highest of `count` first; none where these are more than 63.
     #[inline(always)]
     pub fn of(number: u64, count: u32) -> Option<Word>
-        ensures { IfSome result (λ w. (us : List ℕ) → before w us ≡ bits count number ++ us) }
+        ensures { IfSome result (λ w. (w.left ≡ count) × (bits w.left w.bits ≡ bits count number)) }
     {
         if count > 63 {
             return None;
@@ -23,7 +22,7 @@ impl Word {
     /// No bits.
     #[inline(always)]
     pub fn none() -> Word
-        ensures { (us : List ℕ) → before result us ≡ us }
+        ensures { result.left ≡ 0 }
     {
         Word { bits: 0, left: 0 }
     }
@@ -31,7 +30,7 @@ impl Word {
     /// Whether no bit is left.
     #[inline(always)]
     pub fn is_empty(&self) -> bool
-        ensures { IsTrue result → (us : List ℕ) → before self.now us ≡ us }
+        ensures { IsTrue result → self.now.left ≡ 0 }
     {
         self.left == 0
     }
@@ -40,7 +39,8 @@ impl Word {
     #[inline(always)]
     pub fn take(&mut self, count: u32) -> Option<u64>
         ensures fits { IfSome result (λ n. n < 2 ^ count) }
-        ensures some { IfSome result (λ n. (us : List ℕ) → before self.old us ≡ bits count n ++ before self.new us) }
+        ensures some { IfSome result (λ n.
+            bits self.old.left self.old.bits ≡ bits count n ++ bits self.new.left self.new.bits) }
     {
         if count > self.left {
             return None;

@@ -1,6 +1,14 @@
 //! Units that are taken at once.
 ghost use Rattle.std.specs.Prelude.{◌≤◌};
 
+/// How many units the values have that are taken at once: counted in bits by rules that tell a value by a number of bits,
+/// as PER does, and in octets by rules that tell it by octets, as OER does. There may be none.
+#[derive(Debug, Clone, Copy)]
+pub struct Run {
+    pub bits: u32,
+    pub octets: u32,
+}
+
 /// Bits that were taken at once, and of which numbers are told one after the other: the lowest `left` of `bits`, the
 /// highest of them first.
 #[derive(Debug, Clone, Copy)]

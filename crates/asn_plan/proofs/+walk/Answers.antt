@@ -1,4 +1,4 @@
-use Rattle.std.proofs.Common.{◌≡◌, ◌/◌, ◌%◌, ◌^◌, refl, sym, ap, ◌∙◌, Some, None, inl, inr, length, arith}
+use Rattle.std.proofs.Common.{◌≡◌, ◌/◌, ◌%◌, ◌^◌, refl, sym, ap, ◌∙◌, ℕ, List, Some, None, inl, inr, length, arith}
 use Rattle.std.proofs.lemmas.List.{drop_all}
 use Rattle.asn_values.specs.Datum.{truth, number, item, alternative}
 use Rattle.asn_values.specs.Profile.{InProfile}
@@ -26,6 +26,7 @@ use Rattle.asn_plan.proofs.Messages.{whole_message, field_read, turned_true, tur
 use Rattle.asn_plan.proofs.NodeKinds.{if_some, number_is, truth_is, item_is, leaf_is, sequence_is, list_is, choice_is}
 use Rattle.asn_plan.proofs.Rows.{row_begins, row_further, listed_starts, listed_further, listed_ends, list_read}
 use Rattle.asn_plan.specs.Words.{before}
+use Rattle.asn_plan.proofs.WordsRead.{nothing_left}
 use Rattle.asn_plan.proofs.+walk.Goals as goal
 
 pub walk::build_at-returns-in-Some-clause-some : goal.walk::build_at-returns-in-Some-clause-some
@@ -74,27 +75,27 @@ components::build_components-loop-part-preserved g t c =
     let h = rw (next_node c.args.parts.now c.loop-part.part-index c.part-item.result c.loop-part-test.true c.part-item.is) at c.loop-part.invariant.0 in
     let N = g.B.Build.listed c.args.room.now c.build_part.new.room c.build_part.new.entries in
     let b = c.in_ok-build_part.ensures in
-    (built_further N c.build_part.new.presence.left (before c.build_part.new.word (g.R.ReadLeaves.rules.to_units c.build_part.new.units)) h (rw c.loop-part.invariant.1 at b.some refl c.args.room.now), b.bitmap refl ∙ c.loop-part.invariant.1, b.at_unit refl)
+    (built_further N c.build_part.new.presence.left (before g.R.ReadLeaves.rules c.build_part.new.word (g.R.ReadLeaves.rules.to_units c.build_part.new.units)) h (rw c.loop-part.invariant.1 at b.some refl c.args.room.now), b.bitmap refl ∙ c.loop-part.invariant.1, b.at_unit refl)
 
 pub components::build_components-returns-clause-some : goal.components::build_components-returns-clause-some
 components::build_components-returns-clause-some g t c root good p width =
     let r = g.R.ReadLeaves.rules in
     let e = c.loop-part.invariant.0.goes root good p width in
     let all = goes_ends e.2 (drop_all c.loop-part.part-index c.args.parts.now c.loop-part-test.false) in
-    let none = c.is_empty.ensures c.if-not-is_empty.false (r.to_units c.loop-part.units) in
+    let none = nothing_left r c.loop-part.word (r.to_units c.loop-part.units) (c.is_empty.ensures c.if-not-is_empty.false) in
     record { entries = e.0; of_entries = e.1; read = rw none at all }
 
 pub components::build_part-returns-clause-some : goal.components::build_part-returns-clause-some
 components::build_part-returns-clause-some g t c some s =
     let r = g.R.ReadLeaves.rules in
-    let none = c.is_empty.ensures c.if-not-is_empty.false in
+    let none = λ (us : List ℕ). nothing_left r c.fill.new.word us (c.is_empty.ensures c.if-not-is_empty.false) in
     rw (c.fill.ensures.same, none (r.to_units c.fill.new.units), none (r.to_units c.build_component.new.units)) (c.build_component.ensures.some some s)
 
 pub components::build_part-returns-then-not-is_empty-clause-some : goal.components::build_part-returns-then-not-is_empty-clause-some
 components::build_part-returns-then-not-is_empty-clause-some g t c some s =
     let r = g.R.ReadLeaves.rules in
     let us = r.to_units c.fill.new.units in
-    rw c.fill.ensures.same (must_entry r (g.B.Build.listed s c.args.room.now c.args.entries.now) (g.B.Build.listed s c.present.new.room c.present.new.entries) c.args.nodes.now c.args.part.now c.args.presence.now.bitmap c.args.presence.now.left (before c.fill.new.word us) (before c.build_next.new.word us) (g.B.Build.built c.args.room.now c.build_next.new.room c.in_ok-value.value) (λ es d l q. c.present.ensures some s c.args.room.now es d l q) (c.in_ok-value.ensures.must refl) (λ s good p. (let b = c.in_ok-value.ensures.some s us good p in (b.value, b.of_value, b.read))))
+    rw c.fill.ensures.same (must_entry r (g.B.Build.listed s c.args.room.now c.args.entries.now) (g.B.Build.listed s c.present.new.room c.present.new.entries) c.args.nodes.now c.args.part.now c.args.presence.now.bitmap c.args.presence.now.left (before r c.fill.new.word us) (before r c.build_next.new.word (r.to_units c.build_next.new.units)) (g.B.Build.built c.args.room.now c.build_next.new.room c.in_ok-value.value) (λ es d l q. c.present.ensures some s c.args.room.now es d l q) (c.in_ok-value.ensures.must refl) (λ s good p. (let b = c.in_ok-value.ensures.some s good p in (b.value, b.of_value, b.read))))
 
 pub components::build_component-returns-in_ok-value-in-Must-clause-some : goal.components::build_component-returns-in_ok-value-in-Must-clause-some
 components::build_component-returns-in_ok-value-in-Must-clause-some g t c some s =
@@ -115,19 +116,19 @@ components::build_sequence-returns-then-not-preamble-clause-some g t c s good p 
     let q = sequence_is c.args.nodes.now s c.args.parts.now p in
     let r = g.R.ReadLeaves.rules in
     let inside : InProfile (sequence q.root q.more) = rw q.is at good in
-    let told : Spells r.ruling.fielding (PreambleOf r c.args.parts.now.width c.args.parts.now.additions) (preamble_seen c.in_ok-preamble.preamble) (r.to_units c.args.units.now) (before c.read_preamble.new.word (r.to_units c.read_preamble.new.units)) = rw (← c.take_word-word.ensures.taken) at c.in_ok-preamble.ensures.some in
+    let told : Spells r.ruling.fielding (PreambleOf r c.args.parts.now.width c.args.parts.now.additions) (preamble_seen c.in_ok-preamble.preamble) (r.to_units c.args.units.now) (before r c.read_preamble.new.word (r.to_units c.read_preamble.new.units)) = rw (← c.take_word-word.ensures.taken) at c.in_ok-preamble.ensures.some in
     let es = c.in_ok-entries.ensures.some q.root (components_of_profile q.root q.more inside) q.plans q.width in
     let all = c.in_ok-add_absent.ensures refl c.args.room.now es.entries es.of_entries in
-    rw q.is (record { value = _; of_value = c.in_ok-whole.ensures c.args.room.now _ all; read = sequence_read r c.keep_laws.ensures q.root q.more inside c.args.parts.now.width c.args.parts.now.additions q.width q.additions (preamble_seen c.in_ok-preamble.preamble) (r.to_units c.args.units.now) (before c.read_preamble.new.word (r.to_units c.read_preamble.new.units)) (r.to_units c.build_components.new.units) told es.entries es.read (turned_true c.in_ok-preamble.preamble.extended c.if-not-preamble.true) _ (absents_are _ _ q.more q.others) })
+    rw q.is (record { value = _; of_value = c.in_ok-whole.ensures c.args.room.now _ all; read = sequence_read r c.keep_laws.ensures q.root q.more inside c.args.parts.now.width c.args.parts.now.additions q.width q.additions (preamble_seen c.in_ok-preamble.preamble) (r.to_units c.args.units.now) (before r c.read_preamble.new.word (r.to_units c.read_preamble.new.units)) (r.to_units c.build_components.new.units) told es.entries es.read (turned_true c.in_ok-preamble.preamble.extended c.if-not-preamble.true) _ (absents_are _ _ q.more q.others) })
 
 pub components::build_sequence-returns-clause-some : goal.components::build_sequence-returns-clause-some
 components::build_sequence-returns-clause-some g t c s good p =
     let q = sequence_is c.args.nodes.now s c.args.parts.now p in
     let r = g.R.ReadLeaves.rules in
     let inside : InProfile (sequence q.root q.more) = rw q.is at good in
-    let told : Spells r.ruling.fielding (PreambleOf r c.args.parts.now.width c.args.parts.now.additions) (preamble_seen c.in_ok-preamble.preamble) (r.to_units c.args.units.now) (before c.read_preamble.new.word (r.to_units c.read_preamble.new.units)) = rw (← c.take_word-word.ensures.taken) at c.in_ok-preamble.ensures.some in
+    let told : Spells r.ruling.fielding (PreambleOf r c.args.parts.now.width c.args.parts.now.additions) (preamble_seen c.in_ok-preamble.preamble) (r.to_units c.args.units.now) (before r c.read_preamble.new.word (r.to_units c.read_preamble.new.units)) = rw (← c.take_word-word.ensures.taken) at c.in_ok-preamble.ensures.some in
     let es = c.in_ok-entries.ensures.some q.root (components_of_profile q.root q.more inside) q.plans q.width in
-    let all = extended_read r c.keep_laws.ensures q.root q.more inside c.args.parts.now.width c.args.parts.now.additions q.width q.additions (preamble_seen c.in_ok-preamble.preamble) (r.to_units c.args.units.now) (before c.read_preamble.new.word (r.to_units c.read_preamble.new.units)) (r.to_units c.build_components.new.units) (r.to_units c.build_additions.new.units) told es.entries es.read (turned_false c.in_ok-preamble.preamble.extended c.if-not-preamble.false) _ _ q.others (g.B.Build.listed c.args.room.now c.build_components.new.room c.in_ok-entries.entries) (g.B.Build.listed c.args.room.now c.build_additions.new.room c.build_additions.new.entries) es.of_entries (λ fs a plans. c.in_ok-build_additions.ensures.some refl c.args.room.now fs a plans) in
+    let all = extended_read r c.keep_laws.ensures q.root q.more inside c.args.parts.now.width c.args.parts.now.additions q.width q.additions (preamble_seen c.in_ok-preamble.preamble) (r.to_units c.args.units.now) (before r c.read_preamble.new.word (r.to_units c.read_preamble.new.units)) (r.to_units c.build_components.new.units) (r.to_units c.build_additions.new.units) told es.entries es.read (turned_false c.in_ok-preamble.preamble.extended c.if-not-preamble.false) _ _ q.others (g.B.Build.listed c.args.room.now c.build_components.new.room c.in_ok-entries.entries) (g.B.Build.listed c.args.room.now c.build_additions.new.room c.build_additions.new.entries) es.of_entries (λ fs a plans. c.in_ok-build_additions.ensures.some refl c.args.room.now fs a plans) in
     rw q.is (record { value = _; of_value = c.in_ok-part.ensures c.args.room.now all.0 all.1; read = all.2 })
 
 pub components::build_additions-returns-clause-some : goal.components::build_additions-returns-clause-some

@@ -27,7 +27,7 @@ decreases-components::build_sequence g l = 8 * length l.nodes.now
 
 abbrev pub invariant-components::build_components-loop-part : goal.invariant-components::build_components-loop-part
 invariant-components::build_components-loop-part g l =
-    BuiltUpTo g.R.ReadLeaves.rules (g.B.Build.listed l.fn.room l.room l.entries) l.nodes l.parts (drop l.part-index l.parts) l.fn.presence.left l.fn.presence.bitmap l.presence.left (before l.fn.word (g.R.ReadLeaves.rules.to_units l.fn.units)) (before l.word (g.R.ReadLeaves.rules.to_units l.units))
+    BuiltUpTo g.R.ReadLeaves.rules (g.B.Build.listed l.fn.room l.room l.entries) l.nodes l.parts (drop l.part-index l.parts) l.fn.presence.left l.fn.presence.bitmap l.presence.left (before g.R.ReadLeaves.rules l.fn.word (g.R.ReadLeaves.rules.to_units l.fn.units)) (before g.R.ReadLeaves.rules l.word (g.R.ReadLeaves.rules.to_units l.units))
     × (l.presence.bitmap ≡ l.fn.presence.bitmap) × g.R.ReadLeaves.rules.at_unit l.units
 
 abbrev pub decreases-lists::build_list : goal.decreases-lists::build_list

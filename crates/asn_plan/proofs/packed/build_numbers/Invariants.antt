@@ -1,8 +1,9 @@
-use Rattle.std.proofs.Common.{ℕ, List, drop}
+use Rattle.std.proofs.Common.{drop}
 use Rattle.asn_plan.proofs.Building.{BuiltUpTo}
 use Rattle.asn_plan.specs.Words.{before}
 use Rattle.asn_plan.proofs.packed.build_numbers.Given as goal
 
 abbrev pub invariant-loop-part : goal.invariant-loop-part
 invariant-loop-part g l =
-    (us : List ℕ) → BuiltUpTo g.R.ReadLeaves.rules (g.B.Build.listed l.fn.room l.room l.entries) l.nodes l.parts (drop l.part-index l.parts) 0 0 0 (before l.fn.word us) (before l.word us)
+    BuiltUpTo g.R.ReadLeaves.rules (g.B.Build.listed l.fn.room l.room l.entries) l.nodes l.parts (drop l.part-index l.parts) 0 0 0 (before g.R.ReadLeaves.rules l.fn.word (g.R.ReadLeaves.rules.to_units l.fn.units)) (before g.R.ReadLeaves.rules l.word (g.R.ReadLeaves.rules.to_units l.units))
+    × g.R.ReadLeaves.rules.at_unit l.units

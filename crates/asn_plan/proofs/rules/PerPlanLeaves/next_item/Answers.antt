@@ -2,10 +2,10 @@ use Rattle.std.proofs.Common.{arith}
 use Rattle.asn_per.specs.Rules.{per_ruling}
 use Rattle.asn_per.specs.Walk.{per_coding}
 use Rattle.asn_plan.specs.Words.{before}
-use Rattle.asn_plan.proofs.WordsRead.{ordered_first}
+use Rattle.asn_plan.proofs.WordsRead.{bits_taken, ordered_first}
 use Rattle.asn_plan.proofs.rules.PerPlanLeaves.next_item.Goals as goal
 
 pub returns : goal.returns
 unfolding per_coding per_ruling
 returns c us =
-    ordered_first c.args.items.now c.in_ok-index.index (before c.args.word.now us) (before c.take.new.self us) c.requires (omega (arith, c.if-index-last.false, c.from-last.ensures)) (c.in_ok-index.ensures.some us)
+    ordered_first c.args.items.now c.in_ok-index.index (before per_coding c.args.word.now us) (before per_coding c.take.new.self us) c.requires (omega (arith, c.if-index-last.false, c.from-last.ensures)) (bits_taken c.args.word.now c.take.new.self c.args.items.now.bits c.in_ok-index.index us c.in_ok-index.ensures.some)

@@ -2,10 +2,10 @@ use Rattle.std.proofs.Common.{arith}
 use Rattle.asn_per.specs.Rules.{per_ruling}
 use Rattle.asn_per.specs.Walk.{per_coding}
 use Rattle.asn_plan.specs.Words.{before}
-use Rattle.asn_plan.proofs.WordsRead.{truth_first}
+use Rattle.asn_plan.proofs.WordsRead.{bits_taken, truth_first}
 use Rattle.asn_plan.proofs.rules.PerPlanLeaves.next_truth.Goals as goal
 
 pub returns : goal.returns
 unfolding per_coding per_ruling
 returns c us =
-    truth_first c.in_ok-bit.bit (before c.args.word.now us) (before c.take.new.self us) (omega (arith, c.in_ok-bit.ensures.fits)) (c.in_ok-bit.ensures.some us)
+    truth_first c.in_ok-bit.bit (before per_coding c.args.word.now us) (before per_coding c.take.new.self us) (omega (arith, c.in_ok-bit.ensures.fits)) (bits_taken c.args.word.now c.take.new.self 1 c.in_ok-bit.bit us c.in_ok-bit.ensures.some)

@@ -1,0 +1,137 @@
+//! What a plan reads by OER: values by what was worked out of their types once, from octets that were taken at once.
+ghost use Rattle.std.specs.Prelude.{◌≡◌, ◌≤◌, ◌<◌, ◌+◌, ◌%◌, ◌^◌, None, IfSome, IsNone};
+ghost use Rattle.asn_values.specs.Datum.{number};
+ghost use Rattle.asn_rules.specs.Listed.{Spelt};
+ghost use Rattle.asn_rules.specs.OctetReading.{AtOctet, ReadsOctets};
+ghost use Rattle.asn_walk.specs.Integers.{IsOfProfile};
+ghost use Rattle.asn_oer.specs.Oer.{oer};
+ghost use Rattle.asn_plan.specs.Ranged.{ranged, IsRanged};
+
+use crate::enumeration::Enumeration;
+use crate::ranged::Ranged;
+use crate::rules::{PlanLeaves, take_bits};
+use crate::word::{Run, Word};
+use asn_bits::BitCursor;
+use asn_bits::internal::at_offset;
+use asn_oer::Oer;
+use asn_oer::internal::marks;
+use asn_rules::internal::{offsets_of, try_counted_signed};
+use asn_values::profile::LOWEST_INTEGER;
+use asn_walk::{Preamble, ReadLeaves};
+
+/// The most octets that are taken at once.
+pub(crate) const MOST_OCTETS: u32 = 7;
+
+#[tactic(auto, unfolding(asn_oer::specs::Walk::oer_coding, asn_oer::specs::Rules::oer_ruling))]
+impl PlanLeaves for Oer {
+    #[inline(always)]
+    fn take_word(run: Run, units: &mut BitCursor<'_>) -> Word {
+        if run.octets > MOST_OCTETS {
+            return Word::none();
+        }
+        take_bits(8 * run.octets, units)
+    }
+
+    /// The zeros after the bits fill up the last octet.
+    #[inline(always)]
+    fn next_preamble(count: u32, additions: Option<usize>, word: &mut Word) -> Option<Preamble> {
+        let (marks, most) = marks(additions);
+        let mark = word.take(marks)?;
+        let bitmap = word.take(count)?;
+        let unused = word.take((8 - (marks + count) % 8) % 8)?;
+        if mark > most || unused > 0 {
+            return None;
+        }
+        Some(Preamble {
+            extended: mark > 0,
+            bitmap,
+        })
+    }
+
+    #[inline(always)]
+    fn next_ranged(range: &Ranged, word: &mut Word) -> Option<i128> {
+        if range.octets == 0 || range.octets > MOST_OCTETS {
+            return None;
+        }
+        let octets = word.take(8 * range.octets)?;
+        let offset = offset_from(range.least, octets, range.octets);
+        if offset > range.highest {
+            return None;
+        }
+        Some(at_offset(range.low, offset))
+    }
+
+    #[inline(always)]
+    fn next_truth(word: &mut Word) -> Option<bool> {
+        match word.take(8)? {
+            0 => Some(false),
+            255 => Some(true),
+            _ => None,
+        }
+    }
+
+    #[inline(always)]
+    fn next_item(items: &Enumeration, word: &mut Word) -> Option<u32> {
+        if items.octets == 0 {
+            return None;
+        }
+        let octet = word.take(8)?;
+        let position = octet.checked_sub(items.first)?;
+        let last = u64::from(items.highest);
+        if position > last {
+            return None;
+        }
+        Some(position as u32)
+    }
+
+    #[inline(always)]
+    fn try_ranged(range: &Ranged, units: &mut BitCursor<'_>) -> Option<i128> {
+        if range.octets == 0 || range.octets > MOST_OCTETS {
+            return try_apart(range, units);
+        }
+        let start = units.copied();
+        let run = Run {
+            bits: 0,
+            octets: range.octets,
+        };
+        let mut word = Oer::take_word(run, units);
+        if let Some(integer) = Oer::next_ranged(range, &mut word)
+            && word.is_empty()
+        {
+            return Some(integer);
+        }
+        *units = start;
+        None
+    }
+}
+
+/// Reads an INTEGER by OER whose octets are more than are taken at once, or not as many for all its numbers; one with an
+/// extension mark is spelt as one without bounds. `None`, and nothing is taken, where it is not at hand.
+#[inline(never)]
+#[tactic(auto, unfolding(asn_oer::specs::Walk::oer_coding, asn_oer::specs::Rules::oer_ruling))]
+fn try_apart(range: &Ranged, units: &mut BitCursor<'_>) -> Option<i128>
+    requires at_octet { AtOctet units.old }
+    requires ranged { IsRanged range.now }
+    ensures at_octet { AtOctet units.new }
+    ensures some { IfSome result (λ z. ReadsOctets (Spelt oer None (ranged range.now)) (number z) units.old units.new) }
+    ensures of_integers { IfSome result IsOfProfile }
+    ensures none { IsNone result → units.new ≡ units.old }
+{
+    if !range.marked {
+        return Oer::try_between(range.low, range.high, units);
+    }
+    let offset = try_counted_signed(offsets_of(None, None, None), units)?;
+    Some(at_offset(LOWEST_INTEGER, offset))
+}
+
+/// How far an integer lies above the low bound, of which `count` octets hold `octets` and `least`, where it is no lower.
+#[inline(always)]
+fn offset_from(least: u64, octets: u64, count: u32) -> u64
+    requires some { 1 ≤ count }
+    requires few { count ≤ 8 }
+    requires least { least < 256 ^ count }
+    requires octets { octets < 256 ^ count }
+    ensures { (least + result) % 256 ^ count ≡ octets }
+{
+    octets.wrapping_sub(least) & u64::MAX >> (64 - 8 * count)
+}

@@ -13,7 +13,7 @@ ghost use Rattle.asn_oer.specs.ElementsAhead.{ahead_of};
 ghost use Rattle.asn_oer.specs.SingleItems.{InFront, any_octets};
 
 use asn_bits::{BitCursor, Intervals};
-use asn_rules::internal::{Stop, numbers, read_length, read_octets, read_octets_among};
+use asn_rules::internal::{Stop, numbers, read_length, read_octets, read_octets_among, try_octets};
 use asn_rules::{MAX_OCTETS, Why};
 use asn_values::{Size, TextKind};
 use asn_walk::sizes::read_count;
@@ -68,6 +68,9 @@ pub(crate) fn read_any_octet(units: &mut BitCursor<'_>) -> Result<u8, Stop>
     ensures done { IfOk result (λ o. ReadsOctets OneOctet o units.old units.new) }
     ensures stop { IfErr result (λ why. StopsAtOctets OneOctet units.old why) }
 {
+    if let Some(octet) = try_octets(1, numbers(0, 255), units) {
+        return Ok(octet as u8);
+    }
     let octet = read_octets_among(1, Intervals::one(0, 255), Why::Sealed, units)?;
     Ok(octet as u8)
 }

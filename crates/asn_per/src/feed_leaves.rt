@@ -31,9 +31,12 @@ impl FeedLeaves for PerInPieces {
     }
 
     fn pass_units(units: &mut BitCursor<'_>, count: u32) {
-        let first = count.min(64);
-        units.pass(first);
-        units.pass(count - first);
+        if count <= 64 {
+            units.pass(count);
+            return;
+        }
+        units.pass(64);
+        units.pass(count - 64);
     }
 
     fn copied(fragments: &Fragments) -> Fragments {

@@ -22,8 +22,23 @@ pub(crate) fn read_bit(cursor: &mut BitCursor<'_>) -> Result<u8, Stop>
     Ok(bit as u8)
 }
 
-/// Reads an octet.
+/// Reads an octet, at once where it is one of the octets of the piece.
+#[inline(always)]
 pub(crate) fn read_octet(cursor: &mut BitCursor<'_>) -> Result<u8, Stop>
+    ensures done { Reads result (λ octet. octet) Octet cursor.old cursor.new }
+    ensures stop { StopsIn result Octet cursor.old }
+{
+    if let Some(octet) = cursor.peek_octet() {
+        cursor.pass_octets(1);
+        return Ok(octet as u8);
+    }
+    read_octet_across(cursor)
+}
+
+/// The same, where its bits are in two octets.
+#[cold]
+#[inline(never)]
+fn read_octet_across(cursor: &mut BitCursor<'_>) -> Result<u8, Stop>
     ensures done { Reads result (λ octet. octet) Octet cursor.old cursor.new }
     ensures stop { StopsIn result Octet cursor.old }
 {

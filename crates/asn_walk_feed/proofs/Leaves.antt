@@ -2,12 +2,16 @@
 use Rattle.std.proofs.Common.{◌≡◌, ◌<◌, ◌+◌, ℕ, List, [], ◌∷◌, ◌++◌, length, drop, length-append, refl, sym, ap, subst, ◌∙◌, append_assoc, arith}
 use Rattle.std.proofs.Math.Seq.{drop-append_seam}
 use Rattle.std.proofs.lemmas.List.{append-nil}
+use Rattle.std.proofs.Math.Nat.{le-mul_of_pos_right}
 use Rattle.asn_rules.specs.Chunks.{Chunk, flat}
 use Rattle.asn_rules.specs.Live.{Fielding}
 use Rattle.asn_rules.specs.Languages.{Spells, Short, Refused, Lawful, Inhabited}
 use Rattle.asn_rules.proofs.Live.Chunks.{FieldsPart}
 use Rattle.asn_rules.proofs.Languages.Then.{live_nothing, live_shorter, one_front}
 use Rattle.asn_rules.proofs.Answer.Answers.{done_stays, refused_stays}
+use Rattle.asn_walk.specs.Coding.{Coding}
+use Rattle.asn_walk.specs.Laws.{Laws}
+use Rattle.asn_walk_feed.specs.Feeding.{FeedLaws}
 
 -- where more units are wanted, so they are of the first of these
 pub front_short : {V : Type 0} {R : Fielding} {L : V → List Chunk → Type 0} (us vs : List ℕ) → Short R L (us ++ vs)
@@ -78,3 +82,11 @@ pub joined_short : {V : Type 0} {R : Fielding} {L : V → List Chunk → Type 0}
     → Short R L (begun ++ front) → rest ≡ [] → Short R L (begun ++ (front ++ rest))
 joined_short {V} {R} {L} begun front rest s e =
     subst (λ (us : List ℕ). Short R L (begun ++ us)) (sym (ap (λ (us : List ℕ). front ++ us) e ∙ append-nil front)) s
+
+-- some bits are some units
+pub some_units : (c : Coding) → Laws c → FeedLaws c → (bs : List ℕ) → c.at_unit bs → (bs ≡ [] → ⊥) → 0 < length (c.to_units bs)
+some_units c laws feeds [] a h = absurd (h refl)
+some_units c laws feeds (b ∷ bs) a h =
+    let n = feeds.rows.count (b ∷ bs) a in
+    let m = le-mul_of_pos_right {m = c.octet_units} (length (b ∷ bs)) laws.some in
+    omega (arith, n, m)

@@ -1,40 +1,67 @@
--- Rows of numbers: how many units their values have, and that fewer units begin one.
-use Rattle.std.proofs.Common.{rules, ◌≡◌, ◌≤◌, ◌<◌, ◌+◌, ◌-◌, ◌*◌, ◌/◌, ◌^◌, ⊎_elim, ℕ, zero, suc, true, false, Bool, List, [], ◌∷◌, ◌++◌, length, length-append, take, drop, replicate, Option, Some, None, refl, sym, ap, ◌∙◌, subst, arith}
-use Rattle.std.proofs.lemmas.Bool.{cases_lt, true≢false}
-use Rattle.std.proofs.lemmas.List.{append-nil, length-replicate, take-append-drop, length-take-le}
-use Rattle.std.proofs.lemmas.Nat.{pow_pos}
-use Rattle.std.proofs.Math.Nat.{mul_assoc, mul_comm, mul-lt-mul_of_pos_right, lt_of_mul-lt-mul_right}
+-- Rows of numbers: how many units their values have, and that units which end within one begin it.
+use Rattle.std.proofs.Common.{◌≡◌, ◌≤◌, ◌<◌, ◌+◌, ◌-◌, ◌*◌, ⊎_elim, ℕ, zero, suc, true, false, Bool, List, [], ◌∷◌, ◌++◌, length, length-append, append_assoc, Option, Some, None, refl, sym, ap, ◌∙◌, subst, arith}
+use Rattle.std.proofs.lemmas.Bool.{true≢false}
+use Rattle.std.proofs.lemmas.List.{append-nil}
+use Rattle.std.proofs.Math.Nat.{mul_comm, mul-lt-mul_of_pos_right, mul-le-mul_right, le_of_mul-le-mul_right}
 use Rattle.asn_values.specs.Datum.{Datum}
 use Rattle.asn_values.specs.Parts.{AreOfProfile}
 use Rattle.asn_values.specs.Profile.{InProfile}
-use Rattle.asn_values.specs.Shape.{Shape, boolean, integer, sequence, Fields, no_fields, field, must, closed}
-use Rattle.asn_values.specs.View.{Part, shape_of, part_of_field, demand_of, fields_of, fields_seen}
-use Rattle.asn_values.specs.declared.types.AsnType.{the_lemmas}
-use Rattle.asn_values.specs.declared.types.AsnType as asn_type
+use Rattle.asn_values.specs.Shape.{Shape, boolean, integer, sequence, Demand, must, Fields, no_fields, field, MoreFields, closed}
+use Rattle.asn_values.specs.View.{shape_of, part_of_field, fields_seen}
 use Rattle.asn_values.specs.declared.types.Field.{Field}
-use Rattle.asn_values.specs.declared.types.Need.TheVariants as need
 use Rattle.asn_values.proofs.Components.{shape_of_part}
 use Rattle.asn_values.proofs.Parts.{components_of_profile}
-use Rattle.asn_values.proofs.Views.{shape_of-Bool}
 use Rattle.asn_bits.specs.Numbers.{bits}
-use Rattle.asn_bits.specs.Sets.{AreBits, AreDigits}
-use Rattle.asn_bits.proofs.Weights.{digits-append, digits-first, digits-second}
 use Rattle.asn_rules.specs.Begun.{AllPlain}
 use Rattle.asn_rules.specs.Chunks.{Chunk, ones, flat}
-use Rattle.asn_rules.specs.Languages.{IsFront, IsLive, Short, Spells, Inhabited, Then}
+use Rattle.asn_rules.specs.Languages.{AllContents, IsFront, IsLive, Short, Spells, Inhabited, Lawful, Then}
 use Rattle.asn_rules.specs.Listed.{Spelt, Listed, bitmap_length}
 use Rattle.asn_rules.specs.Live.{Fielding}
-use Rattle.asn_rules.proofs.Components.Listed.{listed_inhabited}
+use Rattle.asn_rules.proofs.Answer.Answers.{done_stays}
+use Rattle.asn_rules.proofs.Components.Listed.{listed_inhabited, spelt_inhabited, spelt_lawful}
 use Rattle.asn_rules.proofs.Languages.Parts.{front_ones}
-use Rattle.asn_rules.proofs.Live.Chunks.{front_longer, ones-append}
+use Rattle.asn_rules.proofs.Languages.Then.{live_shorter, one_front}
+use Rattle.asn_rules.proofs.Live.Chunks.{FieldsPart, front_longer, ones-append}
 use Rattle.asn_rules.proofs.Live.Flat.{flat-ones}
 use Rattle.asn_walk.specs.Coding.{Coding, PreambleOf, AddedOf, sequence_told}
-use Rattle.asn_walk.specs.Laws.{Laws}
+use Rattle.asn_walk.specs.Laws.{Laws, IsSimple}
+use Rattle.asn_walk.proofs.Parts.{fields_part_of}
 use Rattle.asn_walk_feed.proofs.Cells.{sum_mul}
 use Rattle.asn_walk_feed.specs.Feeding.{FeedLaws, IsBrief, ExtendsBy}
-use Rattle.asn_walk_feed.specs.Small.{AreWords, IsRow, IsSmall, AreUnits}
+use Rattle.asn_walk_feed.specs.Small.{HasUnits, IsNarrow, AreNarrow, IsSmall, EndIn}
 
--- ---- fronts of plain units
+-- ---- lists
+
+no_length : {X : Type 0} (xs : List X) → length xs ≡ 0 → xs ≡ []
+no_length [] e = refl
+no_length (x ∷ xs) e = absurd (omega (arith, e))
+
+-- of two fronts of a list, what the longer has after the other
+pub record Longer (us more xs : List ℕ) : Type 0 where
+  pub next : ℕ
+  pub rest : List ℕ
+  pub is : xs ≡ us ++ next ∷ rest
+
+pub longer : (us more xs vs : List ℕ) → us ++ more ≡ xs ++ vs → length vs < length more → Longer us more xs
+longer us more [] vs e l = absurd (omega (arith, ap length e, length-append us more, l))
+longer [] more (x ∷ xs) vs e l = record { next = x; rest = xs; is = refl }
+longer (u ∷ us) more (x ∷ xs) vs e l =
+    let p = longer us more xs vs (cc e) l in
+    record { next = p.next; rest = p.rest; is = (let h : x ≡ u = cc e in cc (h, p.is)) }
+
+pub record Further (us more xs vs : List ℕ) : Type 0 where
+  pub rest : List ℕ
+  pub is : us ≡ xs ++ rest
+  pub behind : vs ≡ rest ++ more
+
+pub further : (us more xs vs : List ℕ) → us ++ more ≡ xs ++ vs → length more ≤ length vs → Further us more xs vs
+further us more [] vs e l = record { rest = us; is = refl; behind = sym e }
+further [] more (x ∷ xs) vs e l = absurd (omega (arith, ap length e, length-append (x ∷ xs) vs, l))
+further (u ∷ us) more (x ∷ xs) vs e l =
+    let p = further us more xs vs (cc e) l in
+    record { rest = p.rest; is = (let h : u ≡ x = cc e in cc (h, p.is)); behind = p.behind }
+
+-- ---- plain units
 
 front_self : (R : Fielding) (us zs : List ℕ) → IsFront R (ones (us ++ zs)) us
 front_self R [] zs = tt
@@ -44,152 +71,199 @@ front_on : (R : Fielding) (ts : List ℕ) (cs : List Chunk) (us : List ℕ) → 
 front_on R [] cs us h = h
 front_on R (t ∷ ts) cs us h = (refl, front_on R ts cs us h)
 
-no_length : {X : Type 0} (xs : List X) → length xs ≡ 0 → xs ≡ []
-no_length [] e = refl
-no_length (x ∷ xs) e = absurd (omega (arith, e))
+contents_of : (R : Fielding) (us : List ℕ) → AllContents R (ones us)
+contents_of R [] = tt
+contents_of R (u ∷ us) = contents_of R us
 
-zeros_are : (base k : ℕ) → 0 < base → AreDigits base (replicate k 0)
-zeros_are base zero h = tt
-zeros_are base (suc k) h = (h, zeros_are base k h)
+-- where all spellings are plain units, and these with one unit more are in front of one, more are wanted of them
+more_wanted : {V : Type 0} {R : Fielding} {L : V → List Chunk → Type 0} (us : List ℕ) (t : ℕ) → FieldsPart R → Lawful L → AllPlain L
+    → IsLive R L (us ++ t ∷ []) → Short R L us
+more_wanted {V} {R} {L} us t ok law plain h = record { live = live_shorter us (t ∷ []) h; none = none }
+  where
+    none : (v : V) (r : List ℕ) → Spells R L v us r → ⊥
+    none v r x =
+        let p = plain.plain h.value h.chunks h.spelt in
+        let f = front_ones R p.0 (us ++ t ∷ []) (subst (λ (l : List Chunk). IsFront R l (us ++ t ∷ [])) p.1 h.front) in
+        let whole : (us ++ t ∷ []) ++ f.0 ≡ flat R.spelled h.chunks ++ [] =
+        sym f.1 ∙ sym (flat-ones R.spelled p.0) ∙ ap (flat R.spelled) (sym p.1) ∙ sym (append-nil (flat R.spelled h.chunks)) in
+        let all : Spells R L h.value ((us ++ t ∷ []) ++ f.0) [] =
+        record { chunks = h.chunks; spelt = h.spelt; contents = subst (AllContents R) (sym p.1) (contents_of R p.0); split = whole } in
+        let o = one_front ok law all (done_stays f.0 (done_stays (t ∷ []) x)) in
+        absurd (omega (arith, ap length o.1, length-append (r ++ t ∷ []) f.0, length-append r (t ∷ [])))
 
 -- all units of a piece are added to those of a part, where they are few
+pub none_left : (c : Coding) (b b' us : List ℕ) (n : ℕ) (x : ExtendsBy c b b' us n) → length b' ≤ 120 → x.rest ≡ []
+none_left c b b' us n x few = ⊎_elim (λ e. e) (λ m. absurd (omega (arith, few, m))) x.full
+
 pub all_joined : (c : Coding) (b b' us : List ℕ) (n : ℕ) → ExtendsBy c b b' us n → length b' ≤ 120 → c.to_units b' ≡ c.to_units b ++ c.to_units us
-all_joined c b b' us n x few = x.joined ∙ ap (λ (l : List ℕ). c.to_units b ++ l) (sym (x.from ∙ ap (λ (l : List ℕ). x.front ++ l) none ∙ append-nil x.front))
-  where
-    none : x.rest ≡ []
-    none = ⊎_elim (λ e. e) (λ m. absurd (omega (arith, few, m))) x.full
+all_joined c b b' us n x few = x.joined ∙ ap (λ (l : List ℕ). c.to_units b ++ l) (sym (x.from ∙ ap (λ (l : List ℕ). x.front ++ l) (none_left c b b' us n x few) ∙ append-nil x.front))
 
--- a BOOLEAN alone
-pub truth_row : (fs : List Field) (f : Field) (rest : List Field) → fs ≡ f ∷ rest → length rest ≡ 0 → f.ty ≡ asn_type.Bool → f.need ≡ need.Must → AreWords 1 (fields_seen fs)
-truth_row fs f [] e z t n = rw e (go (part_of_field f) (shape_of_part f ∙ ap shape_of t ∙ shape_of-Bool) (demand ∙ ap demand_of n))
-  where
-    demand : (part_of_field f).demand ≡ demand_of f.need
-    demand = search (rules, the_lemmas)
+-- ---- types
 
-    go : (p : Part) → p.shape ≡ boolean → p.demand ≡ must → AreWords 1 (fields_of (p ∷ []))
-    go p s d = rw (s, d) refl
-truth_row fs f (x ∷ rest) e z t n = absurd (omega (arith, z))
+-- those of few units are simple
+narrow_simple : (n : ℕ) (t : Shape) → IsNarrow n t → IsSimple t
+narrow_simple n boolean h = tt
+narrow_simple n (integer r) h = tt
+narrow_simple n _ h = absurd h
 
--- the chunks are plain units, as many as b bits have or up to 7 more
-pub record Sized (octet b : ℕ) (cs : List Chunk) : Type 0 where
-  pub units : List ℕ
-  pub same : cs ≡ ones units
-  pub least : b * octet ≤ 8 * length units
-  pub most : 8 * length units ≤ (b + 7) * octet
+-- a component of a row, and those after it
+pub record FirstOf (room : ℕ) (d : Demand) (t : Shape) (fs : Fields) : Type 0 where
+  pub octets : ℕ
+  pub demand : d ≡ must
+  pub narrow : IsNarrow octets t
+  pub simple : IsSimple t
+  pub good : InProfile t
+  pub rest : AreNarrow (room - octets) fs
+  pub rest_good : AreOfProfile fs
 
--- what n octets and further bits are
-apart : (o n rest : ℕ) → (8 * n + rest) * o ≡ 8 * (o * n) + rest * o
-apart o n rest =
-    let p = sum_mul (8 * n) rest o in
-    let q = mul_assoc 8 n o in
-    let r : n * o ≡ o * n = mul_comm n o in
-    p ∙ ap (λ (x : ℕ). x + rest * o) (q ∙ ap (λ (x : ℕ). 8 * x) r)
+pub first_of : (room : ℕ) (name : List ℕ) (d : Demand) (t : Shape) (fs : Fields) → AreNarrow room (field name d t fs) → AreOfProfile (field name d t fs) → FirstOf room d t fs
+first_of room name must t fs h good =
+    record { octets = h.0; demand = refl; narrow = h.2; simple = narrow_simple h.0 t h.2; good = good.0; rest = h.3; rest_good = good.2 }
+first_of room name _ t fs h good = absurd h
 
-words_more : (o n rest l m : ℕ) → l ≡ o * n → rest * o ≤ 8 * m → (8 * n + rest) * o ≤ 8 * (l + m)
-words_more o n rest l m e h = (let p = apart o n rest in omega (arith, p, e, h))
+-- the same of the components as the program has them
+pub first_field : (room : ℕ) (fs : List Field) (f : Field) (rest : List Field) → fs ≡ f ∷ rest → AreNarrow room (fields_seen fs) → AreOfProfile (fields_seen fs)
+    → FirstOf room (part_of_field f).demand (shape_of f.ty) (fields_seen rest)
+first_field room fs f rest e h good =
+    let p = part_of_field f in
+    let x = first_of room p.name p.demand p.shape (fields_seen rest) (subst (λ (l : List Field). AreNarrow room (fields_seen l)) e h) (subst (λ (l : List Field). AreOfProfile (fields_seen l)) e good) in
+    subst (λ (t : Shape). FirstOf room p.demand t (fields_seen rest)) (shape_of_part f) x
 
-words_most : (o n rest l m : ℕ) → l ≡ o * n → 8 * m ≤ (rest + 7) * o → 8 * (l + m) ≤ (8 * n + rest + 7) * o
-words_most o n rest l m e h =
-    let p = apart o n (rest + 7) in
-    let q : (8 * n + rest + 7) * o ≡ (8 * n + (rest + 7)) * o = ap (λ (x : ℕ). x * o) (omega arith) in
-    omega (arith, p, q, e, h)
+-- the components of a SEQUENCE that is a row
+pub row_root : (root : Fields) (more : MoreFields) → IsSmall (sequence root more) → (more ≡ closed) × AreNarrow 15 root
+row_root root closed h = (refl, h)
+row_root root _ h = absurd h
 
-words_left : (o n rest l m : ℕ) → l ≡ o * n → 8 * (l + m) < (8 * n + rest) * o → 8 * m < rest * o
-words_left o n rest l m e h = (let p = apart o n rest in omega (arith, p, e, h))
+-- a list that has some
+some_unit : {P : Type 0} (us : List ℕ) → 1 ≤ length us → ((u : ℕ) (rest : List ℕ) → us ≡ u ∷ rest → P) → P
+some_unit [] l f = absurd (omega (arith, l))
+some_unit (u ∷ us) l f = f u us refl
+
+-- what n octets and those after them have
+apart : (o n room : ℕ) → n ≤ room → o * n + o * (room - n) ≡ o * room
+apart o n room l =
+    let s : n + (room - n) ≡ room = omega (arith, l) in
+    let d : (n + (room - n)) * o ≡ n * o + (room - n) * o = sum_mul n (room - n) o in
+    omega (arith, d, ap (λ (k : ℕ). k * o) s, mul_comm o n, mul_comm o (room - n), mul_comm o room)
 
 module _ (c : Coding) (laws : Laws c) (feeds : FeedLaws c) where
   abbrev R : Fielding
   R = c.ruling.fielding
 
-  abbrev o : ℕ
-  o = c.octet_units
-
-  some_units : 0 < 2 ^ (8 / c.octet_units)
-  some_units = pow_pos (8 / c.octet_units)
-
   -- ---- the components
 
-  no_bits : (b : ℕ) (root : Fields) → AreWords b root → bitmap_length root ≡ 0
-  no_bits b no_fields h = refl
-  no_bits b (field name must boolean no_fields) h = refl
-  no_bits b (field name must (integer r) fs) h = no_bits h.1 fs h.4
-  no_bits b _ h = absurd h
+  no_bits : (room : ℕ) (root : Fields) → AreNarrow room root → bitmap_length root ≡ 0
+  no_bits room no_fields h = refl
+  no_bits room (field name must t fs) h = no_bits (room - h.0) fs h.3
+  no_bits room _ h = absurd h
 
-  sizes : (b : ℕ) (root : Fields) → AreWords b root → AreOfProfile root → (es : List (Option Datum)) (cs : List Chunk) → Listed c.code root [] es cs → Sized c.octet_units b cs
-  sizes b no_fields h good es cs s = record { units = []; same = s.empty; least = rw h (omega arith); most = omega arith }
-  sizes b (field name must boolean no_fields) h good es cs s =
+  -- they are plain units, and few
+  sizes : (room : ℕ) (root : Fields) → AreNarrow room root → AreOfProfile root → (es : List (Option Datum)) (cs : List Chunk) → Listed c.code root [] es cs → HasUnits 0 (c.octet_units * room) cs
+  sizes room no_fields h good es cs s = record { units = []; same = s.empty; least = omega arith; most = omega arith }
+  sizes room (field name must t fs) h good es cs s =
       let w = s.spelt in
-      let x = feeds.rows.truth _ w.first w.spelt.spelt in
-      let all : cs ≡ w.first = w.whole ∙ ap (λ (l : List Chunk). w.first ++ l) w.follows.empty ∙ append-nil w.first in
-      record { units = x.units; same = all ∙ x.same; least = rw h (omega (arith, x.least, laws.few)); most = rw h (omega (arith, x.most)) }
-  sizes b (field name must (integer r) fs) h good es cs s =
-      let w = s.spelt in
-      let x = feeds.rows.word_size h.0 r h.2 good.0 _ w.first w.spelt.spelt in
-      let y = sizes h.1 fs h.4 good.2 _ w.second w.follows in
-      let l : length x.units ≡ c.octet_units * h.0 = omega (arith, x.least, x.most) in
+      let x = feeds.rows.narrow h.0 t h.2 good.0 _ w.first w.spelt.spelt in
+      let y = sizes (room - h.0) fs h.3 good.2 _ w.second w.follows in
       let both : length (x.units ++ y.units) ≡ length x.units + length y.units = length-append x.units y.units in
+      let all : c.octet_units * h.0 + c.octet_units * (room - h.0) ≡ c.octet_units * room = apart c.octet_units h.0 room h.1 in
       record {
         units = x.units ++ y.units;
         same = w.whole ∙ ap (λ (a : List Chunk). a ++ w.second) x.same ∙ ap (λ (a : List Chunk). ones x.units ++ a) y.same ∙ sym (ones-append x.units y.units);
-        least = rw (h.3, both) (words_more c.octet_units h.0 h.1 (length x.units) (length y.units) l y.least);
-        most = rw (h.3, both) (words_most c.octet_units h.0 h.1 (length x.units) (length y.units) l y.most);
+        least = omega arith;
+        most = omega (arith, both, all, x.most, y.most);
       }
-  sizes b _ h good es cs s = absurd h
+  sizes room _ h good es cs s = absurd h
 
-  -- fewer units begin them
-  lives : (b : ℕ) (root : Fields) → AreWords b root → AreOfProfile root → (us : List ℕ) → AreUnits c us → 8 * length us < b * c.octet_units → IsLive R (Listed c.code root []) us
-  lives b no_fields h good us d l = (let k : 8 * length us < 0 * c.octet_units = rw h at l in absurd (omega (arith, k)))
-  lives b (field name must boolean no_fields) h good us d l =
-      let i : Inhabited (Listed c.code (field name must boolean no_fields) []) = listed_inhabited c.code (field name must boolean no_fields) [] good refl in
-      let k : 8 * length us < 1 * c.octet_units = rw h at l in
-      let e : us ≡ [] = no_length us (omega (arith, k, laws.few)) in
-      record { value = i.value; chunks = i.chunks; spelt = i.spelt; front = rw e tt }
-  lives b (field name must (integer r) fs) h good us d l =
-      ⊎_elim begun (λ k. whole k (λ v e m. lives h.1 fs h.4 good.2 v e m)) (cases_lt (length us) (c.octet_units * h.0))
-    where
-      after : Inhabited (Listed c.code fs [])
-      after = listed_inhabited c.code fs [] good.2 (sym (no_bits h.1 fs h.4))
+  -- units in front of those after the first, after a value of it
+  next_lives : (name : List ℕ) (t : Shape) (fs : Fields) (v : Datum) (xs us : List ℕ) → Spelt c.code None t v (ones xs) → IsLive R (Listed c.code fs []) us
+      → IsLive R (Listed c.code (field name must t fs) []) (xs ++ us)
+  next_lives name t fs v xs us s x = record {
+    value = Some v ∷ x.value;
+    chunks = ones xs ++ x.chunks;
+    spelt = record {
+      source = (Some v, x.value);
+      spelt = record { first = ones xs; second = x.chunks; spelt = record { source = v; spelt = s; seen = refl }; follows = x.spelt; whole = refl };
+      seen = refl;
+    };
+    front = front_on R xs x.chunks us x.front;
+  }
 
-      -- within the first number
-      begun : length us < c.octet_units * h.0 → IsLive R (Listed c.code (field name must (integer r) fs) []) us
-      begun k =
-          let zs = replicate (c.octet_units * h.0 - length us) 0 in
-          let m : length (us ++ zs) ≡ c.octet_units * h.0 = length-append us zs ∙ ap (λ (x : ℕ). length us + x) (length-replicate (c.octet_units * h.0 - length us) 0) ∙ omega (arith, k) in
-          let w = feeds.rows.word h.0 r h.2 good.0 (us ++ zs) (digits-append _ us zs d (zeros_are _ _ some_units)) m in
-          record {
-            value = Some w.0 ∷ after.value;
-            chunks = ones (us ++ zs) ++ after.chunks;
-            spelt = record {
-              source = (Some w.0, after.value);
-              spelt = record { first = ones (us ++ zs); second = after.chunks; spelt = record { source = w.0; spelt = w.1; seen = refl }; follows = after.spelt; whole = refl };
-              seen = refl;
-            };
-            front = front_longer R (ones (us ++ zs)) after.chunks us (front_self R us zs);
-          }
+  -- units in front of a value of the first
+  first_lives : (name : List ℕ) (t : Shape) (fs : Fields) (v : Datum) (us rest : List ℕ) → Spelt c.code None t v (ones (us ++ rest)) → Inhabited (Listed c.code fs [])
+      → IsLive R (Listed c.code (field name must t fs) []) us
+  first_lives name t fs v us rest s i = record {
+    value = Some v ∷ i.value;
+    chunks = ones (us ++ rest) ++ i.chunks;
+    spelt = record {
+      source = (Some v, i.value);
+      spelt = record { first = ones (us ++ rest); second = i.chunks; spelt = record { source = v; spelt = s; seen = refl }; follows = i.spelt; whole = refl };
+      seen = refl;
+    };
+    front = front_longer R (ones (us ++ rest)) i.chunks us (front_self R us rest);
+  }
 
-      -- after it
-      whole : c.octet_units * h.0 ≤ length us → ((v : List ℕ) → AreUnits c v → 8 * length v < h.1 * c.octet_units → IsLive R (Listed c.code fs []) v) → IsLive R (Listed c.code (field name must (integer r) fs) []) us
-      whole k again =
-          let t = take (c.octet_units * h.0) us in
-          let v = drop (c.octet_units * h.0) us in
-          let e : t ++ v ≡ us = take-append-drop (c.octet_units * h.0) us in
-          let m : length t ≡ c.octet_units * h.0 = length-take-le (c.octet_units * h.0) us k in
-          let sum : length t + length v ≡ length us = sym (length-append t v) ∙ ap length e in
-          let all : AreUnits c (t ++ v) = rw e d in
-          let w = feeds.rows.word h.0 r h.2 good.0 t (digits-first _ t v all) m in
-          let less : 8 * (length t + length v) < (8 * h.0 + h.1) * c.octet_units = rw (sum, sym h.3) l in
-          let x = again v (digits-second _ t v all) (words_left c.octet_units h.0 h.1 (length t) (length v) m less) in
-          record {
-            value = Some w.0 ∷ x.value;
-            chunks = ones t ++ x.chunks;
-            spelt = record {
-              source = (Some w.0, x.value);
-              spelt = record { first = ones t; second = x.chunks; spelt = record { source = w.0; spelt = w.1; seen = refl }; follows = x.spelt; whole = refl };
-              seen = refl;
-            };
-            front = subst (λ (y : List ℕ). IsFront R (ones t ++ x.chunks) y) e (front_on R t x.chunks v x.front);
-          }
-  lives b _ h good us d l = absurd h
+  -- the units of a value that was passed
+  record Passed (t : Shape) (v : Datum) (old new : List ℕ) : Type 0 where
+    units : List ℕ
+    spelt : Spelt c.code None t v (ones units)
+    split : old ≡ units ++ new
+
+  passed : (n : ℕ) (t : Shape) (v : Datum) (old new : List ℕ) → IsNarrow n t → InProfile t → Spells R (Spelt c.code None t) v old new → Passed t v old new
+  passed n t v old new narrow good x =
+      let u = feeds.rows.narrow n t narrow good v x.chunks x.spelt in
+      record {
+        units = u.units;
+        spelt = subst (Spelt c.code None t v) u.same x.spelt;
+        split = x.split ∙ ap (λ (l : List ℕ). l ++ new) (ap (flat R.spelled) u.same ∙ flat-ones R.spelled u.units);
+      }
+
+  module _ (room : ℕ) (name : List ℕ) (d : Demand) (t : Shape) (fs : Fields) (first : FirstOf room d t fs) (filling : ℕ) where
+    after : Inhabited (Listed c.code fs [])
+    after = listed_inhabited c.code fs [] first.rest_good (sym (no_bits (room - first.octets) fs first.rest))
+
+    -- no unit stands before what fills up
+    pub none_ends : (old : List ℕ) → c.at_unit old → length old ≡ filling → EndIn c (field name d t fs) filling (c.to_units old)
+    none_ends old a e us more split l =
+        let i = spelt_inhabited c.code t first.good in
+        let u = feeds.rows.narrow first.octets t first.narrow first.good i.value i.chunks i.spelt in
+        let n : us ≡ [] = no_length us (omega (arith, feeds.rows.count old a, ap (λ (k : ℕ). k * c.octet_units) e, l, ap length split, length-append us more)) in
+        some_unit u.units u.least (λ k rest same.
+        (k, rw (first.demand, n) (first_lives name t fs i.value (k ∷ []) rest (subst (Spelt c.code None t i.value) (u.same ∙ ap ones same) i.spelt) after)))
+
+    -- the value that was passed has some of what fills up
+    pub first_ends : (v : Datum) (old new : List ℕ) → Spells R (Spelt c.code None t) v (c.to_units old) (c.to_units new) → c.at_unit new → length new < filling
+        → EndIn c (field name d t fs) filling (c.to_units old)
+    first_ends v old new x a less us more split l =
+        let p = passed first.octets t v (c.to_units old) (c.to_units new) first.narrow first.good x in
+        let k = mul-lt-mul_of_pos_right {k = c.octet_units} less laws.some in
+        let o = longer us more p.units (c.to_units new) (sym split ∙ p.split) (omega (arith, feeds.rows.count new a, k, l)) in
+        let same : p.units ≡ (us ++ o.next ∷ []) ++ o.rest = o.is ∙ sym (append_assoc us (o.next ∷ []) o.rest) in
+        (o.next, rw first.demand (first_lives name t fs v (us ++ o.next ∷ []) o.rest (subst (λ (l : List ℕ). Spelt c.code None t v (ones l)) same p.spelt) after))
+
+    -- or the units end in those after it
+    pub rest_ends : (v : Datum) (old new : List ℕ) → Spells R (Spelt c.code None t) v (c.to_units old) (c.to_units new) → c.at_unit new → filling ≤ length new
+        → EndIn c fs filling (c.to_units new) → EndIn c (field name d t fs) filling (c.to_units old)
+    rest_ends v old new x a many h us more split l =
+        let p = passed first.octets t v (c.to_units old) (c.to_units new) first.narrow first.good x in
+        let k = mul-le-mul_right c.octet_units many in
+        let o = further us more p.units (c.to_units new) (sym split ∙ p.split) (omega (arith, feeds.rows.count new a, k, l)) in
+        let i = h o.rest more o.behind l in
+        let same : p.units ++ (o.rest ++ i.0 ∷ []) ≡ us ++ i.0 ∷ [] = sym (append_assoc p.units o.rest (i.0 ∷ [])) ∙ ap (λ (l : List ℕ). l ++ i.0 ∷ []) (sym o.is) in
+        (i.0, rw first.demand (subst (IsLive R (Listed c.code (field name must t fs) [])) same (next_lives name t fs v p.units (o.rest ++ i.0 ∷ []) p.spelt i.1)))
+
+  -- what is said of the first component and those after it is said of all that the program has
+  pub all_fields : (fs : List Field) (f : Field) (rest : List Field) (filling : ℕ) (us : List ℕ) → fs ≡ f ∷ rest
+      → EndIn c (field (part_of_field f).name (part_of_field f).demand (shape_of f.ty) (fields_seen rest)) filling us → EndIn c (fields_seen fs) filling us
+  all_fields fs f rest filling us e h =
+      let p = part_of_field f in
+      let a : EndIn c (field p.name p.demand p.shape (fields_seen rest)) filling us = subst (λ (t : Shape). EndIn c (field p.name p.demand t (fields_seen rest)) filling us) (sym (shape_of_part f)) h in
+      subst (λ (l : List Field). EndIn c (fields_seen l) filling us) (sym e) a
+
+  -- a reader has no more bits left than before
+  pub none_added : (t : Shape) (v : Datum) (old new : List ℕ) → Spells R (Spelt c.code None t) v (c.to_units old) (c.to_units new) → c.at_unit old → c.at_unit new → length new ≤ length old
+  none_added t v old new x a b =
+      let l = ap length x.split ∙ length-append (flat R.spelled x.chunks) (c.to_units new) in
+      le_of_mul-le-mul_right {k = c.octet_units} (omega (arith, l, feeds.rows.count old a, feeds.rows.count new b)) laws.some
 
   -- ---- the SEQUENCE
 
@@ -222,44 +296,34 @@ module _ (c : Coding) (laws : Laws c) (feeds : FeedLaws c) where
   }
   with_preamble root (suc n) es cs e s = absurd (omega (arith, e))
 
-  row_sized : (b : ℕ) (root : Fields) → AreWords b root → InProfile (sequence root closed) → (v : Datum) (cs : List Chunk) → Spelt c.code None (sequence root closed) v cs → Sized c.octet_units b cs
-  row_sized b root words good v cs s =
+  row_sized : (root : Fields) → AreNarrow 15 root → InProfile (sequence root closed) → (v : Datum) (cs : List Chunk) → Spelt c.code None (sequence root closed) v cs → HasUnits 0 (c.octet_units * 15) cs
+  row_sized root narrow good v cs s =
       let a = ((laws.sequences root closed good).from v cs s).spelt in
       let p = ((laws.sequences root closed good).from v cs s).source.0 in
       let x = a.follows in
-      let before : a.first ≡ [] = no_preamble (bitmap_length root) p a.first (no_bits b root words) a.spelt in
+      let before : a.first ≡ [] = no_preamble (bitmap_length root) p a.first (no_bits 15 root narrow) a.spelt in
       let after : x.second ≡ [] = no_added p.0 _ x.second a.spelt.fits.1 x.follows in
-      let y = sizes b root words (components_of_profile root closed good) _ x.first (no_listed root (bitmap_length root) p.1 _ x.first (no_bits b root words) x.spelt) in
+      let y = sizes 15 root narrow (components_of_profile root closed good) _ x.first (no_listed root (bitmap_length root) p.1 _ x.first (no_bits 15 root narrow) x.spelt) in
       let all : cs ≡ x.first = a.whole ∙ ap (λ (l : List Chunk). l ++ a.second) before ∙ x.whole ∙ ap (λ (l : List Chunk). x.first ++ l) after ∙ append-nil x.first in
       record { units = y.units; same = all ∙ y.same; least = y.least; most = y.most }
 
-  row_lives : (b : ℕ) (root : Fields) → AreWords b root → InProfile (sequence root closed) → (us : List ℕ) → AreUnits c us → 8 * length us < b * c.octet_units → IsLive R (Spelt c.code None (sequence root closed)) us
-  row_lives b root words good us d l =
-      let x = lives b root words (components_of_profile root closed good) us d l in
-      record {
-        value = sequence_told ((false, 0), (x.value, []));
-        chunks = x.chunks;
-        spelt = (laws.sequences root closed good).to _ x.chunks (record { source = ((false, 0), (x.value, [])); spelt = with_preamble root (bitmap_length root) x.value x.chunks (no_bits b root words) x.spelt; seen = refl });
-        front = x.front;
-      }
+  row_lives : (root : Fields) → AreNarrow 15 root → InProfile (sequence root closed) → (us : List ℕ) → IsLive R (Listed c.code root []) us → IsLive R (Spelt c.code None (sequence root closed)) us
+  row_lives root narrow good us x = record {
+    value = sequence_told ((false, 0), (x.value, []));
+    chunks = x.chunks;
+    spelt = (laws.sequences root closed good).to _ x.chunks (record { source = ((false, 0), (x.value, [])); spelt = with_preamble root (bitmap_length root) x.value x.chunks (no_bits 15 root narrow) x.spelt; seen = refl });
+    front = x.front;
+  }
 
   -- ---- rows
 
-  sized : (b : ℕ) (t : Shape) → IsRow b t → InProfile t → (v : Datum) (cs : List Chunk) → Spelt c.code None t v cs → Sized c.octet_units b cs
-  sized b (sequence root closed) h good v cs s = row_sized b root h.0 good v cs s
-  sized b _ h good v cs s = absurd h
-
-  pub few_bits : (b : ℕ) (t : Shape) → IsRow b t → b ≤ 113
-  few_bits b (sequence root closed) h = h.1
-  few_bits b _ h = absurd h
-
-  live_row : (b : ℕ) (t : Shape) → IsRow b t → InProfile t → (us : List ℕ) → AreUnits c us → 8 * length us < b * c.octet_units → IsLive R (Spelt c.code None t) us
-  live_row b (sequence root closed) h good us d l = row_lives b root h.0 good us d l
-  live_row b _ h good us d l = absurd h
+  sized : (t : Shape) → IsSmall t → InProfile t → (v : Datum) (cs : List Chunk) → Spelt c.code None t v cs → HasUnits 0 (c.octet_units * 15) cs
+  sized (sequence root closed) h good v cs s = row_sized root h good v cs s
+  sized _ h good v cs s = absurd h
 
   -- they are plain units
   pub small_plain : (t : Shape) → InProfile t → IsSmall t → AllPlain (Spelt c.code None t)
-  small_plain t good h = record { plain = λ v cs s. (let x = sized h.0 t h.1 good v cs s in (x.units, x.same)) }
+  small_plain t good h = record { plain = λ v cs s. (let x = sized t h good v cs s in (x.units, x.same)) }
 
   -- of few bits
   pub small_brief : (t : Shape) → InProfile t → IsSmall t → IsBrief c (Spelt c.code None t)
@@ -268,26 +332,18 @@ module _ (c : Coding) (laws : Laws c) (feeds : FeedLaws c) where
       go : (bs : List ℕ) → c.at_unit bs → Short R (Spelt c.code None t) (c.to_units bs) → length bs ≤ 120
       go bs a s =
           let us = c.to_units bs in
-          let x = sized h.0 t h.1 good s.live.value s.live.chunks s.live.spelt in
+          let x = sized t h good s.live.value s.live.chunks s.live.spelt in
           let f = front_ones R x.units us (subst (λ (l : List Chunk). IsFront R l us) x.same s.live.front) in
           let l : length x.units ≡ length us + length f.0 = ap length f.1 ∙ length-append us f.0 in
-          let n = feeds.rows.count bs a in
-          let most : length bs * c.octet_units ≤ (h.0 + 7) * c.octet_units = omega (arith, n, l, x.most) in
-          let few = few_bits h.0 t h.1 in
-          let less : length bs * c.octet_units < (h.0 + 8) * c.octet_units = (let p = mul-lt-mul_of_pos_right {m = h.0 + 7} {n = h.0 + 8} (omega arith) laws.some in omega (arith, most, p)) in
-          let k : length bs < h.0 + 8 = lt_of_mul-lt-mul_right c.octet_units less in
-          omega (arith, k, few)
+          let most : length bs * c.octet_units ≤ 120 * c.octet_units = omega (arith, feeds.rows.count bs a, l, x.most) in
+          le_of_mul-le-mul_right most laws.some
 
-  -- and fewer begin one
-  pub row_short : (b : ℕ) (t : Shape) → IsRow b t → InProfile t → (bs : List ℕ) → AreBits bs → c.at_unit bs → length bs < b → Short R (Spelt c.code None t) (c.to_units bs)
-  row_short b t h good bs d a l = record { live = live_row b t h good (c.to_units bs) (feeds.rows.units bs d a) less; none = none }
-    where
-      less : 8 * length (c.to_units bs) < b * c.octet_units
-      less = (let n = feeds.rows.count bs a in let p = mul-lt-mul_of_pos_right {k = c.octet_units} l laws.some in omega (arith, n, p))
-
-      none : (v : Datum) (r : List ℕ) → Spells R (Spelt c.code None t) v (c.to_units bs) r → ⊥
-      none v r x =
-          let y = sized b t h good v x.chunks x.spelt in
-          let e : flat R.spelled x.chunks ≡ y.units = ap (flat R.spelled) y.same ∙ flat-ones R.spelled y.units in
-          let k : length (c.to_units bs) ≡ length y.units + length r = ap length x.split ∙ length-append (flat R.spelled x.chunks) r ∙ ap (λ (z : List ℕ). length z + length r) e in
-          absurd (omega (arith, less, k, y.least))
+  -- bits with one unit more begin one
+  pub row_short : (root : Fields) (more : MoreFields) → IsSmall (sequence root more) → InProfile (sequence root more) → (bs rest : List ℕ) → c.at_unit bs → c.at_unit (bs ++ rest)
+      → EndIn c root (length rest) (c.to_units (bs ++ rest)) → Short R (Spelt c.code None (sequence root more)) (c.to_units bs)
+  row_short root closed h good bs rest a b ends =
+      let j = feeds.rows.joined bs rest a b in
+      let x = ends (c.to_units bs) (c.to_units rest) j.1 (sym (feeds.rows.count rest j.0)) in
+      more_wanted (c.to_units bs) x.0 (fields_part_of c laws) (spelt_lawful c.code laws.part None (sequence root closed) good) (small_plain (sequence root closed) good h)
+      (row_lives root h good (c.to_units bs ++ x.0 ∷ []) x.1)
+  row_short root _ h good bs rest a b ends = absurd h

@@ -64,7 +64,24 @@ impl Begun {
 
     /// Adds the bits that the cursor has left to these, as many as there are and have room; the cursor's stay. Gives
     /// how many they are.
+    #[inline(always)]
     pub fn extend(&mut self, units: &BitCursor<'_>) -> u32
+        ensures count { result ≡ min (length units.now) (ROOM - length self.old) }
+        ensures bits { self.new ≡ self.old ++ take result units.now }
+    {
+        if units.octets_left() == 1
+            && units.rest_of_octet() == 0
+            && self.count <= ROOM - 8
+            && let Some(octet) = units.peek_octet()
+        {
+            self.push(8, octet);
+            return 8;
+        }
+        self.extend_by_words(units)
+    }
+
+    /// The same, whatever is left.
+    fn extend_by_words(&mut self, units: &BitCursor<'_>) -> u32
         ensures count { result ≡ min (length units.now) (ROOM - length self.old) }
         ensures bits { self.new ≡ self.old ++ take result units.now }
     {
@@ -95,6 +112,17 @@ impl Begun {
             unreachable!()
         };
         units.pass(count);
+        self.push(count, number);
+    }
+
+    /// Adds the `count` bits of the number.
+    #[inline(always)]
+    fn push(&mut self, count: u32, number: u64)
+        requires few { count ≤ 64 }
+        requires room { length self.old + count ≤ ROOM }
+        requires fits { number < 2 ^ count }
+        ensures { self.new ≡ self.old ++ bits count number }
+    {
         self.number = (self.number << count) + u128::from(number);
         self.count += count;
     }
@@ -105,6 +133,26 @@ impl Begun {
         ensures count { length result ≡ 16 }
     {
         self.number.to_be_bytes()
+    }
+
+    /// Octets that begin with the bits that have come; those after them are zeros.
+    pub(crate) fn filled(&self) -> [u8; 24]
+        ensures bits { (more : List ℕ) × (unpacked result ≡ self.now ++ more) }
+        ensures count { length result ≡ 24 }
+    {
+        let mut octets = [0u8; 24];
+        octets[..16].copy_from_slice(&self.in_front().to_be_bytes());
+        octets
+    }
+
+    /// The number of 128 bits that begins with the bits that have come, and has zeros after them.
+    fn in_front(&self) -> u128
+        ensures { bits ROOM result ≡ self.now ++ bits (ROOM - length self.now) 0 }
+    {
+        if self.count == 0 {
+            return 0;
+        }
+        self.number << (ROOM - self.count)
     }
 
     /// A cursor over the bits that have come, which are the last of these octets.

@@ -20,7 +20,7 @@ use crate::begun::Begun;
 use crate::frame::{Elements, Frame, Frames};
 use crate::leaf::{FeedLeaves, feed_leaf};
 use crate::parts::{ListStart, NextLength};
-use crate::rows::{feed_small, least_bits, row_bits};
+use crate::rows::{feed_small, is_row};
 use crate::units::{Ticks, Units};
 use crate::values::feed;
 use crate::whole::whole_value;
@@ -314,7 +314,7 @@ fn feed_element<R: FeedLeaves>(
     R::keep_feed_laws();
     R::keep_hold_laws();
     if !begun.is_none() {
-        return feed_small::<R>(alloc, ty, least_bits(ty), begun, units, ticks);
+        return feed_small::<R>(alloc, ty, begun, units, ticks);
     }
     if let Some(value) = whole_value::<R>(alloc, ty, frames, units, ticks) {
         return Ok(value);
@@ -322,10 +322,10 @@ fn feed_element<R: FeedLeaves>(
     if is_to_come::<R>(frames, units) {
         return Err(Stop::Short);
     }
-    match row_bits(ty, frames) {
-        Some(least) => feed_small::<R>(alloc, ty, Some(least), begun, units, ticks),
-        None => feed::<R>(alloc, ty, frames, units, ticks),
+    if is_row(ty, frames) {
+        return feed_small::<R>(alloc, ty, begun, units, ticks);
     }
+    feed::<R>(alloc, ty, frames, units, ticks)
 }
 
 /// Whether no node of an element has begun, and the piece has no unit of it.

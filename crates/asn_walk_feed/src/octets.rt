@@ -358,7 +358,7 @@ fn feed_fragment<R: FeedLeaves, K: InFragments<R>>(
     R::keep_feed_laws();
     kind.keep_octet_laws();
     while octets.left > 0 {
-        let before = R::units_left(&units.ahead());
+        let some = !units.is_empty();
         let octet = feed_leaf::<R, Octet<'_, K>>(
             alloc,
             &Octet { kind },
@@ -369,27 +369,17 @@ fn feed_fragment<R: FeedLeaves, K: InFragments<R>>(
         octets.elements.push(octet)?;
         octets.next_part = Begun::none();
         octets.left -= 1;
-        if all_are_taken::<R>(octets.left, before, units) {
+        if all_are_taken(octets.left, some, units) {
             return Err(Stop::Short);
         }
     }
     Ok(())
 }
 
-/// Whether the piece, which had `before` units before the last octet, has none after it, and octets are left to come:
-/// since the last one had a unit, so has the next.
-fn all_are_taken<R: FeedLeaves>(left: usize, before: u128, units: &Units<'_>) -> bool
-    requires { R.rules.at_unit units.now }
-    ensures { IsTrue result → (0 < left) × (0 < before) × (R.rules.to_units units.now ≡ []) }
+/// Whether the piece, of which `some` says whether it had a unit before the last octet, has none after it, and octets are
+/// left to come: since the last one had a unit, so has the next.
+fn all_are_taken(left: usize, some: bool, units: &Units<'_>) -> bool
+    ensures { IsTrue result → (0 < left) × IsTrue some × (units.now ≡ []) }
 {
-    if left == 0 {
-        return false;
-    }
-    if before == 0 {
-        return false;
-    }
-    if R::units_left(&units.ahead()) > 0 {
-        return false;
-    }
-    true
+    left > 0 && some && units.is_empty()
 }

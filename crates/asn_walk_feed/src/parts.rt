@@ -55,7 +55,7 @@ impl<'a, R: FeedLeaves> Leaf<R> for Scalar<'a> {
 
 /// Reads a value of a type that is neither SEQUENCE, SEQUENCE OF nor CHOICE: in one step where the rules have one for it
 /// and its units are there.
-fn read_at_hand<R: FeedLeaves>(
+pub(crate) fn read_at_hand<R: FeedLeaves>(
     alloc: Global,
     ty: &AsnType,
     units: &mut BitCursor<'_>,
@@ -305,6 +305,7 @@ impl<'a, R: FeedLeaves, K: InFragments<R>> Leaf<R> for Octet<'a, K> {
 
     ghost sound = { λ o. ⊤ };
 
+    #[inline(always)]
     fn read(&self, _alloc: Global, units: &mut BitCursor<'_>) -> Result<u8, Stop> {
         self.kind.read_octet(units)
     }

@@ -1,5 +1,5 @@
 //! The units of a piece of a message, each of which is counted as it is taken.
-ghost use Rattle.std.specs.Prelude.{◌≡◌, ◌∷◌, ◌++◌, ◌+◌, ◌-◌, ◌%◌, ◌<◌, ◌≤◌, ◌^◌, [], ℕ, IfNone, IfSome, List, length, min};
+ghost use Rattle.std.specs.Prelude.{◌≡◌, ◌∷◌, ◌++◌, ◌+◌, ◌-◌, ◌%◌, ◌<◌, ◌≤◌, ◌^◌, ◌↔◌, [], ℕ, IfNone, IfSome, IsTrue, List, length, min};
 ghost use Rattle.asn_bits.specs.Numbers.{bits, unpacked};
 ghost use Rattle.asn_walk_feed.specs.Counts.{count_of};
 
@@ -83,6 +83,13 @@ impl<'a> Units<'a> {
         ensures { result ≡ self.now }
     {
         self.cursor.copied()
+    }
+
+    /// Whether no unit is left.
+    pub(crate) fn is_empty(&self) -> bool
+        ensures { IsTrue result ↔ (self.now ≡ []) }
+    {
+        self.cursor.is_empty()
     }
 
     /// The next bit, 0 or 1: the unit of PER. It is taken, with a tick. `None` where no bit is left, and no tick then.

@@ -8,7 +8,7 @@ use Rattle.asn_walk_feed.specs.Feeding.{ExtendsBy, Passes}
 use Rattle.asn_oer.specs.Walk.{oer_coding}
 
 -- the octets of bits that fill octets, and those after them
-packed_append : (us vs : List ℕ) → length us % 8 ≡ 0 → packed (us ++ vs) ≡ packed us ++ packed vs
+pub packed_append : (us vs : List ℕ) → length us % 8 ≡ 0 → packed (us ++ vs) ≡ packed us ++ packed vs
 packed_append (a ∷ b ∷ c ∷ d ∷ e ∷ f ∷ g ∷ h ∷ rest) vs l =
     ap (λ (os : List ℕ). (128 * a + 64 * b + 32 * c + 16 * d + 8 * e + 4 * f + 2 * g + h) ∷ os) (packed_append rest vs (omega (arith, l)))
 packed_append [] vs l = refl

@@ -1764,32 +1764,32 @@ lists::feed_element-returns-then-is_to_come-clause-stop g t c =
     to_come_stops r c.keep_laws.ensures c.keep_feed_laws.ensures g.R.FeedLeaves.fields c.keep_hold_laws.ensures g.R.ReadLeaves.ahead g.R.ReadLeaves.is_between (shape_of c.args.ty.now) c.requires.listed.0 c.requires.listed.1 c.args.begun.now (nodes c.args.frames.now) c.args.units.now (c.is_none.ensures.0 c.if-not-is_none.false) none.0 units
 
 -- it is a row of numbers
-pub lists::feed_element-returns-in-Some-row_bits-clause-inside : goal.lists::feed_element-returns-in-Some-row_bits-clause-inside
-lists::feed_element-returns-in-Some-row_bits-clause-inside g t c =
-    let w = c.feed_small-in-Some-row_bits.ensures in
-    costs_same (w.inside ∙ c.whole_value.ensures.inside) (omega (arith, w.ticked, w.rising, c.whole_value.ensures.ticked, c.whole_value.ensures.rising)) (λ e. none_open g.R.ReadLeaves.rules g.R.FeedLeaves.fields g.R.ReadLeaves.ahead g.R.ReadLeaves.is_between (nodes c.args.frames.now) c.in-Some-row_bits.ensures.1)
+pub lists::feed_element-returns-then-is_row-clause-inside : goal.lists::feed_element-returns-then-is_row-clause-inside
+lists::feed_element-returns-then-is_row-clause-inside g t c =
+    let w = c.feed_small-then-is_row.ensures in
+    costs_same (w.inside ∙ c.whole_value.ensures.inside) (omega (arith, w.ticked, w.rising, c.whole_value.ensures.ticked, c.whole_value.ensures.rising)) (λ e. none_open g.R.ReadLeaves.rules g.R.FeedLeaves.fields g.R.ReadLeaves.ahead g.R.ReadLeaves.is_between (nodes c.args.frames.now) (c.is_row.ensures.none c.if-is_row.true))
 
 -- it goes through its nodes
-pub lists::feed_element-returns-in-None-clause-done : goal.lists::feed_element-returns-in-None-clause-done
-lists::feed_element-returns-in-None-clause-done g t c =
+pub lists::feed_element-returns-clause-done : goal.lists::feed_element-returns-clause-done
+lists::feed_element-returns-clause-done g t c =
     let r = g.R.ReadLeaves.rules in
     let still = (c.whole_value.ensures.still (ap is_some c.in_default.is)).0 in
     IfOk-weaker c.feed.result _ _ (λ v k. reads_nodes r c.keep_feed_laws.ensures g.R.FeedLeaves.fields g.R.ReadLeaves.ahead g.R.ReadLeaves.is_between (shape_of c.args.ty.now) c.args.begun.now (nodes c.args.frames.now) c.args.units.now (datum_of v) c.feed.new.units (c.is_none.ensures.0 c.if-not-is_none.false) (rw still at k)) c.feed.ensures.done
 
-pub lists::feed_element-returns-in-None-clause-stop : goal.lists::feed_element-returns-in-None-clause-stop
-lists::feed_element-returns-in-None-clause-stop g t c =
+pub lists::feed_element-returns-clause-stop : goal.lists::feed_element-returns-clause-stop
+lists::feed_element-returns-clause-stop g t c =
     let r = g.R.ReadLeaves.rules in
     let still = (c.whole_value.ensures.still (ap is_some c.in_default.is)).0 in
     IfErr-weaker c.feed.result _ _ (λ why k. stops_nodes r c.keep_feed_laws.ensures g.R.FeedLeaves.fields g.R.ReadLeaves.ahead g.R.ReadLeaves.is_between (shape_of c.args.ty.now) c.args.begun.now (nodes c.args.frames.now) c.args.units.now why (c.is_none.ensures.0 c.if-not-is_none.false) (rw still at k)) c.feed.ensures.stop
 
-pub lists::feed_element-returns-in-None-clause-kept : goal.lists::feed_element-returns-in-None-clause-kept
-lists::feed_element-returns-in-None-clause-kept g t c =
+pub lists::feed_element-returns-clause-kept : goal.lists::feed_element-returns-clause-kept
+lists::feed_element-returns-clause-kept g t c =
     let r = g.R.ReadLeaves.rules in
     let still = (c.whole_value.ensures.still (ap is_some c.in_default.is)).0 in
     let e = c.is_none.ensures.0 c.if-not-is_none.false in
     IfErr-weaker c.feed.result _ _ (λ why k. element_kept r c.keep_feed_laws.ensures g.R.FeedLeaves.fields g.R.ReadLeaves.ahead g.R.ReadLeaves.is_between (shape_of c.args.ty.now) c.args.begun.now (nodes c.args.frames.now) c.args.units.now c.args.begun.now (nodes c.feed.new.frames) why e e (λ x z. (let yes = c.is_to_come.ensures.no x (ap r.to_units still ∙ z) in absurd (true≢false (sym yes ∙ c.if-is_to_come.false)))) (rw still at k)) c.feed.ensures.kept
 
-pub lists::feed_element-returns-in-None-clause-inside : goal.lists::feed_element-returns-in-None-clause-inside
-lists::feed_element-returns-in-None-clause-inside g t c =
+pub lists::feed_element-returns-clause-inside : goal.lists::feed_element-returns-clause-inside
+lists::feed_element-returns-clause-inside g t c =
     let still = (c.whole_value.ensures.still (ap is_some c.in_default.is)).0 in
     rw (sym still, sym c.whole_value.ensures.inside) c.feed.ensures.inside

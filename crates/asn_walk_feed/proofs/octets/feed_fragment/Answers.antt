@@ -1,11 +1,12 @@
-use Rattle.std.proofs.Common.{◌≡◌, ◌<◌, ◌-◌, ◌++◌, [], ℕ, List, length, length-append, refl, ap, ◌∙◌, arith}
+use Rattle.std.proofs.Common.{◌≡◌, ◌<◌, ◌-◌, ◌++◌, [], ℕ, length, length-append, refl, sym, ap, ◌∙◌, true, false, arith}
+use Rattle.std.proofs.lemmas.Bool.{true≢false}
 use Rattle.std.proofs.lemmas.Result.{err_from_is_err_and}
 use Rattle.asn_rules.specs.declared.stop.Stop.TheVariants as stop
 use Rattle.asn_rules.specs.Languages.{Short}
 use Rattle.asn_walk.proofs.Parts.{fields_part_of}
 use Rattle.asn_walk_feed.specs.Octets.{OctetsGoOn}
 use Rattle.asn_walk_feed.specs.declared.frame.Elements.{Elements}
-use Rattle.asn_walk_feed.proofs.Leaves.{some_wanted}
+use Rattle.asn_walk_feed.proofs.Leaves.{some_wanted, some_units}
 use Rattle.asn_walk_feed.proofs.OctetsRead.{octet_ahead, octets_wait}
 use Rattle.asn_walk_feed.proofs.octets.feed_fragment.Goals as goal
 
@@ -47,9 +48,12 @@ returns-then-all_are_taken-clause-stop g c =
     let w = c.all_are_taken.ensures c.if-all_are_taken.true in
     let p : Elements g.row.R-Fragments.Denot ℕ = record c.loop-octets.octets { elements = c.push.new.self; next_part = c.none-octets.result; left = c.loop-octets.octets.left - 1 } in
     let k : OctetsGoOn g.R.ReadLeaves.rules coding g.R.ReadLeaves.ahead g.R.ReadLeaves.is_between p all (U c.feed_leaf.new.units) = x.more p c.in_ok-octet.octet (U c.feed_leaf.new.units) (omega (arith, c.loop-octets-test.true)) refl c.none-octets.ensures c.in_ok-push.ensures.items c.in_ok-octet.ensures.done in
-    let fewer : length (U c.feed_leaf.new.units) < length (U c.loop-octets.octets.next_part ++ U c.loop-octets.units) = omega (arith, ap length w.2, length-append (U c.loop-octets.octets.next_part) (U c.loop-octets.units), c.units_left-before.ensures, ap (λ (us : List ℕ). length (U us)) c.ahead.ensures, w.1) in
+    let none : U c.feed_leaf.new.units ≡ [] = ap U w.2 ∙ c.keep_feed_laws.ensures.none in
+    let some : c.loop-octets.units ≡ [] → ⊥ = λ n. (let z : false ≡ true = rw (c.is_empty-some.ensures.1 n) at w.1 in true≢false (sym z)) in
+    let came : 0 < length (U c.loop-octets.units) = some_units g.R.ReadLeaves.rules c.keep_laws.ensures c.keep_feed_laws.ensures c.loop-octets.units c.loop-octets.invariant.2 some in
+    let fewer : length (U c.feed_leaf.new.units) < length (U c.loop-octets.octets.next_part ++ U c.loop-octets.units) = omega (arith, ap length none, length-append (U c.loop-octets.octets.next_part) (U c.loop-octets.units), came) in
     let wanted : Short g.R.ReadLeaves.rules.ruling.fielding coding.octet [] = some_wanted {us = U c.loop-octets.octets.next_part ++ U c.loop-octets.units} {r = U c.feed_leaf.new.units} (fields_part_of g.R.ReadLeaves.rules c.keep_laws.ensures) c.keep_octet_laws.ensures.octet c.keep_octet_laws.ensures.some c.in_ok-octet.ensures.done fewer in
-    octets_wait g.R.ReadLeaves.rules c.keep_laws.ensures c.keep_feed_laws.ensures coding c.keep_octet_laws.ensures g.R.ReadLeaves.ahead g.R.ReadLeaves.is_between p all (U c.feed_leaf.new.units) w.0 k c.none-octets.ensures w.2 wanted
+    octets_wait g.R.ReadLeaves.rules c.keep_laws.ensures c.keep_feed_laws.ensures coding c.keep_octet_laws.ensures g.R.ReadLeaves.ahead g.R.ReadLeaves.is_between p all (U c.feed_leaf.new.units) w.0 k c.none-octets.ensures none wanted
 
 pub returns-then-all_are_taken-clause-kept : goal.returns-then-all_are_taken-clause-kept
 returns-then-all_are_taken-clause-kept g c =

@@ -14,7 +14,8 @@ use asn_rules::internal::{numbers, try_octets};
 pub(crate) fn try_other(left_out: bool, units: &mut BitCursor<'_>) -> bool
     requires at_octet { AtOctet units.old }
     ensures at_octet { AtOctet units.new }
-    ensures done { result ≡ true → ReadsOctets (BooleansBut (Some left_out)) (truth (not left_out)) units.old units.new }
+    ensures done { result ≡ true
+        → ReadsOctets (BooleansBut (Some left_out)) (truth (not left_out)) units.old units.new }
     ensures unchanged { result ≡ false → units.new ≡ units.old }
 {
     let octet = other_octet(left_out);

@@ -183,8 +183,8 @@ pub(crate) fn try_item<R: PlanLeaves>(items: &Enumeration, units: &mut BitCursor
     None
 }
 
-/// Reads a string of one length and gives the number in its bits, where it is at hand and of the root; otherwise takes
-/// nothing.
+/// Reads a string of one length and returns the number in its bits. `None`, with the cursor where it was, if its units
+/// have not all come or its length lies outside the extension root.
 #[inline(always)]
 fn try_string<R: PlanLeaves>(fixed: &FixedString, units: &mut BitCursor<'_>) -> Option<u64>
     requires at_unit { R.rules.at_unit units.old }
@@ -285,7 +285,8 @@ fn in_octets(marked: bool, low: i128, high: i128) -> (u32, u64)
     requires order { low ≤ℤ high }
     requires low { lowest_integer ≤ℤ low }
     requires high { high ≤ℤ highest_integer }
-    ensures { 0 < result.0 → (marked ≡ false) × (fixed_size low high ≡ Some result.0) × (result.1 ≡ held_in result.0 low) }
+    ensures { 0 < result.0 → (marked ≡ false) × (fixed_size low high ≡ Some result.0)
+        × (result.1 ≡ held_in result.0 low) }
 {
     if marked {
         return (0, 0);

@@ -106,14 +106,15 @@ impl PlanLeaves for Oer {
 }
 
 /// Reads an INTEGER by OER whose octets are more than are taken at once, or not as many for all its numbers; one with an
-/// extension mark is spelt as one without bounds. `None`, and nothing is taken, where it is not at hand.
+/// extension mark is spelt as one without bounds. `None`, with the cursor where it was, if it is not complete.
 #[inline(never)]
 #[tactic(auto, unfolding(asn_oer::specs::Walk::oer_coding, asn_oer::specs::Rules::oer_ruling))]
 fn try_apart(range: &Ranged, units: &mut BitCursor<'_>) -> Option<i128>
     requires at_octet { AtOctet units.old }
     requires ranged { IsRanged range.now }
     ensures at_octet { AtOctet units.new }
-    ensures some { IfSome result (λ z. ReadsOctets (Spelt oer None (ranged range.now)) (number z) units.old units.new) }
+    ensures some { IfSome result (λ z.
+        ReadsOctets (Spelt oer None (ranged range.now)) (number z) units.old units.new) }
     ensures of_integers { IfSome result IsOfProfile }
     ensures none { IsNone result → units.new ≡ units.old }
 {

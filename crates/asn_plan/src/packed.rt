@@ -140,7 +140,7 @@ fn build_numbers<R: PlanLeaves, B: Build>(
     Some(entries)
 }
 
-/// Takes so many units into the word, where it is empty and they are at hand.
+/// Takes this many units into the word, if it is empty and they have all come.
 #[inline(always)]
 pub(crate) fn fill<R: PlanLeaves>(run: Run, word: &mut Word, units: &mut BitCursor<'_>)
     requires at_unit { R.rules.at_unit units.old }

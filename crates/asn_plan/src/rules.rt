@@ -35,7 +35,7 @@ use asn_walk::{Preamble, ReadLeaves};
 /// What a plan asks of a set of rules beside the parts that any walk asks for: values by what was worked out of their
 /// types once.
 pub trait PlanLeaves: ReadLeaves {
-    /// Takes this many units at once, where they are at hand and a number of bits holds them; otherwise none.
+    /// Takes this many units at once, if they have all come and a word holds them; otherwise none.
     fn take_word(run: Run, units: &mut BitCursor<'_>) -> Word
         requires at_unit { Self.rules.at_unit units.old }
         ensures at_unit { Self.rules.at_unit units.new }
@@ -95,7 +95,7 @@ pub trait PlanLeaves: ReadLeaves {
         None
     }
 
-    /// Takes what fills up an open type field of so many octets, after a value of so many units. Returns whether that is
+    /// Takes what fills up an open type field of `octets` octets, after a value of `taken` units. Returns whether that is
     /// the end of the field; otherwise some units may be taken.
     #[inline(always)]
     fn leave_open(_octets: u32, _taken: u128, _units: &mut BitCursor<'_>) -> bool
@@ -215,7 +215,7 @@ impl PlanLeaves for Per {
     }
 }
 
-/// Takes so many bits, where some are asked for and they are at hand; otherwise none.
+/// Takes this many bits, if it is 1 to 63 and they have all come; otherwise none.
 #[inline(always)]
 pub(crate) fn take_bits(count: u32, units: &mut BitCursor<'_>) -> Word
     ensures whole { count % 8 ≡ 0 → result.left % 8 ≡ 0 }
@@ -236,7 +236,7 @@ pub(crate) fn take_bits(count: u32, units: &mut BitCursor<'_>) -> Word
     }
 }
 
-/// How many zeros fill up a value of so many bits to whole octets, one at least (X.691, "complete encoding").
+/// How many zeros fill up a value of `taken` bits to whole octets, one at least (X.691, "complete encoding").
 #[inline(always)]
 fn zeros_after(taken: u128) -> u32
     ensures few { result ≤ 8 }

@@ -80,7 +80,7 @@ pub(crate) fn head_of(first: &[Node], additions: Option<usize>, width: u32) -> R
     }
 }
 
-/// The same of a preamble of so many bits and a run.
+/// The same of a preamble of this many bits and a run.
 fn head_with(preamble: u32, run: Run) -> Run
     requires few { preamble ≤ 63 }
 {
@@ -90,7 +90,7 @@ fn head_with(preamble: u32, run: Run) -> Run
     }
 }
 
-/// A preamble of so many units, and the run after it, where both may be taken at once.
+/// The units of a preamble, and of the run after it where both may be taken at once.
 fn preamble_and(unit: Unit, preamble: u32, run: u32) -> u32 {
     match preamble.checked_add(run) {
         Some(head) if head <= unit.most() => head,

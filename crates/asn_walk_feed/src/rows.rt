@@ -26,7 +26,7 @@ use asn_rules::laws::are_octets;
 use asn_values::{AsnType, Field, Need, Value};
 use std::alloc::Global;
 
-/// How many octets rows have at most: so many that wait have room in `Begun`.
+/// The most octets that a row may have: `Begun` holds the bits of this many while they wait.
 const MOST_OCTETS: u32 = 15;
 
 /// How many bits the octets of `Begun::filled` have.

@@ -82,24 +82,25 @@ module _ (c : Coding) (P N : List (Option Datum) → Type 0) (ns : List Node) (n
           go name (default v) t others good is plan width es l = absurd (let e : default v ≡ optional = is in cc)
 
       -- it has a DEFAULT, and another value is read
-      pub other_entry : (w : WithDefault) → n.presence ≡ presence.Default w → 1 ≡ bitmap / 2 ^ after % 2 → (d : Datum)
-          → Q d → Spells c.ruling.fielding (Spelt c.code (Some (datum_of w.default)) (shape_of w.ty)) d us vs
+      pub other_entry : (w : WithDefault) → n.presence ≡ presence.Default w → 1 ≡ bitmap / 2 ^ after % 2
+          → (IsPlan ns (shape_of w.ty) n.kind → (d : Datum) × Q d × Spells c.ruling.fielding (Spelt c.code (Some (datum_of w.default)) (shape_of w.ty)) d us vs)
           → BuildsEntry c P N ns n bitmap left after us vs
-      other_entry w o b d q read = record {
+      other_entry w o b read = record {
         few = omega (arith, less);
-        entry = λ name demand t others good is plan width es l. go name demand t others (rw o at is) width es l;
+        entry = λ name demand t others good is plan width es l. go name demand t others (rw o at is) plan width es l;
       }
         where
           go : (name : List ℕ) (demand : Demand) (t : Shape) (others : Fields)
-              → (demand ≡ default (datum_of w.default)) × (t ≡ shape_of w.ty)
+              → (demand ≡ default (datum_of w.default)) × (t ≡ shape_of w.ty) → IsPlan ns t n.kind
               → left ≡ bitmap_length (field name demand t others) → (es : List (Option Datum)) → P es
               → Left name demand t others after es
-          go name (default v) t others is width es l =
+          go name (default v) t others is plan width es l =
               let e : v ≡ datum_of w.default = same_default v (datum_of w.default) is.0 in
-              let r : Spells c.ruling.fielding (Spelt c.code (Some v) t) d us vs = rw (e, is.1) read in
-              (Some d, add es d l q, omega (arith, width, less), λ gs ws k. rw (bits_from left after bitmap 1 less b) (before_spells r k))
-          go name must t others is width es l = absurd (let e : must ≡ default (datum_of w.default) = is.0 in cc)
-          go name optional t others is width es l = absurd (let e : optional ≡ default (datum_of w.default) = is.0 in cc)
+              let d = read (subst (λ (x : Shape). IsPlan ns x n.kind) is.1 plan) in
+              let r : Spells c.ruling.fielding (Spelt c.code (Some v) t) d.0 us vs = rw (e, is.1) d.2 in
+              (Some d.0, add es d.0 l d.1, omega (arith, width, less), λ gs ws k. rw (bits_from left after bitmap 1 less b) (before_spells r k))
+          go name must t others is plan width es l = absurd (let e : must ≡ default (datum_of w.default) = is.0 in cc)
+          go name optional t others is plan width es l = absurd (let e : optional ≡ default (datum_of w.default) = is.0 in cc)
 
       -- it has a DEFAULT, and is absent
       pub default_entry : (w : WithDefault) → n.presence ≡ presence.Default w → 0 ≡ bitmap / 2 ^ after % 2 → (d : Datum)

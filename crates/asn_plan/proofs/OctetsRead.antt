@@ -16,7 +16,6 @@ use Rattle.asn_bits.proofs.Above.{add_within, test_of_le, le_of_test}
 use Rattle.asn_bits.proofs.FilledBits.{unpacked-packed}
 use Rattle.asn_bits.proofs.LengthsInOctets.{one_is}
 use Rattle.asn_bits.proofs.Octets.{all_octets, length-digits, half, residue, signed_is, packed_octets}
-use Rattle.asn_bits.proofs.Reading.{word_mask}
 use Rattle.asn_bits.proofs.Packing.{bits_zero}
 use Rattle.asn_bits.proofs.Splits.{unpacked-octets, two_pow_octets}
 use Rattle.asn_bits.proofs.Weights.{digits-append}
@@ -58,7 +57,7 @@ units_are_octets zero m = refl
 units_are_octets (suc n) m = refl
 
 -- a number in k octets, before other bits
-packed_number : (k n : ℕ) (r : List ℕ) → packed (bits (8 * k) n ++ r) ≡ octets k n ++ packed r
+pub packed_number : (k n : ℕ) (r : List ℕ) → packed (bits (8 * k) n ++ r) ≡ octets k n ++ packed r
 packed_number k n r = ap (λ (l : List ℕ). packed (l ++ r)) (sym (unpacked-octets k n)) ∙ packed_front (octets k n) r (all_octets k n)
 
 -- the number in the first k octets that are left
@@ -69,7 +68,7 @@ octets_taken old new k n us e =
     ap (λ (t : List ℕ). t ++ us) (units_are_octets old.left old.bits ∙ ap packed e ∙ packed_number k n rest) ∙ append_assoc (octets k n) (packed rest) us
     ∙ ap (λ (t : List ℕ). octets k n ++ (t ++ us)) (sym (units_are_octets new.left new.bits))
 
-digits_bits : (k n : ℕ) → AreBits (bits k n)
+pub digits_bits : (k n : ℕ) → AreBits (bits k n)
 digits_bits zero n = tt
 digits_bits (suc k) n = (omega arith, digits_bits k n)
 
@@ -127,6 +126,32 @@ preamble_held a n mark m r old mid new last us is few fits e f g =
     subst (λ (l : List ℕ). Spells oer_fields (FilledFields k r.1 n 0) (mark, m) l (before oer_coding last us)) (sym split) (units_front code oer_fields same (mark, m) (few, omega arith, fits) (before oer_coding last us)) in
     (preamble_leads n a (before oer_coding old us)).done (mark, m) (before oer_coding last us) (subst (λ (q : ℕ × ℕ). Spells oer_fields (FilledFields q.0 q.1 n 0) (mark, m) (before oer_coding old us) (before oer_coding last us)) is read)
 
+-- presence bits without an extension bit
+pub alone_held : (n m z : ℕ) (a : Option ℕ) (old new last : Word) (us : List ℕ) → a ≡ None → z ≡ (8 - n % 8) % 8 → m < 2 ^ n
+    → bits old.left old.bits ≡ bits n m ++ bits new.left new.bits → bits new.left new.bits ≡ bits z 0 ++ bits last.left last.bits
+    → Spells oer_fields (PreambleOf oer_coding n a) (false, m) (before oer_coding old us) (before oer_coding last us)
+alone_held n m z a old new last us is zeros fits f g =
+    preamble_held a n 0 m (0, 0) old old new last us (rw is refl) (omega arith) fits refl f (subst (λ (i : ℕ). bits new.left new.bits ≡ bits i 0 ++ bits last.left last.bits) (omega (arith, zeros)) g)
+
+-- and with one
+pub marked_held : (n k mark m z : ℕ) (a : Option ℕ) (old mid new last : Word) (us : List ℕ) → a ≡ Some k → z ≡ 7 - n % 8 → mark < 2
+    → (nat_lt 0 mark ≡ true → 0 < k) → m < 2 ^ n → bits old.left old.bits ≡ bits 1 mark ++ bits mid.left mid.bits
+    → bits mid.left mid.bits ≡ bits n m ++ bits new.left new.bits → bits new.left new.bits ≡ bits z 0 ++ bits last.left last.bits
+    → Spells oer_fields (PreambleOf oer_coding n a) (nat_lt 0 mark, m) (before oer_coding old us) (before oer_coding last us)
+marked_held n k mark m z a old mid new last us is zeros one some fits e f g = go k is some
+  where
+    filled : bits new.left new.bits ≡ bits ((8 - (1 + n) % 8) % 8) 0 ++ bits last.left last.bits
+    filled = subst (λ (i : ℕ). bits new.left new.bits ≡ bits i 0 ++ bits last.left last.bits) (omega (arith, zeros)) g
+
+    none_listed : (i : ℕ) → (nat_lt 0 i ≡ true → 0 < 0) → i ≤ 0
+    none_listed zero h = omega arith
+    none_listed (suc i) h = absurd (omega (arith, h (lt-ltb 0 (suc i) (omega arith))))
+
+    go : (j : ℕ) → a ≡ Some j → (nat_lt 0 mark ≡ true → 0 < j)
+        → Spells oer_fields (PreambleOf oer_coding n a) (nat_lt 0 mark, m) (before oer_coding old us) (before oer_coding last us)
+    go zero same h = preamble_held a n mark m (1, 0) old mid new last us (rw same refl) (none_listed mark h) fits e f filled
+    go (suc j) same h = preamble_held a n mark m (1, 1) old mid new last us (rw same refl) (omega (arith, one)) fits e f filled
+
 -- ---- INTEGER
 
 -- how far one number lies above another, where k octets hold both, is told by the last k octets of their difference
@@ -152,17 +177,18 @@ offset_is least n w p q l f whole is = go (nat_lt n least) refl
         ap (λ (i : ℕ). i % p) sum ∙ mod-eq_of_lt f
 
 -- the difference as the program has it
-pub offset_held : (least n k : ℕ) → k ≤ 8 → least < 256 ^ k → n < 256 ^ k
-    → (least + bit_and ((n + (18446744073709551616 - least)) % 18446744073709551616) (18446744073709551615 / 2 ^ (64 - 8 * k))) % 256 ^ k ≡ n
-offset_held least n k few l f =
+pub offset_held : (least n k m : ℕ) → k ≤ 8 → m + 1 ≡ 2 ^ (8 * k) → least < 256 ^ k → n < 256 ^ k
+    → (least + bit_and ((n + (18446744073709551616 - least)) % 18446744073709551616) m) % 256 ^ k ≡ n
+offset_held least n k m few highest l f =
     let w = (n + (18446744073709551616 - least)) % 18446744073709551616 in
     let q = 256 ^ (8 - k) - 1 in
     let some : 1 ≤ 256 ^ (8 - k) = one-le-pow (8 - k) 256 (omega arith) in
     let one_more : 256 ^ (8 - k) ≡ suc q = omega (arith, some) in
     let whole : 8 - k + k ≡ 8 = omega (arith, few) in
     let all : 256 ^ (8 - k) * 256 ^ k ≡ 18446744073709551616 = sym (pow-add 256 (8 - k) k) ∙ ap (λ (i : ℕ). 256 ^ i) whole in
-    let masked : bit_and w (18446744073709551615 / 2 ^ (64 - 8 * k)) ≡ w % 256 ^ k =
-    ap (bit_and w) (word_mask (8 * k) (omega (arith, few))) ∙ and_mask w (8 * k) ∙ ap (λ (t : ℕ). w % t) (sym (two_pow_octets k)) in
+    let mask : m ≡ 2 ^ (8 * k) - 1 = omega (arith, highest) in
+    let masked : bit_and w m ≡ w % 256 ^ k =
+    ap (bit_and w) mask ∙ and_mask w (8 * k) ∙ ap (λ (t : ℕ). w % t) (sym (two_pow_octets k)) in
     ap (λ (i : ℕ). (least + i) % 256 ^ k) masked ∙ offset_is least n w (256 ^ k) q l f (subst (λ (i : ℕ). i * 256 ^ k ≡ 18446744073709551616) one_more all) refl
 
 -- the k octets of an integer from low on: those of low, and how far it lies above it

@@ -18,8 +18,9 @@ use Rattle.asn_plan.specs.declared.fixed.FixedString.{FixedString}
 use Rattle.asn_plan.specs.Ranged.{ranged}
 use Rattle.asn_plan.specs.Words.{before}
 use Rattle.asn_plan.specs.declared.word.Word.{Word}
-use Rattle.asn_walk.specs.Reading.{Reads, ValuesOf}
+use Rattle.asn_walk.specs.Reading.{Reads, ValuesOf, OthersOf}
 use Rattle.asn_plan.specs.declared.plan.Plan.{Plan}
+use Rattle.asn_plan.specs.declared.plan.WithDefault.{WithDefault}
 use Rattle.asn_plan.specs.declared.plan.Node.{Node}
 use Rattle.asn_plan.specs.declared.plan.Presence.{Presence}
 use Rattle.asn_plan.specs.declared.plan.Presence.TheVariants as presence
@@ -140,6 +141,13 @@ pub record BuildsNext {P : Type 0} (c : Coding) (built : P → Datum → Type 0)
   pub of_value : built p value
   pub read : Spells c.ruling.fielding (ValuesOf c t) value us vs
 
+-- the same of a component with a DEFAULT, of another value of its type
+pub record BuildsOther {P : Type 0} (c : Coding) (built : P → Datum → Type 0) (w : WithDefault) (p : P) (us vs : List ℕ)
+    : Type 0 where
+  pub value : Datum
+  pub of_value : built p value
+  pub read : Spells c.ruling.fielding (OthersOf c (datum_of w.default) (shape_of w.ty)) value us vs
+
 -- a string of the type, whose bits are those of the number, was read from a word, whatever units stand after it
 pub record TellsString (c : Coding) (t : Shape) (f : FixedString) (n : ℕ) (old new : Word) : Type 0 where
   pub value : Datum
@@ -191,12 +199,6 @@ pub record BuiltUpTo (c : Coding) (P : List (Option Datum) → Type 0) (ns parts
   pub few : left ≤ 64
   pub goes : (root : Fields) → AreOfProfile root → ArePlans ns parts root → count ≡ bitmap_length root
       → (es : List (Option Datum)) × P es × GoesOn c ns rest root count bitmap left us es vs
-
--- from the nodes at one place up to another, entries were read and put after those that were there before
-abbrev pub BuildsRun : (c : Coding) (P N : List (Option Datum) → Type 0) (ns parts : List Node) (from at : ℕ) (us vs : List ℕ) → Type 0
-BuildsRun c P N ns parts from at us vs = (count bitmap left : ℕ) (os : List ℕ)
-    → BuiltUpTo c P ns parts (drop from parts) count bitmap left os us
-    → BuiltUpTo c N ns parts (drop at parts) count bitmap left os vs
 
 -- What fills up an open type field of so many octets is read, where its value takes so many units: the units of the
 -- padding, with which it takes just these octets.

@@ -1,12 +1,12 @@
 //! The walk of a plan in the alternatives of a CHOICE.
-ghost use Rattle.std.specs.Prelude.{◌≡◌, IfSome, IsSome};
-ghost use Rattle.asn_values.specs.Profile.{InProfile};
+ghost use Rattle.std.specs.Prelude.{◌≡◌, ◌≤◌, ◌<◌, IfSome, IsSome, true};
+ghost use Rattle.asn_values.specs.Profile.{InProfile, most_alternatives};
 ghost use Rattle.asn_values.specs.Shape.{Shape};
+ghost use Rattle.asn_walk.specs.Coding.{AreFew};
 ghost use Rattle.asn_plan.specs.declared.plan.Kind.TheVariants as kind;
 ghost use Rattle.asn_plan.specs.Plans.{IsPlan, Builds};
 
 use crate::build::Build;
-use crate::leaves::are_few;
 use crate::open::build_open;
 use crate::plan::{AlternativeRows, Node};
 use crate::rules::PlanLeaves;
@@ -20,6 +20,38 @@ use std::alloc::Global;
 #[inline(never)]
 #[cycle(walk)]
 pub(crate) fn build_choice<R: PlanLeaves, B: Build>(
+    alloc: Global,
+    nodes: &[Node],
+    parts: &AlternativeRows,
+    units: &mut BitCursor<'_>,
+    room: &mut B::Room,
+) -> Option<B::Part>
+    requires at_unit { R.rules.at_unit units.old }
+    ensures at_unit { IsSome result → R.rules.at_unit units.new }
+    ensures some { IfSome result (λ p. (t : Shape) → InProfile t → IsPlan nodes.now t (kind.Choice parts.now)
+        → Builds R.rules (B.built room.old room.new) t p units.old units.new) }
+{
+    R::keep_laws();
+    if parts.begin >= parts.middle || parts.middle > nodes.len() {
+        return None;
+    }
+    let Some(told) = R::try_index(&parts.indexes, units) else {
+        return build_chosen::<R, B>(alloc, nodes, parts, units, room);
+    };
+    let (before, root) = (&nodes[..parts.begin], &nodes[parts.begin..parts.middle]);
+    let place = told as usize;
+    if place >= root.len() {
+        return None;
+    }
+    let chosen = B::choosing(room, place)?;
+    let part = build_at::<R, B>(alloc, before, &root[place].kind, units, room)?;
+    B::choice(alloc, room, chosen, place, part)
+}
+
+/// The same, where the index is read on its own.
+#[inline(never)]
+#[cycle(walk)]
+fn build_chosen<R: PlanLeaves, B: Build>(
     alloc: Global,
     nodes: &[Node],
     parts: &AlternativeRows,
@@ -68,4 +100,18 @@ pub(crate) fn build_choice<R: PlanLeaves, B: Build>(
             Some(whole)
         }
     }
+}
+
+/// Whether a CHOICE may have this many alternatives in its root, and this many extension additions.
+#[inline(always)]
+fn are_few(root: usize, additions: Option<usize>) -> bool
+    ensures some { result ≡ true → 0 < root }
+    ensures few { result ≡ true → AreFew root additions }
+    ensures few_in_root { result ≡ true → root ≤ most_alternatives }
+{
+    let added = match additions {
+        Some(count) => count,
+        None => 0,
+    };
+    0 < root && root <= MAX_ALTERNATIVES && added <= MAX_ALTERNATIVES - root
 }

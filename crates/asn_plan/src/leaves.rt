@@ -1,14 +1,12 @@
 //! What the rules read by themselves, for one node of a plan.
-ghost use Rattle.std.specs.Prelude.{◌≡◌, ◌≤◌, ◌<◌, ◌^◌, ◌≤ℤ◌, ◌<ℤ◌, pos, Some, IfSome, IsNone, IsSome, true, false};
+ghost use Rattle.std.specs.Prelude.{◌≡◌, ◌*◌, ◌+◌, ◌≤◌, ◌<◌, ◌^◌, ◌≤ℤ◌, ◌<ℤ◌, pos, Some, IfSome, IsNone, IsSome, false, ◌-◌, ◌/◌};
 ghost use Rattle.asn_bits.specs.Numbers.{magnitude};
 ghost use Rattle.asn_oer.specs.FixedSizes.{fixed_size};
 ghost use Rattle.asn_values.specs.Fits.{lowest_integer, highest_integer};
 ghost use Rattle.asn_values.specs.Datum.{truth, item};
-ghost use Rattle.asn_walk.specs.AtOnce.{IsOnlyLength};
-ghost use Rattle.asn_walk.specs.Coding.{AreFew};
-ghost use Rattle.asn_values.specs.Profile.{InProfile, most_alternatives};
+ghost use Rattle.asn_values.specs.Profile.{InProfile};
 ghost use Rattle.asn_values.specs.Shape.{Shape, boolean, integer};
-ghost use Rattle.asn_values.specs.View.{shape_of, range_of, size_range_of};
+ghost use Rattle.asn_values.specs.View.{shape_of, range_of};
 ghost use Rattle.asn_plan.specs.FixedStrings.{IsFixedString, IsStringOf};
 ghost use Rattle.asn_plan.specs.Ranged.{ranged, held_in, IsRanged};
 ghost use Rattle.asn_walk.specs.Laws.{IsSimple};
@@ -28,8 +26,7 @@ use asn_bits::BitCursor;
 use asn_bits::internal::{wide_offset_from, width};
 use asn_oer::internal::fixed_size;
 use asn_rules::internal::greatest_of_width;
-use asn_values::profile::MAX_ALTERNATIVES;
-use asn_values::{AsnType, Bounds, Size, Value};
+use asn_values::{AsnType, Bounds, Value};
 use asn_walk::ReadLeaves;
 use std::alloc::Global;
 
@@ -196,7 +193,7 @@ fn try_string<R: PlanLeaves>(fixed: &FixedString, units: &mut BitCursor<'_>) -> 
     let start = units.copied();
     let run = Run {
         bits: fixed.bits,
-        octets: 0,
+        octets: fixed.octets,
     };
     let mut word = R::take_word(run, units);
     if let Some(number) = R::next_string(fixed, &mut word)
@@ -206,51 +203,6 @@ fn try_string<R: PlanLeaves>(fixed: &FixedString, units: &mut BitCursor<'_>) -> 
     }
     *units = start;
     None
-}
-
-/// What is worked out of a string of one length, if it has at most 63 bits with the extension bit; `None` of any other
-/// type.
-pub(crate) fn fixed_of(ty: &AsnType) -> Option<FixedString>
-    ensures { IfSome result (λ f. IsFixedString f (shape_of ty.now)) }
-{
-    match ty {
-        AsnType::Bits(size) => {
-            let length = only_length(size)?;
-            if length > 62 {
-                return None;
-            }
-            Some(FixedString {
-                of_octets: false,
-                length,
-                highest: greatest_of_width(length),
-                bits: u32::from(size.ext) + length,
-            })
-        }
-        AsnType::Octets(size) => {
-            let length = only_length(size)?;
-            if length > 7 || size.ext {
-                return None;
-            }
-            Some(FixedString {
-                of_octets: true,
-                length,
-                highest: greatest_of_width(8 * length),
-                bits: 8 * length,
-            })
-        }
-        _ => None,
-    }
-}
-
-/// The only length that a size leaves in its root, if it leaves one.
-fn only_length(size: &Size) -> Option<u32>
-    ensures { IfSome result (λ n. IsOnlyLength (size_range_of size.now) n) }
-{
-    let high = size.high?;
-    if high != size.low {
-        return None;
-    }
-    Some(high)
 }
 
 /// The INTEGER of these bounds, if there are two, and the offsets between them have at most 64 bits with the extension
@@ -266,34 +218,55 @@ pub(crate) fn between_of(bounds: &Bounds) -> Option<Between>
     if bits > 64 {
         return None;
     }
-    let (octets, least) = in_octets(bounds.ext, low, high);
+    let in_octets = octets_between(bounds.ext, low, high);
     let range = Ranged {
         low,
         high,
         marked: bounds.ext,
         highest: highest as u64,
         bits,
-        octets,
-        least,
+        mask: greatest_of_width(bits),
+        octets: in_octets.count,
+        octet_mask: in_octets.mask,
+        least: in_octets.least,
     };
     Some(Between { range })
 }
 
-/// How many octets each number between two bounds has by OER, where it is one count for all of them, and what these hold of
-/// the low bound; else 0 and 0.
-fn in_octets(marked: bool, low: i128, high: i128) -> (u32, u64)
+/// The octets by which OER tells a number between two bounds.
+#[derive(Clone, Copy)]
+struct InOctets {
+    /// How many they are, where it is one count for all numbers; else 0.
+    count: u32,
+    /// The highest number of so many octets.
+    mask: u64,
+    /// What they hold of the low bound.
+    least: u64,
+}
+
+/// The octets by which OER tells a number between these bounds; no octets, where it is not one count for all of them.
+fn octets_between(marked: bool, low: i128, high: i128) -> InOctets
     requires order { low ≤ℤ high }
     requires low { lowest_integer ≤ℤ low }
     requires high { high ≤ℤ highest_integer }
-    ensures { 0 < result.0 → (marked ≡ false) × (fixed_size low high ≡ Some result.0)
-        × (result.1 ≡ held_in result.0 low) }
+    ensures { 0 < result.count → (marked ≡ false) × (fixed_size low high ≡ Some result.count)
+        × (result.mask + 1 ≡ 2 ^ (8 * result.count)) × (result.least ≡ held_in result.count low) }
 {
+    let none = InOctets {
+        count: 0,
+        mask: 0,
+        least: 0,
+    };
     if marked {
-        return (0, 0);
+        return none;
     }
     match fixed_size(low, high) {
-        Some(octets) => (octets, held_in(octets, low)),
-        None => (0, 0),
+        Some(count) => InOctets {
+            count,
+            mask: greatest_of_width(8 * count),
+            least: held_in(count, low),
+        },
+        None => none,
     }
 }
 
@@ -358,18 +331,4 @@ pub(crate) fn read_other<R: ReadLeaves>(
         return None;
     };
     Some(value)
-}
-
-/// Whether a CHOICE may have this many alternatives in its root, and this many extension additions.
-#[inline(always)]
-pub(crate) fn are_few(root: usize, additions: Option<usize>) -> bool
-    ensures some { result ≡ true → 0 < root }
-    ensures few { result ≡ true → AreFew root additions }
-    ensures few_in_root { result ≡ true → root ≤ most_alternatives }
-{
-    let added = match additions {
-        Some(count) => count,
-        None => 0,
-    };
-    0 < root && root <= MAX_ALTERNATIVES && added <= MAX_ALTERNATIVES - root
 }

@@ -9,6 +9,7 @@ ghost use Rattle.asn_plan.specs.declared.plan.Kind.TheVariants as kind;
 ghost use Rattle.asn_plan.specs.Plans.{IsPlan, Builds, BuildsList, BuildsRow};
 
 use crate::build::Build;
+use crate::components::build_sequences;
 use crate::plan::{ElementRow, Kind, Node};
 use crate::rules::PlanLeaves;
 use crate::walk::build_at;
@@ -19,6 +20,35 @@ use std::alloc::Global;
 #[inline(never)]
 #[cycle(walk)]
 pub(crate) fn build_list<R: PlanLeaves, B: Build>(
+    alloc: Global,
+    nodes: &[Node],
+    list: &ElementRow,
+    units: &mut BitCursor<'_>,
+    room: &mut B::Room,
+) -> Option<B::Part>
+    requires at_unit { R.rules.at_unit units.old }
+    ensures at_unit { IsSome result → R.rules.at_unit units.new }
+    ensures some { IfSome result (λ p. (t : Shape) → InProfile t → IsPlan nodes.now t (kind.List list.now)
+        → Builds R.rules (B.built room.old room.new) t p units.old units.new) }
+{
+    R::keep_laws();
+    if list.element >= nodes.len() {
+        return None;
+    }
+    let Some(count) = R::try_count(&list.counts, units) else {
+        return build_counted::<R, B>(alloc, nodes, list, units, room);
+    };
+    let (before, element) = (&nodes[..list.element], &nodes[list.element]);
+    let mut row = B::elements(alloc, room)?;
+    let count = count as usize;
+    build_elements::<R, B>(alloc, before, &element.kind, count, &mut row, units, room)?;
+    B::list(room, row)
+}
+
+/// The same, where the count is read on its own.
+#[inline(never)]
+#[cycle(walk)]
+fn build_counted<R: PlanLeaves, B: Build>(
     alloc: Global,
     nodes: &[Node],
     list: &ElementRow,
@@ -94,6 +124,11 @@ fn build_elements<R: PlanLeaves, B: Build>(
         → BuildsRow R.rules (B.rowed s room.old row.old) (B.rowed s room.new row.new) (Row (ValuesOf R.rules t) count)
         (R.rules.to_units units.old) (R.rules.to_units units.new) }
 {
+    if let Kind::Sequence(parts) = kind {
+        if parts.begin < parts.end {
+            return build_sequences::<R, B>(alloc, nodes, parts, count, row, units, room);
+        }
+    }
     for i in 0..count {
         let value = build_at::<R, B>(alloc, nodes, kind, units, room)?;
         B::element(room, row, value)?;

@@ -1,20 +1,23 @@
 //! What a plan reads by OER: values by what was worked out of their types once, from octets that were taken at once.
-ghost use Rattle.std.specs.Prelude.{◌≡◌, ◌≤◌, ◌<◌, ◌+◌, ◌%◌, ◌^◌, None, IfSome, IsNone};
+ghost use Rattle.std.specs.Prelude.{◌≡◌, ◌*◌, ◌≤◌, ◌<◌, ◌+◌, ◌++◌, ◌%◌, ◌^◌, None, IfSome, IsNone, IsSome};
 ghost use Rattle.asn_values.specs.Datum.{number};
 ghost use Rattle.asn_rules.specs.Listed.{Spelt};
 ghost use Rattle.asn_rules.specs.OctetReading.{AtOctet, ReadsOctets};
+ghost use Rattle.asn_bits.specs.Numbers.{bits};
 ghost use Rattle.asn_walk.specs.Integers.{IsOfProfile};
 ghost use Rattle.asn_oer.specs.Oer.{oer};
 ghost use Rattle.asn_plan.specs.Ranged.{ranged, IsRanged};
 
 use crate::enumeration::Enumeration;
+use crate::field::BitFields;
+use crate::fields::take_told;
+use crate::fixed::FixedString;
 use crate::ranged::Ranged;
 use crate::rules::{PlanLeaves, take_bits};
 use crate::word::{Run, Word};
 use asn_bits::BitCursor;
 use asn_bits::internal::at_offset;
 use asn_oer::Oer;
-use asn_oer::internal::marks;
 use asn_rules::internal::{offsets_of, try_counted_signed};
 use asn_values::profile::LOWEST_INTEGER;
 use asn_walk::{Preamble, ReadLeaves};
@@ -34,14 +37,26 @@ impl PlanLeaves for Oer {
 
     /// The zeros after the bits fill up the last octet.
     #[inline(always)]
-    fn next_preamble(count: u32, additions: Option<usize>, word: &mut Word) -> Option<Preamble> {
-        let (marks, most) = marks(additions);
-        let mark = word.take(marks)?;
-        let bitmap = word.take(count)?;
-        let unused = word.take((8 - (marks + count) % 8) % 8)?;
-        if mark > most || unused > 0 {
+    fn next_preamble(
+        count: u32,
+        mask: u64,
+        additions: Option<usize>,
+        word: &mut Word,
+    ) -> Option<Preamble> {
+        let Some(listed) = additions else {
+            let alone = word.take_below(count, mask)?;
+            next_zeros((8 - count % 8) % 8, word)?;
+            return Some(Preamble {
+                extended: false,
+                bitmap: alone,
+            });
+        };
+        let mark = word.take(1)?;
+        if mark > 0 && listed == 0 {
             return None;
         }
+        let bitmap = word.take_below(count, mask)?;
+        next_zeros(7 - count % 8, word)?;
         Some(Preamble {
             extended: mark > 0,
             bitmap,
@@ -53,8 +68,8 @@ impl PlanLeaves for Oer {
         if range.octets == 0 || range.octets > MOST_OCTETS {
             return None;
         }
-        let octets = word.take(8 * range.octets)?;
-        let offset = offset_from(range.least, octets, range.octets);
+        let octets = word.take_below(8 * range.octets, range.octet_mask)?;
+        let offset = offset_from(range.least, octets, range.octets, range.octet_mask);
         if offset > range.highest {
             return None;
         }
@@ -103,6 +118,60 @@ impl PlanLeaves for Oer {
         *units = start;
         None
     }
+
+    #[inline(always)]
+    fn next_string(fixed: &FixedString, word: &mut Word) -> Option<u64> {
+        let head = word.take(fixed.head_bits)?;
+        let number = word.take(fixed.own_bits)?;
+        let unused = word.take(fixed.unused)?;
+        if head != fixed.head || unused > 0 {
+            return None;
+        }
+        Some(number)
+    }
+
+    #[inline(always)]
+    fn enter_open(units: &mut BitCursor<'_>) -> Option<u32> {
+        let octets = units.peek_octet()?;
+        if octets > 127 {
+            return None;
+        }
+        units.pass(8);
+        Some(octets as u32)
+    }
+
+    #[inline(always)]
+    fn leave_open(octets: u32, taken: u128, _units: &mut BitCursor<'_>) -> bool {
+        taken == u128::from(octets)
+    }
+
+    #[inline(always)]
+    fn try_index(fields: &BitFields, units: &mut BitCursor<'_>) -> Option<u32> {
+        let Some(indexes) = &fields.in_octets else {
+            return None;
+        };
+        take_told(indexes, units)
+    }
+
+    #[inline(always)]
+    fn try_count(fields: &BitFields, units: &mut BitCursor<'_>) -> Option<u32> {
+        let Some(counts) = &fields.in_octets else {
+            return None;
+        };
+        take_told(counts, units)
+    }
+}
+
+/// Takes this many zeros; `None` where other bits stand there, or fewer.
+#[inline(always)]
+fn next_zeros(count: u32, word: &mut Word) -> Option<()>
+    ensures { IsSome result → bits word.old.left word.old.bits ≡ bits count 0 ++ bits word.new.left word.new.bits }
+{
+    let number = word.take(count)?;
+    if number > 0 {
+        return None;
+    }
+    Some(())
 }
 
 /// Reads an INTEGER by OER whose octets are more than are taken at once, or not as many for all its numbers; one with an
@@ -125,14 +194,16 @@ fn try_apart(range: &Ranged, units: &mut BitCursor<'_>) -> Option<i128>
     Some(at_offset(LOWEST_INTEGER, offset))
 }
 
-/// How far an integer lies above the low bound, of which `count` octets hold `octets` and `least`, where it is no lower.
+/// How far an integer lies above the low bound, of which `count` octets hold `octets` and `least`, where it is no lower;
+/// `mask` is the highest number of so many octets.
 #[inline(always)]
-fn offset_from(least: u64, octets: u64, count: u32) -> u64
+fn offset_from(least: u64, octets: u64, count: u32, mask: u64) -> u64
     requires some { 1 ≤ count }
     requires few { count ≤ 8 }
+    requires mask { mask + 1 ≡ 2 ^ (8 * count) }
     requires least { least < 256 ^ count }
     requires octets { octets < 256 ^ count }
     ensures { (least + result) % 256 ^ count ≡ octets }
 {
-    octets.wrapping_sub(least) & u64::MAX >> (64 - 8 * count)
+    octets.wrapping_sub(least) & mask
 }

@@ -12,12 +12,15 @@ ghost use Rattle.asn_plan.specs.SimpleTypes.{is_simple};
 ghost use Rattle.asn_plan.specs.Plans.{IsLeafPlan, IsPresence, IsPlan, IsPlanOf, ArePlans, ArePlansOfMore, ArePlansOfEach, ArePlansOfOthers};
 
 use crate::copies::copy_simple;
+use crate::fields::{count_fields, index_fields};
+use crate::fixed::fixed_of;
 use crate::items::items_of;
-use crate::leaves::{between_of, fixed_of};
+use crate::leaves::between_of;
 use crate::plan::{
     AlternativeRows, ComponentRows, ElementRow, Kind, Leaf, Node, Plan, Presence, Runs, WithDefault,
 };
 use crate::runs::{head_of, run_of};
+use asn_rules::internal::greatest_of_width;
 use asn_values::{Alt, AsnType, Checked, Field, Need, Size};
 use asn_walk::bitmap_width;
 use std::alloc::{AllocError, Global};
@@ -130,6 +133,7 @@ fn place_components(
         end,
         additions,
         width,
+        mask: greatest_of_width(width.min(64)),
         head,
     }))
 }
@@ -147,7 +151,12 @@ fn place_element(kind: Kind, size: Size, nodes: &mut Vec<Node>) -> Result<Kind, 
         kind,
         run: Runs::none(),
     })?;
-    Ok(Kind::List(ElementRow { size, element }))
+    let counts = count_fields(&size);
+    Ok(Kind::List(ElementRow {
+        size,
+        counts,
+        element,
+    }))
 }
 
 /// The nodes of the alternatives of a CHOICE, after the nodes that they need are added.
@@ -189,6 +198,7 @@ fn place_alternatives(
     let mut first = first;
     let mut rest = rest;
     let begin = nodes.len();
+    let indexes = index_fields(first.len(), additions);
     nodes.append(&mut first)?;
     let middle = nodes.len();
     nodes.append(&mut rest)?;
@@ -198,6 +208,7 @@ fn place_alternatives(
         middle,
         end,
         additions,
+        indexes,
     }))
 }
 

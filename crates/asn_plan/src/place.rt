@@ -168,21 +168,6 @@ impl Place {
         }
     }
 
-    /// Takes the entries out of the SEQUENCE that is here, for their memory, where it has this many.
-    #[inline(always)]
-    pub(crate) fn take_entries(&mut self, alloc: Global, count: usize) -> Option<Vec<Option<Value>>>
-        ensures { taken self.new ≡ taken self.old }
-    {
-        if self.at < self.items.len() {
-            if let Some(Value::Seq(entries)) = &mut self.items[self.at] {
-                if entries.len() == count {
-                    return Some(mem::replace(entries, Vec::new(alloc)));
-                }
-            }
-        }
-        None
-    }
-
     /// Puts a SEQUENCE of these entries here.
     #[inline(always)]
     pub(crate) fn put_entries(&mut self, entries: Vec<Option<Value>>) -> Option<()>
@@ -251,7 +236,7 @@ impl Place {
 
 /// Puts a value in the place of another.
 #[inline(always)]
-fn put_over(value: Value, place: &mut Value)
+pub(crate) fn put_over(value: Value, place: &mut Value)
     ensures { datum_of place.new ≡ datum_of value }
 {
     if let Value::Null = place {

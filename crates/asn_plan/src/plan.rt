@@ -1,13 +1,16 @@
 //! The nodes of a plan.
-ghost use Rattle.std.specs.Prelude.{◌≡◌, true};
+ghost use Rattle.std.specs.Prelude.{◌≡◌, ◌+◌, ◌^◌, ◌≤◌, true, ◌-◌};
+ghost use Rattle.std.proofs.Props.{props};
 ghost use Rattle.asn_values.specs.Profile.{InProfile, good_default};
 ghost use Rattle.asn_values.specs.View.{shape_of, datum_of, size_range_of};
 ghost use Rattle.asn_plan.specs.Enumerations.{IsEnumeration};
+ghost use Rattle.asn_plan.specs.Fields.{AreCountFields, AreIndexFields};
 ghost use Rattle.asn_plan.specs.Ranged.{IsRanged};
 ghost use Rattle.asn_walk.specs.Laws.{IsSizeOfProfile};
 ghost use Rattle.asn_plan.specs.SimpleTypes.{is_simple};
 
 use crate::enumeration::Enumeration;
+use crate::field::BitFields;
 use crate::fixed::FixedString;
 use crate::ranged::Ranged;
 use crate::word::Run;
@@ -67,8 +70,11 @@ pub struct ComponentRows {
     pub additions: Option<usize>,
     /// How many presence bits the root has.
     pub width: u32,
+    /// The highest number of so many bits, where these are no more than 64.
+    pub mask: u64,
     /// The units of the extension bit and the presence bits, and the runs of the first component.
     pub head: Runs,
+    ghost is_mask: { width ≤ 64 → mask + 1 ≡ 2 ^ width },
 }
 
 /// How many elements a SEQUENCE OF has, and where the node of their type stands among those of the plan, counted from
@@ -76,8 +82,11 @@ pub struct ComponentRows {
 #[derive(Debug, Clone, Copy)]
 pub struct ElementRow {
     pub size: Size,
+    /// Those of the counts of the root.
+    pub counts: BitFields,
     pub element: usize,
     ghost of_profile: { IsSizeOfProfile (size_range_of size) },
+    ghost are_counts: { AreCountFields counts (size_range_of size) } by { Prim.hlevel props },
 }
 
 /// Where the nodes of the alternatives of a CHOICE stand among those of the plan, counted from 0: those of the root
@@ -90,6 +99,9 @@ pub struct AlternativeRows {
     pub end: usize,
     /// How many extension additions there are, where there is an extension mark.
     pub additions: Option<usize>,
+    /// Those of the indexes of the root.
+    pub indexes: BitFields,
+    ghost are_indexes: { AreIndexFields indexes (middle - begin) additions } by { Prim.hlevel props },
 }
 
 /// What is to be read.

@@ -1,11 +1,12 @@
 //! A builder that puts values into the memory of one that is there.
-ghost use Rattle.std.specs.Prelude.{◌≡◌, ◌≤◌, ◌<◌, ◌++◌, ◌∷◌, [], List, Option, Some, None, IsSome, take, vec_len, vec_capacity};
+ghost use Rattle.std.specs.Prelude.{◌≡◌, ◌<◌, ◌++◌, ◌∷◌, [], List, Option, Some, None, IsSome, take, vec_len, vec_capacity};
 ghost use Rattle.asn_values.specs.Datum.{Datum, components, components_of};
 ghost use Rattle.asn_values.specs.View.{datum_of};
-ghost use Rattle.asn_plan.specs.Placed.{taken, made, IsThere, IsPutIn, AreEntries, AreElements, IsBegun};
+ghost use Rattle.asn_plan.specs.Placed.{taken, IsPutIn, AreEntries, AreElements, IsBegun};
 
 use crate::build::Build;
-use crate::place::Place;
+use crate::fixed::FixedString;
+use crate::place::{Place, put_over};
 use asn_values::Value;
 use std::alloc::Global;
 use std::mem;
@@ -20,7 +21,7 @@ pub struct Reused;
 pub struct Spare {
     pub(crate) here: Place,
     pub(crate) around: Vec<Place>,
-    kept: Vec<Value>,
+    pub(crate) kept: Vec<Value>,
 }
 
 /// The elements of a SEQUENCE OF, put over those of a value before.
@@ -35,51 +36,6 @@ pub struct ElementsOver {
 #[derive(Drop)]
 pub struct ChoiceOver {
     inner: Option<Box<Value>>,
-}
-
-impl ElementsOver {
-    /// Lays the element that stood at this place into the room, for its memory, and after the last one that is kept.
-    #[inline(always)]
-    fn lay_next(&mut self, room: &mut Spare)
-        ensures same { taken room.new.here ≡ taken room.old.here }
-        ensures around { room.new.around ≡ room.old.around }
-        ensures made { made self.new ≡ made self.old }
-    {
-        if self.count < self.items.len() {
-            room.here.exchange(&mut self.items[self.count]);
-            return;
-        }
-        if !room.kept.is_empty() {
-            room.lay_kept();
-        }
-    }
-
-    /// Adds the element that is in the room.
-    #[inline(always)]
-    fn add(&mut self, room: &mut Place) -> Option<()>
-        ensures same { IsSome result → taken room.new ≡ taken room.old }
-        ensures made { IsSome result → (d : Datum) → IsThere room.old d → made self.new ≡ made self.old ++ d ∷ [] }
-    {
-        let at = self.count;
-        if at < self.items.len() {
-            room.exchange(&mut self.items[at]);
-            self.count = at + 1;
-            return Some(());
-        }
-        self.push(room.take())?;
-        Some(())
-    }
-
-    /// Adds an element behind all others, which are new.
-    #[inline(never)]
-    fn push(&mut self, element: Value) -> Option<()>
-        ensures { IsSome result → vec_len self.old.items ≤ self.old.count
-            → made self.new ≡ made self.old ++ datum_of element ∷ [] }
-    {
-        self.items.push(element).ok()?;
-        self.count = self.items.len();
-        Some(())
-    }
 }
 
 impl Spare {
@@ -109,37 +65,43 @@ impl Spare {
     fn enter(&mut self, alloc: Global, count: usize) -> Option<()>
         ensures { IsSome result → AreEntries self.old self.new [] }
     {
-        let entries = match self.here.take_entries(alloc, count) {
-            Some(entries) => entries,
-            None => self.other_entries(alloc, count)?,
-        };
         if self.around.len() >= self.around.capacity() {
             self.grow()?;
         }
-        let items = mem::replace(&mut self.here.items, entries);
-        let at = mem::replace(&mut self.here.at, 0);
-        self.around.push_reserved(Place { items, at });
-        Some(())
+        let here = &mut self.here;
+        if here.at < here.items.len() {
+            if let Some(Value::Seq(entries)) = &mut here.items[here.at] {
+                let items = mem::replace(entries, Vec::new(alloc));
+                if items.len() == count {
+                    let at = mem::replace(&mut here.at, 0);
+                    let items = mem::replace(&mut here.items, items);
+                    self.around.push_reserved(Place { items, at });
+                    return Some(());
+                }
+                return self.enter_other(alloc, items, count);
+            }
+        }
+        self.enter_other(alloc, Vec::new(alloc), count)
     }
 
-    /// Entries for a SEQUENCE of this many, in the memory of one of another length that is here, or new ones.
+    /// The same with entries for it in the memory of one of another length, where it serves, or new ones.
     #[inline(never)]
-    fn other_entries(&mut self, alloc: Global, count: usize) -> Option<Vec<Option<Value>>>
-        ensures here { taken self.new.here ≡ taken self.old.here }
-        ensures around { self.new.around ≡ self.old.around }
+    fn enter_other(&mut self, alloc: Global, memory: Vec<Option<Value>>, count: usize) -> Option<()>
+        ensures { IsSome result → AreEntries self.old self.new [] }
     {
-        let Value::Seq(entries) = self.here.take() else {
-            return Vec::with_capacity(alloc, count).ok();
+        let items = if memory.capacity() < count {
+            Vec::with_capacity(alloc, count).ok()?
+        } else {
+            let mut items = memory;
+            items.truncate(count);
+            items
         };
-        if entries.capacity() < count {
-            return Vec::with_capacity(alloc, count).ok();
-        }
-        let mut entries = entries;
-        entries.truncate(count);
-        Some(entries)
+        let place = mem::replace(&mut self.here, Place { items, at: 0 });
+        self.around.push(place).ok()
     }
 
     /// Makes room for one more place around.
+    #[cold]
     #[inline(never)]
     fn grow(&mut self) -> Option<()>
         ensures here { self.new.here ≡ self.old.here }
@@ -156,9 +118,8 @@ impl Spare {
             → IsPutIn s self.new (components (components_of es)) }
     {
         let place = self.around.pop()?;
-        let items = mem::replace(&mut self.here.items, place.items);
-        let count = mem::replace(&mut self.here.at, place.at);
-        if count != items.len() {
+        let Place { items, at } = mem::replace(&mut self.here, place);
+        if at != items.len() {
             return None;
         }
         self.here.put_entries(items)
@@ -177,7 +138,7 @@ impl Spare {
 
     /// Lays a SEQUENCE that is kept here, for its memory.
     #[inline(never)]
-    fn lay_kept(&mut self)
+    pub(crate) fn lay_kept(&mut self)
         ensures here { taken self.new.here ≡ taken self.old.here }
         ensures around { self.new.around ≡ self.old.around }
     {
@@ -226,7 +187,7 @@ impl Build for Reused {
 
     ghost listed = { λ s r e es. AreEntries s r es };
 
-    ghost rowed = { λ s r e ds. AreElements s r e ds };
+    ghost rowed = { AreElements };
 
     ghost opened = { λ s r c n. IsBegun s r };
 
@@ -246,12 +207,37 @@ impl Build for Reused {
     }
 
     #[inline(always)]
+    fn takes_strings() -> bool {
+        true
+    }
+
+    #[inline(always)]
+    fn string(room: &mut Spare, fixed: &FixedString, number: u64) -> Option<()> {
+        if fixed.of_octets {
+            room.here.put_low_octets(fixed.length, number)?;
+            return Some(());
+        }
+        room.here.put_low_bits(fixed.length, number)?;
+        Some(())
+    }
+
+    #[inline(always)]
     fn value(room: &mut Spare, value: Value) -> Option<()> {
         match value {
             Value::Bool(is_true) => room.here.put_truth(is_true),
             Value::Int(integer) => room.here.put_integer(integer),
             Value::Enum(position) => room.here.put_item(position),
             other => room.here.put_back(other),
+        }
+    }
+
+    #[inline(always)]
+    fn kept(room: &mut Spare, value: &Value) -> Option<()> {
+        match value {
+            Value::Bool(is_true) => room.here.put_truth(*is_true),
+            Value::Int(integer) => room.here.put_integer(*integer),
+            Value::Enum(position) => room.here.put_item(*position),
+            _ => None,
         }
     }
 
@@ -299,8 +285,7 @@ impl Build for Reused {
 
     #[inline(always)]
     fn element(room: &mut Spare, row: &mut ElementsOver, _part: ()) -> Option<()> {
-        row.add(&mut room.here)?;
-        row.lay_next(room);
+        row.go_on(room)?;
         Some(())
     }
 
@@ -321,7 +306,7 @@ impl Build for Reused {
             return Some(ChoiceOver { inner: None });
         };
         let mut inner = inner;
-        room.here.exchange(&mut *inner);
+        room.here.lay(mem::replace(&mut *inner, Value::Null));
         Some(ChoiceOver { inner: Some(inner) })
     }
 
@@ -336,7 +321,7 @@ impl Build for Reused {
         match chosen.inner {
             Some(inner) => {
                 let mut inner = inner;
-                room.here.exchange(&mut *inner);
+                put_over(room.here.take(), &mut *inner);
                 room.here.put_back(Value::Choice(place as u32, inner))
             }
             None => {

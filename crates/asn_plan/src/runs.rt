@@ -2,10 +2,10 @@
 ghost use Rattle.std.specs.Prelude.{◌≤◌};
 
 use crate::build::Build;
+use crate::fixed::fixed_of;
 use crate::items::{are_ordered, first_in_row};
-use crate::leaves::fixed_of;
 use crate::octets::MOST_OCTETS;
-use crate::plan::{Node, Runs};
+use crate::plan::{Node, Presence, Runs};
 use crate::word::Run;
 use asn_bits::internal::width;
 use asn_oer::internal::fixed_size;
@@ -24,6 +24,8 @@ enum Unit {
     StringBit,
     /// Octets, of numbers alone.
     Octet,
+    /// Octets, of strings of one length too.
+    StringOctet,
 }
 
 impl Unit {
@@ -31,7 +33,7 @@ impl Unit {
     fn most(self) -> u32 {
         match self {
             Unit::Bit | Unit::StringBit => MOST_BITS,
-            Unit::Octet => MOST_OCTETS,
+            Unit::Octet | Unit::StringOctet => MOST_OCTETS,
         }
     }
 }
@@ -71,7 +73,7 @@ pub(crate) fn head_of(first: &[Node], additions: Option<usize>, width: u32) -> R
     }
     let preamble = width + u32::from(additions.is_some());
     let runs = match first.first() {
-        Some(part) => part.run,
+        Some(part) => part.run_if_there(),
         None => Runs::none(),
     };
     Runs {
@@ -101,15 +103,14 @@ fn preamble_and(unit: Unit, preamble: u32, run: u32) -> u32 {
 /// How many units of these components may be taken at once, as far as each has to be there and is told so, or is a SEQUENCE
 /// of components that all have to be there and are told so, of which the first ones may be taken.
 pub(crate) fn run_of(fields: &[Field]) -> Runs {
-    let octets = run_in(Unit::Octet, fields);
     Runs {
         numbers: Run {
             bits: run_in(Unit::Bit, fields),
-            octets,
+            octets: run_in(Unit::Octet, fields),
         },
         strings: Run {
             bits: run_in(Unit::StringBit, fields),
-            octets,
+            octets: run_in(Unit::StringOctet, fields),
         },
     }
 }
@@ -117,7 +118,10 @@ pub(crate) fn run_of(fields: &[Field]) -> Runs {
 /// The same of one kind of unit.
 fn run_in(unit: Unit, fields: &[Field]) -> u32 {
     let mut run = 0;
-    for field in fields {
+    for (at, field) in fields.iter().enumerate() {
+        if at > 0 && !is_always_there(field) {
+            return run;
+        }
         let (all, goes_on) = run_with(unit, run, field);
         run = all;
         if !goes_on {
@@ -130,7 +134,7 @@ fn run_in(unit: Unit, fields: &[Field]) -> u32 {
 /// The run so far with the units of a component, or of a part of it, and whether it has all of them.
 fn run_with(unit: Unit, run: u32, field: &Field) -> (u32, bool) {
     match &field.ty {
-        AsnType::Seq { root, ext: None } if is_row(unit, field, root.as_slice()) => {
+        AsnType::Seq { root, ext: None } if is_row(unit, root.as_slice()) => {
             run_with_row(unit, run, root.as_slice())
         }
         _ => run_with_value(unit, run, field),
@@ -163,18 +167,13 @@ fn run_with_value(unit: Unit, run: u32, field: &Field) -> (u32, bool) {
 
 /// Whether a SEQUENCE with these components has to be there and has one at least, and each has to be there and may be taken
 /// at once.
-fn is_row(unit: Unit, field: &Field, row: &[Field]) -> bool {
-    let Need::Must = &field.need else {
-        return false;
-    };
-    !row.is_empty() && row.iter().all(|part| units_of(unit, part).is_some())
+fn is_row(unit: Unit, row: &[Field]) -> bool {
+    !row.is_empty()
+        && row.iter().all(|part| is_always_there(part) && units_of(unit, part).is_some())
 }
 
 /// How many units tell a component that has to be there, if they may be taken at once.
 fn units_of(unit: Unit, field: &Field) -> Option<u32> {
-    let Need::Must = &field.need else {
-        return None;
-    };
     let units = units_of_value(unit, &field.ty)?;
     if units > unit.most() {
         return None;
@@ -188,16 +187,18 @@ fn units_of_value(unit: Unit, ty: &AsnType) -> Option<u32> {
         AsnType::Bool => Some(1),
         AsnType::Int(bounds) => units_between(unit, bounds),
         AsnType::Enum { root, ext: None } => units_of_items(unit, root.as_slice()),
-        AsnType::Bits(size) | AsnType::Octets(size) if !size.ext => bits_of_string(unit, ty),
+        AsnType::Bits(_) | AsnType::Octets(_) => units_of_string(unit, ty),
         _ => None,
     }
 }
 
-/// How many bits a string has, if it is one of one length and these are counted.
-fn bits_of_string(unit: Unit, ty: &AsnType) -> Option<u32> {
+/// How many units a string has, if it is one of one length and strings are counted.
+fn units_of_string(unit: Unit, ty: &AsnType) -> Option<u32> {
+    let fixed = fixed_of(ty)?;
     match unit {
-        Unit::StringBit => Some(fixed_of(ty)?.bits),
-        Unit::Bit | Unit::Octet => None,
+        Unit::StringBit => Some(fixed.bits),
+        Unit::StringOctet if fixed.octets > 0 => Some(fixed.octets),
+        Unit::Bit | Unit::Octet | Unit::StringOctet => None,
     }
 }
 
@@ -208,7 +209,7 @@ fn units_of_items(unit: Unit, items: &[Item]) -> Option<u32> {
     }
     match unit {
         Unit::Bit | Unit::StringBit => Some(width(items.len() as u128)),
-        Unit::Octet => first_in_row(items).map(|_| 1),
+        Unit::Octet | Unit::StringOctet => first_in_row(items).map(|_| 1),
     }
 }
 
@@ -225,6 +226,21 @@ fn units_between(unit: Unit, bounds: &Bounds) -> Option<u32> {
             let highest = u32::try_from(high.checked_sub(low)?).ok()?;
             Some(width(u128::from(highest) + 1))
         }
-        Unit::Octet => fixed_size(low, high),
+        Unit::Octet | Unit::StringOctet => fixed_size(low, high),
+    }
+}
+
+/// Whether a component has to be there.
+fn is_always_there(field: &Field) -> bool {
+    matches!(&field.need, Need::Must)
+}
+
+impl Node {
+    /// The run from this component on, where it has to be there; else none.
+    fn run_if_there(&self) -> Runs {
+        match &self.presence {
+            Presence::Must => self.run,
+            Presence::Optional | Presence::Default(_) => Runs::none(),
+        }
     }
 }

@@ -16,7 +16,6 @@ use Rattle.asn_bits.proofs.Above.{add_within, test_of_le, le_of_test}
 use Rattle.asn_bits.proofs.FilledBits.{unpacked-packed}
 use Rattle.asn_bits.proofs.LengthsInOctets.{one_is}
 use Rattle.asn_bits.proofs.Octets.{all_octets, length-digits, half, residue, signed_is, packed_octets}
-use Rattle.asn_bits.proofs.Reading.{word_mask}
 use Rattle.asn_bits.proofs.Packing.{bits_zero}
 use Rattle.asn_bits.proofs.Splits.{unpacked-octets, two_pow_octets}
 use Rattle.asn_bits.proofs.Weights.{digits-append}
@@ -152,17 +151,18 @@ offset_is least n w p q l f whole is = go (nat_lt n least) refl
         ap (λ (i : ℕ). i % p) sum ∙ mod-eq_of_lt f
 
 -- the difference as the program has it
-pub offset_held : (least n k : ℕ) → k ≤ 8 → least < 256 ^ k → n < 256 ^ k
-    → (least + bit_and ((n + (18446744073709551616 - least)) % 18446744073709551616) (18446744073709551615 / 2 ^ (64 - 8 * k))) % 256 ^ k ≡ n
-offset_held least n k few l f =
+pub offset_held : (least n k m : ℕ) → k ≤ 8 → m + 1 ≡ 2 ^ (8 * k) → least < 256 ^ k → n < 256 ^ k
+    → (least + bit_and ((n + (18446744073709551616 - least)) % 18446744073709551616) m) % 256 ^ k ≡ n
+offset_held least n k m few highest l f =
     let w = (n + (18446744073709551616 - least)) % 18446744073709551616 in
     let q = 256 ^ (8 - k) - 1 in
     let some : 1 ≤ 256 ^ (8 - k) = one-le-pow (8 - k) 256 (omega arith) in
     let one_more : 256 ^ (8 - k) ≡ suc q = omega (arith, some) in
     let whole : 8 - k + k ≡ 8 = omega (arith, few) in
     let all : 256 ^ (8 - k) * 256 ^ k ≡ 18446744073709551616 = sym (pow-add 256 (8 - k) k) ∙ ap (λ (i : ℕ). 256 ^ i) whole in
-    let masked : bit_and w (18446744073709551615 / 2 ^ (64 - 8 * k)) ≡ w % 256 ^ k =
-    ap (bit_and w) (word_mask (8 * k) (omega (arith, few))) ∙ and_mask w (8 * k) ∙ ap (λ (t : ℕ). w % t) (sym (two_pow_octets k)) in
+    let mask : m ≡ 2 ^ (8 * k) - 1 = omega (arith, highest) in
+    let masked : bit_and w m ≡ w % 256 ^ k =
+    ap (bit_and w) mask ∙ and_mask w (8 * k) ∙ ap (λ (t : ℕ). w % t) (sym (two_pow_octets k)) in
     ap (λ (i : ℕ). (least + i) % 256 ^ k) masked ∙ offset_is least n w (256 ^ k) q l f (subst (λ (i : ℕ). i * 256 ^ k ≡ 18446744073709551616) one_more all) refl
 
 -- the k octets of an integer from low on: those of low, and how far it lies above it

@@ -69,18 +69,13 @@ unmarked_first n m us r fits e = record {
   split = e ∙ ap (λ (t : List ℕ). t ++ r) (sym (flat-ones spelled (bits n m)));
 }
 
-some_additions : (k n : ℕ) → n ≤ bit_of (nat_lt 0 k) → nat_lt 0 n ≡ true → 0 < k
-some_additions zero zero h one = absurd (true≢false (sym one))
-some_additions zero (suc n) h one = absurd (omega (arith, h))
-some_additions (suc k) n h one = omega arith
-
 -- and with one
-pub marked_first : (n k mark m : ℕ) (a : Option ℕ) (us vs r : List ℕ) → a ≡ Some k → mark < 2 → mark ≤ bit_of (nat_lt 0 k)
+pub marked_first : (n k mark m : ℕ) (a : Option ℕ) (us vs r : List ℕ) → a ≡ Some k → mark < 2 → (nat_lt 0 mark ≡ true → 0 < k)
     → us ≡ bits 1 mark ++ vs → m < 2 ^ n → vs ≡ bits n m ++ r
     → Spells per_fields (PreambleOf per_coding n a) (nat_lt 0 mark, m) us r
 marked_first n k mark m a us vs r is one few e fits f =
     let front : us ≡ bit_of (nat_lt 0 mark) ∷ (bits n m ++ r) = e ∙ ap (λ (t : List ℕ). t ++ vs) (bit_first mark one) ∙ ap (λ (t : List ℕ). bit_of (nat_lt 0 mark) ∷ t) f in
-    marked_preamble n a (nat_lt 0 mark, m) us r (record { listed = k; mark = is; some = λ h. some_additions k mark few h; fits = fits; split = front })
+    marked_preamble n a (nat_lt 0 mark, m) us r (record { listed = k; mark = is; some = few; fits = fits; split = front })
 
 -- a BOOLEAN
 pub truth_first : (n : ℕ) (us r : List ℕ) → n < 2 → us ≡ bits 1 n ++ r

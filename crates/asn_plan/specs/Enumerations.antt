@@ -1,5 +1,5 @@
 -- An ENUMERATED whose items stand in the order of their numbers, with what is worked out of them.
-use Rattle.std.specs.Prelude.{◌≡◌, ◌+◌, ◌<◌, ℕ, pos, Bool, true, false, List, [], length}
+use Rattle.std.specs.Prelude.{◌≡◌, ◌+◌, ◌^◌, ◌<◌, ℕ, pos, Bool, true, false, List, [], length}
 use Rattle.asn_values.specs.Profile.{InProfile}
 use Rattle.asn_values.specs.Shape.{Shape, Label, MoreLabels, enumerated, closed_labels, has_more_labels}
 use Rattle.asn_values.specs.View.{shape_of}
@@ -38,4 +38,5 @@ pub record IsEnumeration (e : Enumeration) : Type 0 where
   pub ordered : AreInOrder (root_items_of (shape_of e.ty))
   pub count : e.highest + 1 ≡ length (root_items_of (shape_of e.ty))
   pub bits : e.bits ≡ bit_of (has_more_labels (other_items_of (shape_of e.ty))) + width (length (root_items_of (shape_of e.ty)))
+  pub mask : e.mask + 1 ≡ 2 ^ e.bits
   pub octets : 0 < e.octets → AreInRow e.first (root_items_of (shape_of e.ty))

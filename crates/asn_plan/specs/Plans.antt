@@ -1,11 +1,12 @@
 -- Which types the nodes of a plan stand for, and what the walk of a plan says of units.
-use Rattle.std.specs.Prelude.{◌≡◌, ◌+◌, ◌-◌, ◌*◌, ◌≤◌, ◌<◌, ℕ, zero, suc, List, [], ◌∷◌, ◌++◌, length, take, drop, Option, None, IfSome, Result, Ok, Err, ⊤}
+use Rattle.std.specs.Prelude.{◌≡◌, ◌+◌, ◌-◌, ◌*◌, ◌/◌, ◌%◌, ◌^◌, ◌≤◌, ◌<◌, ℕ, Bool, true, zero, suc, List, [], ◌∷◌, ◌++◌, length, take, drop, Option, Some, None, IfSome, Result, Ok, Err, ⊤}
 use Rattle.asn_values.specs.Datum.{Datum}
 use Rattle.asn_values.specs.Parts.{AreOfProfile}
 use Rattle.asn_values.specs.Profile.{InProfile}
 use Rattle.asn_values.specs.Shape.{Shape, boolean, null, integer, enumerated, bit_string, octet_string, restricted, utf8_string, sequence, sequence_of, choice, Fields, no_fields, field, MoreFields, closed, marked, Demand, must, optional, default, Alternatives, no_alternatives, one_of, MoreAlternatives, closed_choice, marked_choice}
 use Rattle.asn_values.specs.View.{shape_of, datum_of, size_range_of}
 use Rattle.asn_bits.specs.Numbers.{bits}
+use Rattle.asn_bits.specs.Sink.{bit_of}
 use Rattle.asn_rules.specs.Answer.{Ruling, IsEncoding, max_octets}
 use Rattle.asn_rules.specs.Chunks.{Chunk}
 use Rattle.asn_rules.specs.Codec.{Decoded}
@@ -18,8 +19,9 @@ use Rattle.asn_plan.specs.declared.fixed.FixedString.{FixedString}
 use Rattle.asn_plan.specs.Ranged.{ranged}
 use Rattle.asn_plan.specs.Words.{before}
 use Rattle.asn_plan.specs.declared.word.Word.{Word}
-use Rattle.asn_walk.specs.Reading.{Reads, ValuesOf}
+use Rattle.asn_walk.specs.Reading.{Reads, ValuesOf, OthersOf}
 use Rattle.asn_plan.specs.declared.plan.Plan.{Plan}
+use Rattle.asn_plan.specs.declared.plan.WithDefault.{WithDefault}
 use Rattle.asn_plan.specs.declared.plan.Node.{Node}
 use Rattle.asn_plan.specs.declared.plan.Presence.{Presence}
 use Rattle.asn_plan.specs.declared.plan.Presence.TheVariants as presence
@@ -43,6 +45,24 @@ abbrev pub IsPresence : Presence → Demand → Shape → Type 0
 IsPresence presence.Must d t = d ≡ must
 IsPresence presence.Optional d t = d ≡ optional
 IsPresence (presence.Default w) d t = (d ≡ default (datum_of w.default)) × (t ≡ shape_of w.ty)
+
+-- whether a component is there, by the presence bits that are left of a bitmap: one that has to be is, and of any other
+-- the next bit tells it
+abbrev pub IsTold : Presence → Bool → (bitmap left after : ℕ) → Type 0
+IsTold presence.Must b m left after = (b ≡ true) × (after ≡ left)
+IsTold presence.Optional b m left after = (after + 1 ≡ left) × (bit_of b ≡ m / 2 ^ after % 2)
+IsTold (presence.Default w) b m left after = (after + 1 ≡ left) × (bit_of b ≡ m / 2 ^ after % 2)
+
+abbrev pub HasNoDefault : Presence → Type 0
+HasNoDefault presence.Must = ⊤
+HasNoDefault presence.Optional = ⊤
+HasNoDefault (presence.Default w) = ⊥
+
+-- the entry of a component that is absent
+abbrev pub absent_value : Presence → Option Datum
+absent_value presence.Must = None
+absent_value presence.Optional = None
+absent_value (presence.Default w) = Some (datum_of w.default)
 
 -- the nodes from one place up to another
 abbrev pub row : ℕ → ℕ → List Node → List Node
@@ -140,6 +160,13 @@ pub record BuildsNext {P : Type 0} (c : Coding) (built : P → Datum → Type 0)
   pub of_value : built p value
   pub read : Spells c.ruling.fielding (ValuesOf c t) value us vs
 
+-- the same of a component with a DEFAULT, of another value of its type
+pub record BuildsOther {P : Type 0} (c : Coding) (built : P → Datum → Type 0) (w : WithDefault) (p : P) (us vs : List ℕ)
+    : Type 0 where
+  pub value : Datum
+  pub of_value : built p value
+  pub read : Spells c.ruling.fielding (OthersOf c (datum_of w.default) (shape_of w.ty)) value us vs
+
 -- a string of the type, whose bits are those of the number, was read from a word, whatever units stand after it
 pub record TellsString (c : Coding) (t : Shape) (f : FixedString) (n : ℕ) (old new : Word) : Type 0 where
   pub value : Datum
@@ -191,12 +218,6 @@ pub record BuiltUpTo (c : Coding) (P : List (Option Datum) → Type 0) (ns parts
   pub few : left ≤ 64
   pub goes : (root : Fields) → AreOfProfile root → ArePlans ns parts root → count ≡ bitmap_length root
       → (es : List (Option Datum)) × P es × GoesOn c ns rest root count bitmap left us es vs
-
--- from the nodes at one place up to another, entries were read and put after those that were there before
-abbrev pub BuildsRun : (c : Coding) (P N : List (Option Datum) → Type 0) (ns parts : List Node) (from at : ℕ) (us vs : List ℕ) → Type 0
-BuildsRun c P N ns parts from at us vs = (count bitmap left : ℕ) (os : List ℕ)
-    → BuiltUpTo c P ns parts (drop from parts) count bitmap left os us
-    → BuiltUpTo c N ns parts (drop at parts) count bitmap left os vs
 
 -- What fills up an open type field of so many octets is read, where its value takes so many units: the units of the
 -- padding, with which it takes just these octets.

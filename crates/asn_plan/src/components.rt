@@ -1,24 +1,26 @@
 //! The walk of a plan in the components of a SEQUENCE.
-ghost use Rattle.std.specs.Prelude.{◌≡◌, ◌≤◌, ◌++◌, IfSome, IsSome, List, Option, length};
+ghost use Rattle.std.specs.Prelude.{◌≡◌, ◌≤◌, ◌++◌, ◌∷◌, [], IfSome, IsSome, List, Option, length};
 ghost use Rattle.asn_values.specs.Datum.{Datum};
 ghost use Rattle.asn_values.specs.Parts.{AreOfProfile};
 ghost use Rattle.asn_values.specs.Profile.{InProfile};
+ghost use Rattle.asn_values.specs.View.{shape_of};
 ghost use Rattle.asn_values.specs.Shape.{Shape, Fields, MoreFields, demands, sequence, no_fields, more_fields};
 ghost use Rattle.asn_bits.specs.Numbers.{bits};
-ghost use Rattle.asn_rules.specs.Languages.{Spells};
+ghost use Rattle.asn_rules.specs.Languages.{Row, Spells};
 ghost use Rattle.asn_rules.specs.Listed.{bitmap_length};
-ghost use Rattle.asn_walk.specs.Coding.{OpenListed, AdditionsOf, PreambleOf, added};
+ghost use Rattle.asn_walk.specs.Coding.{OpenListed, AdditionsOf, PreambleOf, added as added_to};
+ghost use Rattle.asn_walk.specs.Reading.{ValuesOf};
 ghost use Rattle.asn_walk.specs.Views.{preamble_seen};
 ghost use Rattle.asn_plan.specs.declared.plan.Kind.TheVariants as kind;
-ghost use Rattle.asn_plan.specs.Plans.{IsPlan, ArePlans, Builds, BuildsEntry, BuildsComponents, BuildsMore, BuildsAddition, absents};
+ghost use Rattle.asn_plan.specs.Plans.{IsPlan, ArePlans, ArePlansOfMore, Builds, BuildsNext, BuildsOther, BuildsEntry, BuildsComponents, BuildsRow, BuildsMore, BuildsAddition, absent_value, absents};
 ghost use Rattle.asn_plan.specs.Words.{before};
 
 use crate::build::Build;
 use crate::copies::copy_default;
 use crate::leaves::read_other;
 use crate::open::build_open;
-use crate::packed::{build_run, fill};
-use crate::plan::{ComponentRows, Node, Presence};
+use crate::packed::{build_next, build_other_number, fill};
+use crate::plan::{ComponentRows, Node, Presence, WithDefault};
 use crate::rules::PlanLeaves;
 use crate::walk::build_at;
 use crate::word::Word;
@@ -49,28 +51,83 @@ pub(crate) fn build_sequence<R: PlanLeaves, B: Build>(
         let empty = build_empty::<R, B>(alloc, parts.additions, units, room)?;
         return Some(empty);
     }
-    if parts.width > 64 {
+    let before = &nodes[..parts.begin];
+    let root = &nodes[parts.begin..parts.middle];
+    let added = &nodes[parts.middle..parts.end];
+    build_parts::<R, B>(alloc, before, root, added, parts, units, room)
+}
+
+/// What is built of the elements that are SEQUENCEs with these components, with which the units begin, and which are taken.
+#[inline(always)]
+#[cycle(walk)]
+pub(crate) fn build_sequences<R: PlanLeaves, B: Build>(
+    alloc: Global,
+    nodes: &[Node],
+    parts: &ComponentRows,
+    count: usize,
+    row: &mut B::Elements,
+    units: &mut BitCursor<'_>,
+    room: &mut B::Room,
+) -> Option<()>
+    requires at_unit { R.rules.at_unit units.old }
+    ensures at_unit { IsSome result → R.rules.at_unit units.new }
+    ensures some { IsSome result → (s : B.Room) → (t : Shape) → InProfile t → IsPlan nodes.now t (kind.Sequence parts.now)
+        → BuildsRow R.rules (B.rowed s room.old row.old) (B.rowed s room.new row.new) (Row (ValuesOf R.rules t) count)
+        (R.rules.to_units units.old) (R.rules.to_units units.new) }
+{
+    if parts.begin >= parts.middle || parts.middle > parts.end || parts.end > nodes.len() {
         return None;
     }
     let before = &nodes[..parts.begin];
     let root = &nodes[parts.begin..parts.middle];
     let added = &nodes[parts.middle..parts.end];
+    for i in 0..count {
+        let value = build_parts::<R, B>(alloc, before, root, added, parts, units, room)?;
+        B::element(room, row, value)?;
+    }
+    Some(())
+}
+
+/// What is built of the SEQUENCE with these components and extension additions with which the units begin, and which is
+/// taken.
+#[inline(always)]
+#[cycle(walk)]
+fn build_parts<R: PlanLeaves, B: Build>(
+    alloc: Global,
+    nodes: &[Node],
+    root: &[Node],
+    added: &[Node],
+    parts: &ComponentRows,
+    units: &mut BitCursor<'_>,
+    room: &mut B::Room,
+) -> Option<B::Part>
+    requires at_unit { R.rules.at_unit units.old }
+    ensures at_unit { IsSome result → R.rules.at_unit units.new }
+    ensures some { IfSome result (λ p. (fields : Fields) (more : MoreFields) → InProfile (sequence fields more)
+        → ArePlans nodes.now root.now fields → ArePlansOfMore nodes.now added.now more
+        → parts.now.width ≡ bitmap_length fields → parts.now.additions ≡ added_to more
+        → Builds R.rules (B.built room.old room.new) (sequence fields more) p units.old units.new) }
+{
+    R::keep_laws();
+    if parts.width > 64 {
+        return None;
+    }
     let mut word = R::take_word(parts.head.of::<B>(), units);
-    let preamble = read_preamble::<R>(parts.width, parts.additions, &mut word, units)?;
+    let preamble = read_preamble::<R>(parts, &mut word, units)?;
     let presence = PresenceBits {
         bitmap: preamble.bitmap,
         left: parts.width,
     };
-    let count = parts.end - parts.begin;
+    let count = root.len() + added.len();
     let mut entries = build_components::<R, B>(
-        alloc, before, root, presence, word, count, units, room,
+        alloc, nodes, root, presence, word, count, units, room,
     )?;
     if !preamble.extended {
-        add_absent::<B>(added, &mut entries, room)?;
+        add_absents::<B>(added, &mut entries, room)?;
         let whole = B::sequence(room, entries)?;
         return Some(whole);
     }
-    build_additions::<R, B>(alloc, before, added, &mut entries, units, room)?;
+    build_additions::<R, B>(alloc, nodes, added, &mut entries, units, room)?;
     let part = B::sequence(room, entries)?;
     Some(part)
 }
@@ -79,22 +136,21 @@ pub(crate) fn build_sequence<R: PlanLeaves, B: Build>(
 /// bits, from the word, where one was taken.
 #[inline(always)]
 fn read_preamble<R: PlanLeaves>(
-    count: u32,
-    additions: Option<usize>,
+    parts: &ComponentRows,
     word: &mut Word,
     units: &mut BitCursor<'_>,
 ) -> Option<Preamble>
     requires at_unit { R.rules.at_unit units.old }
-    requires few { count ≤ 64 }
+    requires few { parts.now.width ≤ 64 }
     ensures at_unit { IsSome result → R.rules.at_unit units.new }
     ensures some { IfSome result (λ p.
-        Spells R.rules.ruling.fielding (PreambleOf R.rules count additions) (preamble_seen p)
+        Spells R.rules.ruling.fielding (PreambleOf R.rules parts.now.width parts.now.additions) (preamble_seen p)
         (before R.rules word.old (R.rules.to_units units.old)) (before R.rules word.new (R.rules.to_units units.new))) }
 {
     if !word.is_empty() {
-        return R::next_preamble(count, additions, word);
+        return R::next_preamble(parts.width, parts.mask, parts.additions, word);
     }
-    let Ok(preamble) = R::read_preamble(count, additions, units) else {
+    let Ok(preamble) = R::read_preamble(parts.width, parts.additions, units) else {
         return None;
     };
     Some(preamble)
@@ -112,7 +168,7 @@ fn build_empty<R: PlanLeaves, B: Build>(
     requires at_unit { R.rules.at_unit units.old }
     ensures at_unit { IsSome result → R.rules.at_unit units.new }
     ensures some { IfSome result (λ p. (more : MoreFields) → InProfile (sequence no_fields more)
-        → more_fields more ≡ no_fields → additions ≡ added more
+        → more_fields more ≡ no_fields → additions ≡ added_to more
         → Builds R.rules (B.built room.old room.new) (sequence no_fields more) p units.old units.new) }
 {
     R::keep_laws();
@@ -152,25 +208,19 @@ fn build_components<R: PlanLeaves, B: Build>(
     let mut presence = presence;
     let mut word = word;
     let mut entries = B::entries(alloc, room, count)?;
-    let mut at = 0;
-    while at < parts.len() {
-        let part = &parts[at];
-        fill::<R>(part.run.of::<B>(), &mut word, units);
-        if !word.is_empty() {
-            at = build_run::<R, B>(
-                alloc,
-                nodes,
-                parts,
-                at,
-                &mut word,
-                &mut entries,
-                units,
-                room,
-            )?;
-        } else {
-            build_component::<R, B>(alloc, nodes, part, &mut presence, &mut entries, units, room)?;
-            at += 1;
-        }
+    let mut rest = parts;
+    while let Some((part, others)) = rest.split_first() {
+        build_component::<R, B>(
+            alloc,
+            nodes,
+            part,
+            &mut presence,
+            &mut word,
+            &mut entries,
+            units,
+            room,
+        )?;
+        rest = others;
     }
     if !word.is_empty() {
         return None;
@@ -186,6 +236,7 @@ fn build_component<R: PlanLeaves, B: Build>(
     nodes: &[Node],
     part: &Node,
     presence: &mut PresenceBits,
+    word: &mut Word,
     entries: &mut B::Entries,
     units: &mut BitCursor<'_>,
     room: &mut B::Room,
@@ -197,37 +248,86 @@ fn build_component<R: PlanLeaves, B: Build>(
     ensures some { IsSome result → (s : B.Room)
         → BuildsEntry R.rules (B.listed s room.old entries.old) (B.listed s room.new entries.new)
         nodes.now part.now presence.old.bitmap presence.old.left presence.new.left
-        (R.rules.to_units units.old) (R.rules.to_units units.new) }
+        (before R.rules word.old (R.rules.to_units units.old)) (before R.rules word.new (R.rules.to_units units.new)) }
 {
-    match &part.presence {
-        Presence::Must => {
-            let value = build_at::<R, B>(alloc, nodes, &part.kind, units, room)?;
-            B::present(room, entries, value)
-        }
-        Presence::Optional => {
-            if presence.left == 0 {
-                return None;
-            }
-            if !presence.next() {
-                return B::absent(room, entries);
-            }
-            let value = build_at::<R, B>(alloc, nodes, &part.kind, units, room)?;
-            B::present(room, entries, value)
-        }
-        Presence::Default(with_default) => {
-            if presence.left == 0 {
-                return None;
-            }
-            if !presence.next() {
-                let default = copy_default(&with_default.default)?;
-                let absent = B::value(room, default)?;
-                return B::present(room, entries, absent);
-            }
-            let value = read_other::<R>(with_default, units)?;
-            let part = B::value(room, value)?;
-            B::present(room, entries, part)
-        }
+    let is_there = part.presence.next_in(presence)?;
+    if !is_there {
+        return add_absent::<B>(&part.presence, entries, room);
     }
+    if let Some(with_default) = part.presence.with_default() {
+        let other = build_other::<R, B>(nodes, part, with_default, word, units, room)?;
+        return B::present(room, entries, other);
+    }
+    let value = build_value::<R, B>(alloc, nodes, part, word, units, room)?;
+    B::present(room, entries, value)
+}
+
+/// Adds the entry of a component that is absent: it has its DEFAULT value, if there is one.
+#[inline(always)]
+fn add_absent<B: Build>(
+    presence: &Presence,
+    entries: &mut B::Entries,
+    room: &mut B::Room,
+) -> Option<()>
+    ensures { IsSome result → (s : B.Room) (es : List (Option Datum)) → B.listed s room.old entries.old es
+        → B.listed s room.new entries.new (es ++ absent_value presence.now ∷ []) }
+{
+    let Some(with_default) = presence.with_default() else {
+        return B::absent(room, entries);
+    };
+    let default = copy_default(&with_default.default)?;
+    let absent = B::value(room, default)?;
+    B::present(room, entries, absent)
+}
+
+/// What is built of the value of a component that is there, which is taken from the word, or where it does not stand in
+/// one from the units.
+#[inline(always)]
+#[cycle(walk)]
+fn build_value<R: PlanLeaves, B: Build>(
+    alloc: Global,
+    nodes: &[Node],
+    part: &Node,
+    word: &mut Word,
+    units: &mut BitCursor<'_>,
+    room: &mut B::Room,
+) -> Option<B::Part>
+    requires at_unit { R.rules.at_unit units.old }
+    ensures at_unit { IsSome result → R.rules.at_unit units.new }
+    ensures some { IfSome result (λ p. (t : Shape) → InProfile t → IsPlan nodes.now t part.now.kind
+        → BuildsNext R.rules (B.built room.old room.new) t p
+        (before R.rules word.old (R.rules.to_units units.old)) (before R.rules word.new (R.rules.to_units units.new))) }
+{
+    fill::<R>(part.run.of::<B>(), word, units);
+    if word.is_empty() {
+        return build_at::<R, B>(alloc, nodes, &part.kind, units, room);
+    }
+    build_next::<R, B>(alloc, nodes, &part.kind, word, units, room)
+}
+
+/// What is built of the value of a component that is there though it has this DEFAULT, and is then another one.
+#[inline(always)]
+fn build_other<R: PlanLeaves, B: Build>(
+    nodes: &[Node],
+    part: &Node,
+    with_default: &WithDefault,
+    word: &mut Word,
+    units: &mut BitCursor<'_>,
+    room: &mut B::Room,
+) -> Option<B::Part>
+    requires at_unit { R.rules.at_unit units.old }
+    ensures at_unit { IsSome result → R.rules.at_unit units.new }
+    ensures some { IfSome result (λ p. IsPlan nodes.now (shape_of with_default.now.ty) part.now.kind
+        → BuildsOther R.rules (B.built room.old room.new) with_default.now p
+        (before R.rules word.old (R.rules.to_units units.old)) (before R.rules word.new (R.rules.to_units units.new))) }
+{
+    fill::<R>(part.run.of::<B>(), word, units);
+    if !word.is_empty() {
+        return build_other_number::<R, B>(nodes, &part.kind, with_default, word, room);
+    }
+    let value = read_other::<R>(with_default, units)?;
+    let other = B::value(room, value)?;
+    Some(other)
 }
 
 /// Adds the entries of extension additions, of which one at least is present, with whose presence bitmap the units
@@ -325,7 +425,7 @@ fn build_addition<R: PlanLeaves, B: Build>(
 
 /// Adds the entry of an absent component for each of these.
 #[inline(always)]
-fn add_absent<B: Build>(parts: &[Node], entries: &mut B::Entries, room: &mut B::Room) -> Option<()>
+fn add_absents<B: Build>(parts: &[Node], entries: &mut B::Entries, room: &mut B::Room) -> Option<()>
     ensures { IsSome result → (s : B.Room) (es : List (Option Datum)) → B.listed s room.old entries.old es
         → B.listed s room.new entries.new (es ++ absents (length parts.now)) }
 {

@@ -1,5 +1,5 @@
 //! What the rules read by themselves, for one node of a plan.
-ghost use Rattle.std.specs.Prelude.{◌≡◌, ◌≤◌, ◌<◌, ◌^◌, ◌≤ℤ◌, ◌<ℤ◌, pos, Some, IfSome, IsNone, IsSome, true, false};
+ghost use Rattle.std.specs.Prelude.{◌≡◌, ◌*◌, ◌+◌, ◌≤◌, ◌<◌, ◌^◌, ◌≤ℤ◌, ◌<ℤ◌, pos, Some, IfSome, IsNone, IsSome, true, false};
 ghost use Rattle.asn_bits.specs.Numbers.{magnitude};
 ghost use Rattle.asn_oer.specs.FixedSizes.{fixed_size};
 ghost use Rattle.asn_values.specs.Fits.{lowest_integer, highest_integer};
@@ -266,34 +266,55 @@ pub(crate) fn between_of(bounds: &Bounds) -> Option<Between>
     if bits > 64 {
         return None;
     }
-    let (octets, least) = in_octets(bounds.ext, low, high);
+    let in_octets = octets_between(bounds.ext, low, high);
     let range = Ranged {
         low,
         high,
         marked: bounds.ext,
         highest: highest as u64,
         bits,
-        octets,
-        least,
+        mask: greatest_of_width(bits),
+        octets: in_octets.count,
+        octet_mask: in_octets.mask,
+        least: in_octets.least,
     };
     Some(Between { range })
 }
 
-/// How many octets each number between two bounds has by OER, where it is one count for all of them, and what these hold of
-/// the low bound; else 0 and 0.
-fn in_octets(marked: bool, low: i128, high: i128) -> (u32, u64)
+/// The octets by which OER tells a number between two bounds.
+#[derive(Clone, Copy)]
+struct InOctets {
+    /// How many they are, where it is one count for all numbers; else 0.
+    count: u32,
+    /// The highest number of so many octets.
+    mask: u64,
+    /// What they hold of the low bound.
+    least: u64,
+}
+
+/// The octets by which OER tells a number between these bounds; no octets, where it is not one count for all of them.
+fn octets_between(marked: bool, low: i128, high: i128) -> InOctets
     requires order { low ≤ℤ high }
     requires low { lowest_integer ≤ℤ low }
     requires high { high ≤ℤ highest_integer }
-    ensures { 0 < result.0 → (marked ≡ false) × (fixed_size low high ≡ Some result.0)
-        × (result.1 ≡ held_in result.0 low) }
+    ensures { 0 < result.count → (marked ≡ false) × (fixed_size low high ≡ Some result.count)
+        × (result.mask + 1 ≡ 2 ^ (8 * result.count)) × (result.least ≡ held_in result.count low) }
 {
+    let none = InOctets {
+        count: 0,
+        mask: 0,
+        least: 0,
+    };
     if marked {
-        return (0, 0);
+        return none;
     }
     match fixed_size(low, high) {
-        Some(octets) => (octets, held_in(octets, low)),
-        None => (0, 0),
+        Some(count) => InOctets {
+            count,
+            mask: greatest_of_width(8 * count),
+            least: held_in(count, low),
+        },
+        None => none,
     }
 }
 

@@ -20,6 +20,7 @@ mod packed;
 mod place;
 mod plan;
 mod planned;
+mod presence;
 mod ranged;
 mod reused;
 mod rules;

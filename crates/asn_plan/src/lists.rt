@@ -9,6 +9,7 @@ ghost use Rattle.asn_plan.specs.declared.plan.Kind.TheVariants as kind;
 ghost use Rattle.asn_plan.specs.Plans.{IsPlan, Builds, BuildsList, BuildsRow};
 
 use crate::build::Build;
+use crate::components::build_sequences;
 use crate::plan::{ElementRow, Kind, Node};
 use crate::rules::PlanLeaves;
 use crate::walk::build_at;
@@ -94,6 +95,9 @@ fn build_elements<R: PlanLeaves, B: Build>(
         → BuildsRow R.rules (B.rowed s room.old row.old) (B.rowed s room.new row.new) (Row (ValuesOf R.rules t) count)
         (R.rules.to_units units.old) (R.rules.to_units units.new) }
 {
+    if let Kind::Sequence(parts) = kind {
+        return build_sequences::<R, B>(alloc, nodes, parts, count, row, units, room);
+    }
     for i in 0..count {
         let value = build_at::<R, B>(alloc, nodes, kind, units, room)?;
         B::element(room, row, value)?;

@@ -1,5 +1,5 @@
 //! What a plan reads by OER: values by what was worked out of their types once, from octets that were taken at once.
-ghost use Rattle.std.specs.Prelude.{◌≡◌, ◌≤◌, ◌<◌, ◌+◌, ◌%◌, ◌^◌, None, IfSome, IsNone};
+ghost use Rattle.std.specs.Prelude.{◌≡◌, ◌*◌, ◌≤◌, ◌<◌, ◌+◌, ◌%◌, ◌^◌, None, IfSome, IsNone};
 ghost use Rattle.asn_values.specs.Datum.{number};
 ghost use Rattle.asn_rules.specs.Listed.{Spelt};
 ghost use Rattle.asn_rules.specs.OctetReading.{AtOctet, ReadsOctets};
@@ -34,10 +34,15 @@ impl PlanLeaves for Oer {
 
     /// The zeros after the bits fill up the last octet.
     #[inline(always)]
-    fn next_preamble(count: u32, additions: Option<usize>, word: &mut Word) -> Option<Preamble> {
+    fn next_preamble(
+        count: u32,
+        mask: u64,
+        additions: Option<usize>,
+        word: &mut Word,
+    ) -> Option<Preamble> {
         let (marks, most) = marks(additions);
         let mark = word.take(marks)?;
-        let bitmap = word.take(count)?;
+        let bitmap = word.take_below(count, mask)?;
         let unused = word.take((8 - (marks + count) % 8) % 8)?;
         if mark > most || unused > 0 {
             return None;
@@ -53,8 +58,8 @@ impl PlanLeaves for Oer {
         if range.octets == 0 || range.octets > MOST_OCTETS {
             return None;
         }
-        let octets = word.take(8 * range.octets)?;
-        let offset = offset_from(range.least, octets, range.octets);
+        let octets = word.take_below(8 * range.octets, range.octet_mask)?;
+        let offset = offset_from(range.least, octets, range.octets, range.octet_mask);
         if offset > range.highest {
             return None;
         }
@@ -125,14 +130,16 @@ fn try_apart(range: &Ranged, units: &mut BitCursor<'_>) -> Option<i128>
     Some(at_offset(LOWEST_INTEGER, offset))
 }
 
-/// How far an integer lies above the low bound, of which `count` octets hold `octets` and `least`, where it is no lower.
+/// How far an integer lies above the low bound, of which `count` octets hold `octets` and `least`, where it is no lower;
+/// `mask` is the highest number of so many octets.
 #[inline(always)]
-fn offset_from(least: u64, octets: u64, count: u32) -> u64
+fn offset_from(least: u64, octets: u64, count: u32, mask: u64) -> u64
     requires some { 1 ≤ count }
     requires few { count ≤ 8 }
+    requires mask { mask + 1 ≡ 2 ^ (8 * count) }
     requires least { least < 256 ^ count }
     requires octets { octets < 256 ^ count }
     ensures { (least + result) % 256 ^ count ≡ octets }
 {
-    octets.wrapping_sub(least) & u64::MAX >> (64 - 8 * count)
+    octets.wrapping_sub(least) & mask
 }

@@ -18,6 +18,7 @@ use crate::plan::{
     AlternativeRows, ComponentRows, ElementRow, Kind, Leaf, Node, Plan, Presence, Runs, WithDefault,
 };
 use crate::runs::{head_of, run_of};
+use asn_rules::internal::greatest_of_width;
 use asn_values::{Alt, AsnType, Checked, Field, Need, Size};
 use asn_walk::bitmap_width;
 use std::alloc::{AllocError, Global};
@@ -130,6 +131,7 @@ fn place_components(
         end,
         additions,
         width,
+        mask: greatest_of_width(width.min(64)),
         head,
     }))
 }

@@ -3,77 +3,40 @@ ghost use Rattle.std.specs.Prelude.{◌≡◌, ◌≤◌, ◌<◌, ℕ, List, If
 ghost use Rattle.asn_values.specs.Profile.{InProfile};
 ghost use Rattle.asn_values.specs.Parts.{AreOfProfile};
 ghost use Rattle.asn_values.specs.Shape.{Shape, Fields};
+ghost use Rattle.asn_values.specs.View.{shape_of};
 ghost use Rattle.asn_rules.specs.Listed.{bitmap_length};
 ghost use Rattle.asn_plan.specs.declared.plan.Kind.TheVariants as kind;
-ghost use Rattle.asn_plan.specs.declared.plan.Presence.TheVariants as presence;
-ghost use Rattle.asn_plan.specs.Plans.{IsPlan, ArePlans, BuildsNext, BuildsNumbers, BuildsRun};
+ghost use Rattle.asn_plan.specs.Plans.{IsPlan, ArePlans, BuildsNext, BuildsNumbers, BuildsOther};
 ghost use Rattle.asn_plan.specs.Words.{before};
 
 use crate::build::Build;
-use crate::plan::{ComponentRows, Kind, Node, Presence};
+use crate::plan::{ComponentRows, Kind, Node, Presence, WithDefault};
 use crate::rules::PlanLeaves;
 use crate::word::{Run, Word};
 use asn_bits::BitCursor;
+use asn_values::Value;
 use std::alloc::Global;
 
-/// Adds the entries of components from the one at this place on, which are taken from a word until no bit of it is left,
-/// and gives the place of the component after them. `None` where these do not stand in it.
+/// What is built of the value of a component, which is taken from a word. `None` where none stands in it.
 #[inline(always)]
-pub(crate) fn build_run<R: PlanLeaves, B: Build>(
+pub(crate) fn build_next<R: PlanLeaves, B: Build>(
     alloc: Global,
     nodes: &[Node],
-    parts: &[Node],
-    from: usize,
-    word: &mut Word,
-    entries: &mut B::Entries,
-    units: &mut BitCursor<'_>,
-    room: &mut B::Room,
-) -> Option<usize>
-    requires at_unit { R.rules.at_unit units.old }
-    ensures at_unit { IsSome result → R.rules.at_unit units.new }
-    ensures on { IfSome result (λ at. from < at) }
-    ensures within { IfSome result (λ at. at ≤ length parts.now) }
-    ensures some { IfSome result (λ at. (s : B.Room) → BuildsRun R.rules
-        (B.listed s room.old entries.old) (B.listed s room.new entries.new) nodes.now parts.now from at
-        (before R.rules word.old (R.rules.to_units units.old)) (before R.rules word.new (R.rules.to_units units.new))) }
-{
-    let mut at = from;
-    while at < parts.len() {
-        let value = build_next::<R, B>(alloc, nodes, &parts[at], word, units, room)?;
-        B::present(room, entries, value)?;
-        at += 1;
-        if word.is_empty() {
-            return Some(at);
-        }
-    }
-    None
-}
-
-/// What is built of the value of a component that has to be there, which is taken from a word. `None` where none stands
-/// in it.
-#[inline(always)]
-fn build_next<R: PlanLeaves, B: Build>(
-    alloc: Global,
-    nodes: &[Node],
-    part: &Node,
+    kind: &Kind,
     word: &mut Word,
     units: &mut BitCursor<'_>,
     room: &mut B::Room,
 ) -> Option<B::Part>
     requires at_unit { R.rules.at_unit units.old }
     ensures at_unit { IsSome result → R.rules.at_unit units.new }
-    ensures must { IsSome result → part.now.presence ≡ presence.Must }
-    ensures some { IfSome result (λ p. (t : Shape) → InProfile t → IsPlan nodes.now t part.now.kind
+    ensures some { IfSome result (λ p. (t : Shape) → InProfile t → IsPlan nodes.now t kind.now
         → BuildsNext R.rules (B.built room.old room.new) t p
         (before R.rules word.old (R.rules.to_units units.old)) (before R.rules word.new (R.rules.to_units units.new))) }
 {
-    let Presence::Must = &part.presence else {
-        return None;
-    };
-    match &part.kind {
-        Kind::Sequence(parts) => build_row::<R, B>(alloc, nodes, parts, word, units, room),
-        _ => build_number::<R, B>(nodes, part, word, room),
+    if let Kind::Sequence(parts) = kind {
+        return build_row::<R, B>(alloc, nodes, parts, word, units, room);
     }
+    build_number::<R, B>(nodes, kind, word, room)
 }
 
 /// What is built of a SEQUENCE of numbers, each of which has to be there, which is taken from a word. `None` where none
@@ -100,7 +63,7 @@ fn build_row<R: PlanLeaves, B: Build>(
     if rows.width > 0 || rows.additions.is_some() {
         return None;
     }
-    let preamble = R::next_preamble(0, None, word)?;
+    let preamble = R::next_preamble(0, 0, None, word)?;
     if preamble.extended {
         return None;
     }
@@ -129,12 +92,14 @@ fn build_numbers<R: PlanLeaves, B: Build>(
         (before R.rules word.old (R.rules.to_units units.old)) (before R.rules word.new (R.rules.to_units units.new))) }
 {
     let mut entries = B::entries(alloc, room, parts.len())?;
-    for part in parts {
+    let mut rest = parts;
+    while let Some((part, others)) = rest.split_first() {
+        rest = others;
         let Presence::Must = &part.presence else {
             return None;
         };
         fill::<R>(part.run.of::<B>(), word, units);
-        let value = build_number::<R, B>(nodes, part, word, room)?;
+        let value = build_number::<R, B>(nodes, &part.kind, word, room)?;
         B::present(room, &mut entries, value)?;
     }
     Some(entries)
@@ -158,19 +123,19 @@ pub(crate) fn fill<R: PlanLeaves>(run: Run, word: &mut Word, units: &mut BitCurs
 #[inline(always)]
 fn build_number<R: PlanLeaves, B: Build>(
     nodes: &[Node],
-    part: &Node,
+    kind: &Kind,
     word: &mut Word,
     room: &mut B::Room,
 ) -> Option<B::Part>
-    ensures { IfSome result (λ p. (t : Shape) (us : List ℕ) → InProfile t → IsPlan nodes.now t part.now.kind
+    ensures { IfSome result (λ p. (t : Shape) (us : List ℕ) → InProfile t → IsPlan nodes.now t kind.now
         → BuildsNext R.rules (B.built room.old room.new) t p (before R.rules word.old us) (before R.rules word.new us)) }
 {
-    match &part.kind {
-        Kind::Number(number) => {
-            let integer = R::next_ranged(&number.range, word)?;
-            let part = B::number(room, integer)?;
-            Some(part)
-        }
+    if let Kind::Number(number) = kind {
+        let integer = R::next_ranged(&number.range, word)?;
+        let part = B::number(room, integer)?;
+        return Some(part);
+    }
+    match kind {
         Kind::Truth => {
             let is_true = R::next_truth(word)?;
             let part = B::truth(room, is_true)?;
@@ -189,6 +154,48 @@ fn build_number<R: PlanLeaves, B: Build>(
             let part = B::string(room, fixed, number)?;
             Some(part)
         }
-        Kind::Sequence(_) | Kind::List(_) | Kind::Choice(_) => None,
+        Kind::Number(_) | Kind::Sequence(_) | Kind::List(_) | Kind::Choice(_) => None,
+    }
+}
+
+/// The same of a component that is present though it has this DEFAULT, which is then another value.
+#[inline(always)]
+pub(crate) fn build_other_number<R: PlanLeaves, B: Build>(
+    nodes: &[Node],
+    kind: &Kind,
+    with_default: &WithDefault,
+    word: &mut Word,
+    room: &mut B::Room,
+) -> Option<B::Part>
+    ensures { IfSome result (λ p. (us : List ℕ) → IsPlan nodes.now (shape_of with_default.now.ty) kind.now
+        → BuildsOther R.rules (B.built room.old room.new) with_default.now p
+        (before R.rules word.old us) (before R.rules word.new us)) }
+{
+    match (kind, &with_default.default) {
+        (Kind::Number(number), Value::Int(default)) => {
+            let integer = R::next_ranged(&number.range, word)?;
+            if integer == *default {
+                return None;
+            }
+            let part = B::number(room, integer)?;
+            Some(part)
+        }
+        (Kind::Truth, Value::Bool(default)) => {
+            let is_true = R::next_truth(word)?;
+            if is_true == *default {
+                return None;
+            }
+            let part = B::truth(room, is_true)?;
+            Some(part)
+        }
+        (Kind::Item(items), Value::Enum(default)) => {
+            let position = R::next_item(&items.of, word)?;
+            if position == *default {
+                return None;
+            }
+            let part = B::item(room, position)?;
+            Some(part)
+        }
+        _ => None,
     }
 }

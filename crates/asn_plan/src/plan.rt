@@ -1,5 +1,5 @@
 //! The nodes of a plan.
-ghost use Rattle.std.specs.Prelude.{◌≡◌, true};
+ghost use Rattle.std.specs.Prelude.{◌≡◌, ◌+◌, ◌^◌, ◌≤◌, true};
 ghost use Rattle.asn_values.specs.Profile.{InProfile, good_default};
 ghost use Rattle.asn_values.specs.View.{shape_of, datum_of, size_range_of};
 ghost use Rattle.asn_plan.specs.Enumerations.{IsEnumeration};
@@ -67,8 +67,11 @@ pub struct ComponentRows {
     pub additions: Option<usize>,
     /// How many presence bits the root has.
     pub width: u32,
+    /// The highest number of so many bits, where these are no more than 64.
+    pub mask: u64,
     /// The units of the extension bit and the presence bits, and the runs of the first component.
     pub head: Runs,
+    ghost is_mask: { width ≤ 64 → mask + 1 ≡ 2 ^ width },
 }
 
 /// How many elements a SEQUENCE OF has, and where the node of their type stands among those of the plan, counted from

@@ -1,5 +1,5 @@
 //! Encoding rules by which a plan is read.
-ghost use Rattle.std.specs.Prelude.{◌≡◌, ◌≤◌, ◌%◌, ◌++◌, ℕ, List, IfSome, IsNone, true};
+ghost use Rattle.std.specs.Prelude.{◌≡◌, ◌^◌, ◌+◌, ◌≤◌, ◌%◌, ◌++◌, ℕ, List, IfSome, IsNone, true};
 ghost use Rattle.asn_values.specs.Datum.{truth, number, item};
 ghost use Rattle.asn_values.specs.Profile.{InProfile};
 ghost use Rattle.asn_values.specs.Shape.{Shape, boolean};
@@ -43,8 +43,14 @@ pub trait PlanLeaves: ReadLeaves {
 
     /// Reads the extension bit, where there is an extension mark with this many additions, and a presence bitmap of
     /// `count` bits from a word; `None` where they do not stand in it.
-    fn next_preamble(count: u32, additions: Option<usize>, word: &mut Word) -> Option<Preamble>
+    fn next_preamble(
+        count: u32,
+        mask: u64,
+        additions: Option<usize>,
+        word: &mut Word,
+    ) -> Option<Preamble>
         requires few { count ≤ 64 }
+        requires mask { mask + 1 ≡ 2 ^ count }
         ensures some { IfSome result (λ p. (us : List ℕ)
             → Spells Self.rules.ruling.fielding (PreambleOf Self.rules count additions) (preamble_seen p)
             (before Self.rules word.old us) (before Self.rules word.new us)) };
@@ -127,20 +133,24 @@ impl PlanLeaves for Per {
     }
 
     #[inline(always)]
-    fn next_preamble(count: u32, additions: Option<usize>, word: &mut Word) -> Option<Preamble> {
+    fn next_preamble(
+        count: u32,
+        mask: u64,
+        additions: Option<usize>,
+        word: &mut Word,
+    ) -> Option<Preamble> {
         let Some(listed) = additions else {
-            let alone = word.take(count)?;
+            let alone = word.take_below(count, mask)?;
             return Some(Preamble {
                 extended: false,
                 bitmap: alone,
             });
         };
         let mark = word.take(1)?;
-        let most = u64::from(listed > 0);
-        if mark > most {
+        if mark > 0 && listed == 0 {
             return None;
         }
-        let bitmap = word.take(count)?;
+        let bitmap = word.take_below(count, mask)?;
         Some(Preamble {
             extended: mark > 0,
             bitmap,
@@ -149,7 +159,7 @@ impl PlanLeaves for Per {
 
     #[inline(always)]
     fn next_ranged(range: &Ranged, word: &mut Word) -> Option<i128> {
-        let offset = word.take(range.bits)?;
+        let offset = word.take_below(range.bits, range.mask)?;
         if offset > range.highest {
             return None;
         }
@@ -164,7 +174,7 @@ impl PlanLeaves for Per {
 
     #[inline(always)]
     fn next_item(items: &Enumeration, word: &mut Word) -> Option<u32> {
-        let index = word.take(items.bits)?;
+        let index = word.take_below(items.bits, items.mask)?;
         let last = u64::from(items.highest);
         if index > last {
             return None;

@@ -71,7 +71,7 @@ pub(crate) fn head_of(first: &[Node], additions: Option<usize>, width: u32) -> R
     }
     let preamble = width + u32::from(additions.is_some());
     let runs = match first.first() {
-        Some(part) => part.run,
+        Some(part) => part.run_if_there(),
         None => Runs::none(),
     };
     Runs {
@@ -117,7 +117,10 @@ pub(crate) fn run_of(fields: &[Field]) -> Runs {
 /// The same of one kind of unit.
 fn run_in(unit: Unit, fields: &[Field]) -> u32 {
     let mut run = 0;
-    for field in fields {
+    for (at, field) in fields.iter().enumerate() {
+        if at > 0 && !is_always_there(field) {
+            return run;
+        }
         let (all, goes_on) = run_with(unit, run, field);
         run = all;
         if !goes_on {
@@ -130,7 +133,7 @@ fn run_in(unit: Unit, fields: &[Field]) -> u32 {
 /// The run so far with the units of a component, or of a part of it, and whether it has all of them.
 fn run_with(unit: Unit, run: u32, field: &Field) -> (u32, bool) {
     match &field.ty {
-        AsnType::Seq { root, ext: None } if is_row(unit, field, root.as_slice()) => {
+        AsnType::Seq { root, ext: None } if is_row(unit, root.as_slice()) => {
             run_with_row(unit, run, root.as_slice())
         }
         _ => run_with_value(unit, run, field),
@@ -163,18 +166,13 @@ fn run_with_value(unit: Unit, run: u32, field: &Field) -> (u32, bool) {
 
 /// Whether a SEQUENCE with these components has to be there and has one at least, and each has to be there and may be taken
 /// at once.
-fn is_row(unit: Unit, field: &Field, row: &[Field]) -> bool {
-    let Need::Must = &field.need else {
-        return false;
-    };
-    !row.is_empty() && row.iter().all(|part| units_of(unit, part).is_some())
+fn is_row(unit: Unit, row: &[Field]) -> bool {
+    !row.is_empty()
+        && row.iter().all(|part| is_always_there(part) && units_of(unit, part).is_some())
 }
 
 /// How many units tell a component that has to be there, if they may be taken at once.
 fn units_of(unit: Unit, field: &Field) -> Option<u32> {
-    let Need::Must = &field.need else {
-        return None;
-    };
     let units = units_of_value(unit, &field.ty)?;
     if units > unit.most() {
         return None;
@@ -227,4 +225,9 @@ fn units_between(unit: Unit, bounds: &Bounds) -> Option<u32> {
         }
         Unit::Octet => fixed_size(low, high),
     }
+}
+
+/// Whether a component has to be there.
+fn is_always_there(field: &Field) -> bool {
+    matches!(&field.need, Need::Must)
 }

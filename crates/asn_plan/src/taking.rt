@@ -1,5 +1,5 @@
 //! Numbers told one after the other by bits that were taken at once.
-ghost use Rattle.std.specs.Prelude.{◌≡◌, ◌<◌, ◌^◌, ◌++◌, IfSome, IsTrue};
+ghost use Rattle.std.specs.Prelude.{◌≡◌, ◌+◌, ◌≤◌, ◌<◌, ◌^◌, ◌++◌, IfSome, IsTrue};
 ghost use Rattle.asn_bits.specs.Numbers.{bits};
 
 use crate::word::Word;
@@ -33,6 +33,26 @@ impl Word {
         ensures { IsTrue result → self.now.left ≡ 0 }
     {
         self.left == 0
+    }
+
+    /// The same where `mask` is the highest number of `count` bits.
+    #[inline(always)]
+    pub fn take_below(&mut self, count: u32, mask: u64) -> Option<u64>
+        requires mask { mask + 1 ≡ 2 ^ count }
+        ensures fits { IfSome result (λ n. n ≤ mask) }
+        ensures some { IfSome result (λ n.
+            bits self.old.left self.old.bits ≡ bits count n ++ bits self.new.left self.new.bits) }
+    {
+        if count > self.left {
+            return None;
+        }
+        let left = self.left - count;
+        let number = self.bits >> left & mask;
+        *self = Word {
+            bits: self.bits,
+            left,
+        };
+        Some(number)
     }
 
     /// The number in the next `count` bits, the highest first, which are taken; `None` where fewer are left.

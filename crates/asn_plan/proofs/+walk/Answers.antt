@@ -1,8 +1,8 @@
 use Rattle.std.proofs.Common.{◌≡◌, ◌/◌, ◌%◌, ◌^◌, refl, sym, ap, ◌∙◌, ℕ, List, Some, None, inl, inr, length, arith}
-use Rattle.std.proofs.lemmas.List.{drop_all}
+use Rattle.std.proofs.lemmas.List.{drop_all, nil_from_length}
 use Rattle.asn_values.specs.Datum.{truth, number, item, alternative}
 use Rattle.asn_values.specs.Profile.{InProfile}
-use Rattle.asn_values.specs.Shape.{Fields, no_fields, demands, sequence, sequence_of, choice}
+use Rattle.asn_values.specs.Shape.{Shape, Fields, no_fields, demands, sequence, sequence_of, choice}
 use Rattle.asn_values.specs.View.{datum_of, size_range_of}
 use Rattle.asn_values.proofs.InnerTypes.{element_of_profile}
 use Rattle.asn_values.proofs.Parts.{components_of_profile}
@@ -21,11 +21,13 @@ use Rattle.asn_walk.proofs.Parts.{root_good}
 use Rattle.asn_plan.proofs.Additions.{present_addition, absent_addition, added_starts, added_further, added_ends, additions_read, extended_read, plans_count}
 use Rattle.asn_plan.proofs.Alternatives.{alternative_at, each_count, root_read, added_read}
 use Rattle.asn_plan.proofs.Building.{next_node, built_further, goes_ends, absents_are, no_root, no_additions, sequence_read}
-use Rattle.asn_plan.proofs.Entries.{must_entry, present_entry, absent_entry, other_entry, default_entry}
+use Rattle.asn_plan.proofs.Entries.{there_entry, not_there_entry, other_entry}
 use Rattle.asn_plan.proofs.Messages.{whole_message, field_read, turned_true, turned_false}
 use Rattle.asn_plan.proofs.NodeKinds.{if_some, number_is, truth_is, item_is, leaf_is, sequence_is, list_is, choice_is}
 use Rattle.asn_plan.proofs.Rows.{row_begins, row_further, listed_starts, listed_further, listed_ends, list_read}
-use Rattle.asn_plan.specs.Plans.{BuildsEntry}
+use Rattle.asn_plan.specs.declared.plan.Kind.TheVariants as kind
+use Rattle.asn_plan.specs.declared.plan.Presence.TheVariants as presence
+use Rattle.asn_plan.specs.Plans.{IsPlan, Builds}
 use Rattle.asn_plan.specs.Words.{before}
 use Rattle.asn_plan.proofs.WordsRead.{nothing_left}
 use Rattle.asn_plan.proofs.+walk.Goals as goal
@@ -69,39 +71,6 @@ walk::build_at-returns-in_default-try_item-clause-some g t c = if_some c.build_o
 pub walk::build_at-returns-in-Leaf-clause-some : goal.walk::build_at-returns-in-Leaf-clause-some
 walk::build_at-returns-in-Leaf-clause-some g t c = if_some c.build_leaf.result _ _ (λ p built s good plan. built s good (leaf_is c.args.nodes.now s c.in-Leaf.leaf (rw c.in-Leaf.is at plan))) c.build_leaf.ensures.some
 
-pub components::build_components-loop-at-preserved-then-not-is_empty : goal.components::build_components-loop-at-preserved-then-not-is_empty
-components::build_components-loop-at-preserved-then-not-is_empty g t c =
-    let r = g.R.ReadLeaves.rules in
-    let h = rw c.fill.ensures.same at c.loop-at.invariant.0 in
-    (c.in_ok-at.ensures.some c.args.room.now c.args.presence.left c.args.presence.bitmap c.loop-at.presence.left (before r c.args.word (r.to_units c.args.units.now)) h, c.loop-at.invariant.1, c.in_ok-at.ensures.at_unit refl)
-
-pub components::build_components-loop-at-preserved : goal.components::build_components-loop-at-preserved
-components::build_components-loop-at-preserved g t c =
-    let r = g.R.ReadLeaves.rules in
-    let x = c.index-parts-at.result in
-    let ws = r.to_units c.build_component.new.units in
-    let P = g.B.Build.listed c.args.room.now c.loop-at.room c.loop-at.entries in
-    let N = g.B.Build.listed c.args.room.now c.build_component.new.room c.build_component.new.entries in
-    let h = rw (next_node c.args.parts.now c.loop-at.at x c.loop-at-test.true c.index-parts-at.is) at c.loop-at.invariant.0 in
-    let b = c.in_ok-build_component.ensures in
-    let none = λ (us : List ℕ). nothing_left r c.fill.new.word us (c.is_empty.ensures c.if-not-is_empty.false) in
-    let read = rw c.loop-at.invariant.1 at b.some refl c.args.room.now in
-    let entry : BuildsEntry r P N c.args.nodes.now x c.args.presence.bitmap c.loop-at.presence.left c.build_component.new.presence.left (before r c.loop-at.word (r.to_units c.loop-at.units)) (before r c.fill.new.word ws) = rw (c.fill.ensures.same, none (r.to_units c.fill.new.units), none ws) read in
-    (built_further N c.build_component.new.presence.left (before r c.fill.new.word ws) h entry, b.bitmap refl ∙ c.loop-at.invariant.1, b.at_unit refl)
-
-pub components::build_components-returns-clause-some : goal.components::build_components-returns-clause-some
-components::build_components-returns-clause-some g t c root good p width =
-    let r = g.R.ReadLeaves.rules in
-    let e = c.loop-at.invariant.0.goes root good p width in
-    let all = goes_ends e.2 (drop_all c.loop-at.at c.args.parts.now (omega (arith, c.loop-at-test.false))) in
-    let none = nothing_left r c.loop-at.word (r.to_units c.loop-at.units) (c.is_empty-2.ensures c.if-not-is_empty-2.false) in
-    record { entries = e.0; of_entries = e.1; read = rw none at all }
-
-pub components::build_component-returns-in_ok-value-in-Must-clause-some : goal.components::build_component-returns-in_ok-value-in-Must-clause-some
-components::build_component-returns-in_ok-value-in-Must-clause-some g t c some s =
-    let r = g.R.ReadLeaves.rules in
-    must_entry r (g.B.Build.listed s c.args.room.now c.args.entries.now) (g.B.Build.listed s c.present.new.room c.present.new.entries) c.args.nodes.now c.args.part.now c.args.presence.now.bitmap c.args.presence.now.left (r.to_units c.args.units.now) (r.to_units c.build_at.new.units) (g.B.Build.built c.args.room.now c.build_at.new.room c.in_ok-value-in-Must.value) (λ es d l q. c.present.ensures some s c.args.room.now es d l q) c.in-Must.is (λ s good p. (let b = c.in_ok-value-in-Must.ensures.some s good p in (b.value, b.of_value, b.read)))
-
 pub components::build_sequence-returns-then-parts-3-clause-some : goal.components::build_sequence-returns-then-parts-3-clause-some
 components::build_sequence-returns-then-parts-3-clause-some g t c s good p =
     let rows = c.args.parts.now in
@@ -111,25 +80,94 @@ components::build_sequence-returns-then-parts-3-clause-some g t c s good p =
     let is : s ≡ sequence no_fields q.more = q.is ∙ ap (λ (fs : Fields). sequence fs q.more) root in
     rw is (c.in_ok-empty.ensures.some q.more (rw is at good) others q.additions)
 
-pub components::build_sequence-returns-then-not-preamble-clause-some : goal.components::build_sequence-returns-then-not-preamble-clause-some
-components::build_sequence-returns-then-not-preamble-clause-some g t c s good p =
-    let q = sequence_is c.args.nodes.now s c.args.parts.now p in
+pub components::build_components-loop-part-preserved : goal.components::build_components-loop-part-preserved
+components::build_components-loop-part-preserved g t c =
     let r = g.R.ReadLeaves.rules in
-    let inside : InProfile (sequence q.root q.more) = rw q.is at good in
+    let next = rw c.in-Some.is at c.split_first.ensures.cases in
+    let h = rw next.0 at c.loop-part.invariant.0 in
+    let N = g.B.Build.listed c.args.room.now c.build_component.new.room c.build_component.new.entries in
+    let b = c.in_ok-build_component.ensures in
+    let entry = rw c.loop-part.invariant.1 at b.some refl c.args.room.now in
+    (built_further N c.build_component.new.presence.left (before r c.build_component.new.word (r.to_units c.build_component.new.units)) h entry, b.bitmap refl ∙ c.loop-part.invariant.1, b.at_unit refl)
+
+pub components::build_components-returns-clause-some : goal.components::build_components-returns-clause-some
+components::build_components-returns-clause-some g t c root good p width =
+    let r = g.R.ReadLeaves.rules in
+    let e = c.loop-part.invariant.0.goes root good p width in
+    let all = goes_ends e.2 (nil_from_length c.loop-part.rest.now (rw c.in_default.is at c.split_first.ensures.cases)) in
+    let none = nothing_left r c.loop-part.word (r.to_units c.loop-part.units) (c.is_empty.ensures c.if-not-is_empty.false) in
+    record { entries = e.0; of_entries = e.1; read = rw none at all }
+
+pub components::build_component-returns-then-not-is_there-clause-some : goal.components::build_component-returns-then-not-is_there-clause-some
+components::build_component-returns-then-not-is_there-clause-some g t c some s =
+    let r = g.R.ReadLeaves.rules in
+    let us = before r c.args.word.now (r.to_units c.args.units.now) in
+    let told = rw c.if-not-is_there.true at c.in_ok-is_there.ensures.told in
+    not_there_entry r (g.B.Build.listed s c.args.room.now c.args.entries.now) (g.B.Build.listed s c.add_absent.new.room c.add_absent.new.entries) c.args.nodes.now c.args.part.now c.args.presence.now.bitmap c.args.presence.now.left us us (λ es l. c.add_absent.ensures some s es l) c.next_in.new.bits.left told refl
+
+pub components::build_component-returns-in-Some-clause-some : goal.components::build_component-returns-in-Some-clause-some
+components::build_component-returns-in-Some-clause-some g t c some s =
+    let r = g.R.ReadLeaves.rules in
+    let w = c.in-Some.with_default.now in
+    let is : c.args.part.now.presence ≡ presence.Default w = rw c.in-Some.is at c.with_default.ensures in
+    let told = rw (c.if-not-is_there.false, is) at c.in_ok-is_there.ensures.told in
+    other_entry r (g.B.Build.listed s c.args.room.now c.args.entries.now) (g.B.Build.listed s c.present.new.room c.present.new.entries) c.args.nodes.now c.args.part.now c.args.presence.now.bitmap c.args.presence.now.left (before r c.args.word.now (r.to_units c.args.units.now)) (before r c.build_other.new.word (r.to_units c.build_other.new.units)) (g.B.Build.built c.args.room.now c.build_other.new.room c.in_ok-other.other) (λ es d l q. c.present.ensures some s c.args.room.now es d l q) c.next_in.new.bits.left told.0 w is told.1 (λ plan. (let b = c.in_ok-other.ensures.some plan in (b.value, b.of_value, b.read)))
+
+pub components::build_component-returns-clause-some : goal.components::build_component-returns-clause-some
+components::build_component-returns-clause-some g t c some s =
+    let r = g.R.ReadLeaves.rules in
+    let told = rw c.if-not-is_there.false at c.in_ok-is_there.ensures.told in
+    let none = rw c.in_default.is at c.with_default.ensures in
+    there_entry r (g.B.Build.listed s c.args.room.now c.args.entries.now) (g.B.Build.listed s c.present-2.new.room c.present-2.new.entries) c.args.nodes.now c.args.part.now c.args.presence.now.bitmap c.args.presence.now.left (before r c.args.word.now (r.to_units c.args.units.now)) (before r c.build_value.new.word (r.to_units c.build_value.new.units)) (g.B.Build.built c.args.room.now c.build_value.new.room c.in_ok-value.value) (λ es d l q. c.present-2.ensures some s c.args.room.now es d l q) c.next_in.new.bits.left told none (λ s good p. (let b = c.in_ok-value.ensures.some s good p in (b.value, b.of_value, b.read)))
+
+pub components::build_value-returns-then-is_empty-clause-some : goal.components::build_value-returns-then-is_empty-clause-some
+components::build_value-returns-then-is_empty-clause-some g t c =
+    let r = g.R.ReadLeaves.rules in
+    let none = λ (us : List ℕ). nothing_left r c.fill.new.word us (c.is_empty.ensures c.if-is_empty.true) in
+    if_some c.build_at.result _ _ (λ p built s good plan. (let b = built s good plan in record { value = b.value; of_value = b.of_value; read = rw (c.fill.ensures.same, none (r.to_units c.fill.new.units), none (r.to_units c.build_at.new.units)) b.read })) c.build_at.ensures.some
+
+pub components::build_value-returns-clause-some : goal.components::build_value-returns-clause-some
+components::build_value-returns-clause-some g t c =
+    if_some c.build_next.result _ _ (λ p built s good plan. rw c.fill.ensures.same (built s good plan)) c.build_next.ensures.some
+
+pub components::build_parts-returns-then-not-preamble-clause-some : goal.components::build_parts-returns-then-not-preamble-clause-some
+components::build_parts-returns-then-not-preamble-clause-some g t c fields more good plans others width additions =
+    let r = g.R.ReadLeaves.rules in
     let told : Spells r.ruling.fielding (PreambleOf r c.args.parts.now.width c.args.parts.now.additions) (preamble_seen c.in_ok-preamble.preamble) (r.to_units c.args.units.now) (before r c.read_preamble.new.word (r.to_units c.read_preamble.new.units)) = rw (← c.take_word-word.ensures.taken) at c.in_ok-preamble.ensures.some in
-    let es = c.in_ok-entries.ensures.some q.root (components_of_profile q.root q.more inside) q.plans q.width in
-    let all = c.in_ok-add_absent.ensures refl c.args.room.now es.entries es.of_entries in
-    rw q.is (record { value = _; of_value = c.in_ok-whole.ensures c.args.room.now _ all; read = sequence_read r c.keep_laws.ensures q.root q.more inside c.args.parts.now.width c.args.parts.now.additions q.width q.additions (preamble_seen c.in_ok-preamble.preamble) (r.to_units c.args.units.now) (before r c.read_preamble.new.word (r.to_units c.read_preamble.new.units)) (r.to_units c.build_components.new.units) told es.entries es.read (turned_true c.in_ok-preamble.preamble.extended c.if-not-preamble.true) _ (absents_are _ _ q.more q.others) })
+    let es = c.in_ok-entries.ensures.some fields (components_of_profile fields more good) plans width in
+    let all = c.in_ok-add_absents.ensures refl c.args.room.now es.entries es.of_entries in
+    (record { value = _; of_value = c.in_ok-whole.ensures c.args.room.now _ all; read = sequence_read r c.keep_laws.ensures fields more good c.args.parts.now.width c.args.parts.now.additions width additions (preamble_seen c.in_ok-preamble.preamble) (r.to_units c.args.units.now) (before r c.read_preamble.new.word (r.to_units c.read_preamble.new.units)) (r.to_units c.build_components.new.units) told es.entries es.read (turned_true c.in_ok-preamble.preamble.extended c.if-not-preamble.true) _ (absents_are _ _ more others) })
+
+pub components::build_parts-returns-clause-some : goal.components::build_parts-returns-clause-some
+components::build_parts-returns-clause-some g t c fields more good plans others width additions =
+    let r = g.R.ReadLeaves.rules in
+    let told : Spells r.ruling.fielding (PreambleOf r c.args.parts.now.width c.args.parts.now.additions) (preamble_seen c.in_ok-preamble.preamble) (r.to_units c.args.units.now) (before r c.read_preamble.new.word (r.to_units c.read_preamble.new.units)) = rw (← c.take_word-word.ensures.taken) at c.in_ok-preamble.ensures.some in
+    let es = c.in_ok-entries.ensures.some fields (components_of_profile fields more good) plans width in
+    let all = extended_read r c.keep_laws.ensures fields more good c.args.parts.now.width c.args.parts.now.additions width additions (preamble_seen c.in_ok-preamble.preamble) (r.to_units c.args.units.now) (before r c.read_preamble.new.word (r.to_units c.read_preamble.new.units)) (r.to_units c.build_components.new.units) (r.to_units c.build_additions.new.units) told es.entries es.read (turned_false c.in_ok-preamble.preamble.extended c.if-not-preamble.false) _ _ others (g.B.Build.listed c.args.room.now c.build_components.new.room c.in_ok-entries.entries) (g.B.Build.listed c.args.room.now c.build_additions.new.room c.build_additions.new.entries) es.of_entries (λ fs a plans. c.in_ok-build_additions.ensures.some refl c.args.room.now fs a plans) in
+    (record { value = _; of_value = c.in_ok-part.ensures c.args.room.now all.0 all.1; read = all.2 })
 
 pub components::build_sequence-returns-clause-some : goal.components::build_sequence-returns-clause-some
-components::build_sequence-returns-clause-some g t c s good p =
-    let q = sequence_is c.args.nodes.now s c.args.parts.now p in
+components::build_sequence-returns-clause-some g t c = if_some c.build_parts.result _ _ (λ p built s good plan. (
+    let q = sequence_is c.args.nodes.now s c.args.parts.now plan in
+    rw q.is (built q.root q.more (rw q.is at good) q.plans q.others q.width q.additions))) c.build_parts.ensures.some
+
+pub components::build_sequences-loop-i-init : goal.components::build_sequences-loop-i-init
+components::build_sequences-loop-i-init g t c =
     let r = g.R.ReadLeaves.rules in
-    let inside : InProfile (sequence q.root q.more) = rw q.is at good in
-    let told : Spells r.ruling.fielding (PreambleOf r c.args.parts.now.width c.args.parts.now.additions) (preamble_seen c.in_ok-preamble.preamble) (r.to_units c.args.units.now) (before r c.read_preamble.new.word (r.to_units c.read_preamble.new.units)) = rw (← c.take_word-word.ensures.taken) at c.in_ok-preamble.ensures.some in
-    let es = c.in_ok-entries.ensures.some q.root (components_of_profile q.root q.more inside) q.plans q.width in
-    let all = extended_read r c.keep_laws.ensures q.root q.more inside c.args.parts.now.width c.args.parts.now.additions q.width q.additions (preamble_seen c.in_ok-preamble.preamble) (r.to_units c.args.units.now) (before r c.read_preamble.new.word (r.to_units c.read_preamble.new.units)) (r.to_units c.build_components.new.units) (r.to_units c.build_additions.new.units) told es.entries es.read (turned_false c.in_ok-preamble.preamble.extended c.if-not-preamble.false) _ _ q.others (g.B.Build.listed c.args.room.now c.build_components.new.room c.in_ok-entries.entries) (g.B.Build.listed c.args.room.now c.build_additions.new.room c.build_additions.new.entries) es.of_entries (λ fs a plans. c.in_ok-build_additions.ensures.some refl c.args.room.now fs a plans) in
-    rw q.is (record { value = _; of_value = c.in_ok-part.ensures c.args.room.now all.0 all.1; read = all.2 })
+    (λ s t good p. row_begins r (g.B.Build.rowed s c.args.room.now c.args.row.now) (Spelt r.code None t) (r.to_units c.args.units.now), c.requires.at_unit)
+
+pub components::build_sequences-loop-i-preserved : goal.components::build_sequences-loop-i-preserved
+components::build_sequences-loop-i-preserved g t c =
+    let r = g.R.ReadLeaves.rules in
+    let built = g.B.Build.built c.loop-i.room c.build_parts.new.room c.in_ok-value.value in
+    let read : (t : Shape) → InProfile t → IsPlan c.args.nodes.now t (kind.Sequence c.args.parts.now) → Builds r (g.B.Build.built c.loop-i.room c.build_parts.new.room) t c.in_ok-value.value c.loop-i.units c.build_parts.new.units =
+    λ t good p. (let q = sequence_is c.args.nodes.now t c.args.parts.now p in rw q.is (c.in_ok-value.ensures.some q.root q.more (rw q.is at good) q.plans q.others q.width q.additions)) in
+    (λ s t good p. (let b = read t good p in row_further r (g.B.Build.rowed s c.args.room.now c.args.row.now) (g.B.Build.rowed s c.loop-i.room c.loop-i.row) (g.B.Build.rowed s c.element.new.room c.element.new.row) built (Spelt r.code None t) c.loop-i.i (r.to_units c.args.units.now) (r.to_units c.loop-i.units) (r.to_units c.build_parts.new.units) (λ ds d m q. c.in_ok-element.ensures refl s c.loop-i.room ds d m q) (c.loop-i.invariant.0 s t good p) b.value b.of_value b.read), c.in_ok-value.ensures.at_unit refl)
+
+pub components::build_sequences-returns-clause-some : goal.components::build_sequences-returns-clause-some
+components::build_sequences-returns-clause-some g t c some s x good p =
+    let all : c.loop-i.i ≡ c.args.count = omega (arith, c.loop-i-test.false, c.loop-i.auto.i-end) in
+    rw all at (c.loop-i.invariant.0 s x good p)
 
 pub components::build_additions-returns-clause-some : goal.components::build_additions-returns-clause-some
 components::build_additions-returns-clause-some g t c some s fs good plans =
@@ -163,31 +201,11 @@ components::build_addition-returns-clause-some g t c some s =
     let bit : 1 ≡ c.args.presence.now.bitmap / 2 ^ c.next.new.self.left % 2 = ap bit_of (sym c.if-not-next.false) ∙ c.next.ensures.bit.1 in
     present_addition r (g.B.Build.listed s c.args.room.now c.args.entries.now) (g.B.Build.listed s c.present.new.room c.present.new.entries) c.args.nodes.now c.args.part.now c.args.presence.now.bitmap c.args.presence.now.left c.next.new.self.left (r.to_units c.args.units.now) (r.to_units c.build_open.new.units) c.next.ensures.bit.0 (g.B.Build.built c.args.room.now c.build_open.new.room c.in_ok-value.value) (λ es d l q. c.present.ensures some s c.args.room.now es d l q) bit (λ s good p. (let b = c.in_ok-value.ensures.some s good p in (b.value, b.of_value, b.read)))
 
-pub components::build_component-returns-in_ok-value-in-Optional-clause-some : goal.components::build_component-returns-in_ok-value-in-Optional-clause-some
-components::build_component-returns-in_ok-value-in-Optional-clause-some g t c some s =
-    let r = g.R.ReadLeaves.rules in
-    let bit : 1 ≡ c.args.presence.now.bitmap / 2 ^ c.next.new.self.left % 2 = ap bit_of (sym c.if-not-next.false) ∙ c.next.ensures.bit.1 in
-    present_entry r (g.B.Build.listed s c.args.room.now c.args.entries.now) (g.B.Build.listed s c.present-in-Optional.new.room c.present-in-Optional.new.entries) c.args.nodes.now c.args.part.now c.args.presence.now.bitmap c.args.presence.now.left (r.to_units c.args.units.now) (r.to_units c.build_at-in-Optional.new.units) (g.B.Build.built c.args.room.now c.build_at-in-Optional.new.room c.in_ok-value-in-Optional.value) (λ es d l q. c.present-in-Optional.ensures some s c.args.room.now es d l q) c.next.new.self.left c.next.ensures.bit.0 c.in-Optional.is bit (λ s good p. (let b = c.in_ok-value-in-Optional.ensures.some s good p in (b.value, b.of_value, b.read)))
-
-pub components::build_component-returns-then-not-next-clause-some : goal.components::build_component-returns-then-not-next-clause-some
-components::build_component-returns-then-not-next-clause-some g t c some s =
-    let r = g.R.ReadLeaves.rules in
-    let bit : 0 ≡ c.args.presence.now.bitmap / 2 ^ c.next.new.self.left % 2 = ap bit_of (sym c.if-not-next.true) ∙ c.next.ensures.bit.1 in
-    absent_entry r (g.B.Build.listed s c.args.room.now c.args.entries.now) (g.B.Build.listed s c.absent.new.room c.absent.new.entries) c.args.nodes.now c.args.part.now c.args.presence.now.bitmap c.args.presence.now.left (r.to_units c.args.units.now) (r.to_units c.args.units.now) (λ es l. c.absent.ensures some s es l) c.next.new.self.left c.next.ensures.bit.0 c.in-Optional.is bit refl
-
-pub components::build_component-returns-in_ok-part-in-Default-clause-some : goal.components::build_component-returns-in_ok-part-in-Default-clause-some
-components::build_component-returns-in_ok-part-in-Default-clause-some g t c some s =
-    let r = g.R.ReadLeaves.rules in
-    let bit : 1 ≡ c.args.presence.now.bitmap / 2 ^ c.next-in-Default.new.self.left % 2 = ap bit_of (sym c.if-not-next-2.false) ∙ c.next-in-Default.ensures.bit.1 in
-    other_entry r (g.B.Build.listed s c.args.room.now c.args.entries.now) (g.B.Build.listed s c.present-in-Default.new.room c.present-in-Default.new.entries) c.args.nodes.now c.args.part.now c.args.presence.now.bitmap c.args.presence.now.left (r.to_units c.args.units.now) (r.to_units c.read_other.new.units) (g.B.Build.built c.args.room.now c.value-in-Default.new.room c.in_ok-part-in-Default.part) (λ es d l q. c.present-in-Default.ensures some s c.args.room.now es d l q) c.next-in-Default.new.self.left c.next-in-Default.ensures.bit.0 c.in-Default.with_default c.in-Default.is bit (datum_of c.in_ok-value-in-Default.value) c.in_ok-part-in-Default.ensures c.in_ok-value-in-Default.ensures.some
-
-pub components::build_component-returns-then-not-next-2-clause-some : goal.components::build_component-returns-then-not-next-2-clause-some
-components::build_component-returns-then-not-next-2-clause-some g t c some s =
-    let r = g.R.ReadLeaves.rules in
-    let bit : 0 ≡ c.args.presence.now.bitmap / 2 ^ c.next-in-Default.new.self.left % 2 = ap bit_of (sym c.if-not-next-2.true) ∙ c.next-in-Default.ensures.bit.1 in
-    default_entry r (g.B.Build.listed s c.args.room.now c.args.entries.now) (g.B.Build.listed s c.present-then-not-next-2.new.room c.present-then-not-next-2.new.entries) c.args.nodes.now c.args.part.now c.args.presence.now.bitmap c.args.presence.now.left (r.to_units c.args.units.now) (r.to_units c.args.units.now) (g.B.Build.built c.args.room.now c.value.new.room c.in_ok-absent-in-Default.absent) (λ es d l q. c.present-then-not-next-2.ensures some s c.args.room.now es d l q) c.next-in-Default.new.self.left c.next-in-Default.ensures.bit.0 c.in-Default.with_default c.in-Default.is bit (datum_of c.in_ok-default-in-Default.default) c.in_ok-absent-in-Default.ensures c.in_ok-default-in-Default.ensures refl
-
 -- ---- SEQUENCE OF
+
+pub lists::build_elements-returns-in-Sequence-clause-some : goal.lists::build_elements-returns-in-Sequence-clause-some
+lists::build_elements-returns-in-Sequence-clause-some g t c some s x good p =
+    c.build_sequences.ensures.some some s x good (rw c.in-Sequence.is at p)
 
 pub lists::build_elements-loop-i-init : goal.lists::build_elements-loop-i-init
 lists::build_elements-loop-i-init g t c =

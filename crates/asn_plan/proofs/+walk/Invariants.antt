@@ -3,6 +3,7 @@ use Rattle.asn_values.specs.Profile.{InProfile}
 use Rattle.asn_values.specs.Shape.{Shape}
 use Rattle.asn_rules.specs.Languages.{Row}
 use Rattle.asn_walk.specs.Reading.{ValuesOf}
+use Rattle.asn_plan.specs.declared.plan.Kind.TheVariants as kind
 use Rattle.asn_plan.specs.Plans.{IsPlan, BuildsRow, BuiltUpTo}
 use Rattle.asn_plan.specs.Words.{before}
 use Rattle.asn_plan.proofs.Rows.{ListedUpTo}
@@ -10,33 +11,47 @@ use Rattle.asn_plan.proofs.Additions.{AddedUpTo}
 use Rattle.asn_plan.proofs.+walk.Given as goal
 
 abbrev pub decreases-walk::build_at : goal.decreases-walk::build_at
-decreases-walk::build_at g l = 8 * length l.nodes.now + 1
+decreases-walk::build_at g l = 10 * length l.nodes.now + 1
+
+abbrev pub decreases-components::build_value : goal.decreases-components::build_value
+decreases-components::build_value g l = 10 * length l.nodes.now + 2
 
 abbrev pub decreases-components::build_component : goal.decreases-components::build_component
-decreases-components::build_component g l = 8 * length l.nodes.now + 2
+decreases-components::build_component g l = 10 * length l.nodes.now + 3
 
 abbrev pub decreases-components::build_components : goal.decreases-components::build_components
-decreases-components::build_components g l = 8 * length l.nodes.now + 3
+decreases-components::build_components g l = 10 * length l.nodes.now + 4
 
 abbrev pub decreases-components::build_sequence : goal.decreases-components::build_sequence
-decreases-components::build_sequence g l = 8 * length l.nodes.now
+decreases-components::build_sequence g l = 10 * length l.nodes.now
 
-abbrev pub invariant-components::build_components-loop-at : goal.invariant-components::build_components-loop-at
-invariant-components::build_components-loop-at g l =
-    BuiltUpTo g.R.ReadLeaves.rules (g.B.Build.listed l.fn.room l.room l.entries) l.nodes l.parts (drop l.at l.parts) l.fn.presence.left l.fn.presence.bitmap l.presence.left (before g.R.ReadLeaves.rules l.fn.word (g.R.ReadLeaves.rules.to_units l.fn.units)) (before g.R.ReadLeaves.rules l.word (g.R.ReadLeaves.rules.to_units l.units))
+abbrev pub decreases-components::build_parts : goal.decreases-components::build_parts
+decreases-components::build_parts g l = 10 * length l.nodes.now + 8
+
+abbrev pub decreases-components::build_sequences : goal.decreases-components::build_sequences
+decreases-components::build_sequences g l = 10 * length l.nodes.now + 1
+
+abbrev pub invariant-components::build_sequences-loop-i : goal.invariant-components::build_sequences-loop-i
+invariant-components::build_sequences-loop-i g l =
+    ((s : _) (t : Shape) → InProfile t → IsPlan l.nodes t (kind.Sequence l.parts) → BuildsRow g.R.ReadLeaves.rules (g.B.Build.rowed s l.fn.room l.fn.row) (g.B.Build.rowed s l.room l.row) (Row (ValuesOf g.R.ReadLeaves.rules t) l.i) (g.R.ReadLeaves.rules.to_units l.fn.units) (g.R.ReadLeaves.rules.to_units l.units))
+    × g.R.ReadLeaves.rules.at_unit l.units
+
+abbrev pub invariant-components::build_components-loop-part : goal.invariant-components::build_components-loop-part
+invariant-components::build_components-loop-part g l =
+    BuiltUpTo g.R.ReadLeaves.rules (g.B.Build.listed l.fn.room l.room l.entries) l.nodes l.parts l.rest l.fn.presence.left l.fn.presence.bitmap l.presence.left (before g.R.ReadLeaves.rules l.fn.word (g.R.ReadLeaves.rules.to_units l.fn.units)) (before g.R.ReadLeaves.rules l.word (g.R.ReadLeaves.rules.to_units l.units))
     × (l.presence.bitmap ≡ l.fn.presence.bitmap) × g.R.ReadLeaves.rules.at_unit l.units
 
-abbrev pub decreases-components::build_components-loop-at : goal.decreases-components::build_components-loop-at
-decreases-components::build_components-loop-at g l = length l.parts - l.at
+abbrev pub decreases-components::build_components-loop-part : goal.decreases-components::build_components-loop-part
+decreases-components::build_components-loop-part g l = length l.rest
 
 abbrev pub decreases-lists::build_list : goal.decreases-lists::build_list
-decreases-lists::build_list g l = 8 * length l.nodes.now
+decreases-lists::build_list g l = 10 * length l.nodes.now
 
 abbrev pub decreases-lists::build_fragments : goal.decreases-lists::build_fragments
-decreases-lists::build_fragments g l = 8 * length l.nodes.now + 3
+decreases-lists::build_fragments g l = 10 * length l.nodes.now + 3
 
 abbrev pub decreases-lists::build_elements : goal.decreases-lists::build_elements
-decreases-lists::build_elements g l = 8 * length l.nodes.now + 2
+decreases-lists::build_elements g l = 10 * length l.nodes.now + 2
 
 abbrev pub invariant-lists::build_elements-loop-i : goal.invariant-lists::build_elements-loop-i
 invariant-lists::build_elements-loop-i g l =
@@ -49,25 +64,25 @@ invariant-lists::build_fragments-loop-i g l =
     × g.R.ReadLeaves.is_between l.fragments × g.R.ReadLeaves.rules.at_unit l.units
 
 abbrev pub decreases-choices::build_choice : goal.decreases-choices::build_choice
-decreases-choices::build_choice g l = 8 * length l.nodes.now
+decreases-choices::build_choice g l = 10 * length l.nodes.now
 
 abbrev pub decreases-open::build_complete : goal.decreases-open::build_complete
-decreases-open::build_complete g l = 8 * length l.nodes.now + 2
+decreases-open::build_complete g l = 10 * length l.nodes.now + 2
 
 abbrev pub decreases-open::build_copied : goal.decreases-open::build_copied
-decreases-open::build_copied g l = 8 * length l.nodes.now + 3
+decreases-open::build_copied g l = 10 * length l.nodes.now + 3
 
 abbrev pub decreases-open::build_open : goal.decreases-open::build_open
-decreases-open::build_open g l = 8 * length l.nodes.now + 4
+decreases-open::build_open g l = 10 * length l.nodes.now + 4
 
 abbrev pub decreases-components::build_addition : goal.decreases-components::build_addition
-decreases-components::build_addition g l = 8 * length l.nodes.now + 5
+decreases-components::build_addition g l = 10 * length l.nodes.now + 5
 
 abbrev pub decreases-components::build_open_fields : goal.decreases-components::build_open_fields
-decreases-components::build_open_fields g l = 8 * length l.nodes.now + 6
+decreases-components::build_open_fields g l = 10 * length l.nodes.now + 6
 
 abbrev pub decreases-components::build_additions : goal.decreases-components::build_additions
-decreases-components::build_additions g l = 8 * length l.nodes.now + 7
+decreases-components::build_additions g l = 10 * length l.nodes.now + 7
 
 abbrev pub invariant-components::build_open_fields-loop-part : goal.invariant-components::build_open_fields-loop-part
 invariant-components::build_open_fields-loop-part g l =

@@ -52,24 +52,24 @@ overflow_cast-range c =
     let n = c.wide_offset_from-highest.result in
     omega (arith, narrow n c.width.result c.width.ensures.width (omega (arith, c.if-bits-gt64.false)))
 
-pub in_octets-octets-requires-clause-order : goal.in_octets-octets-requires-clause-order
-in_octets-octets-requires-clause-order c =
+pub octets_between-in_octets-requires-clause-order : goal.octets_between-in_octets-requires-clause-order
+octets_between-in_octets-requires-clause-order c =
     let low = c.in_ok-low.low in
     let high = c.in_ok-high.high in
     let good : InProfile (integer (between low high c.args.bounds.now.ext)) = rw (c.in_ok-low.was, c.in_ok-high.was) at c.requires.of_profile in
     let w = bounds_within low high c.args.bounds.now.ext good in
     rw (kept low w.0 (omega (arith, ints, w.1, w.2)), kept high (omega (arith, ints, w.0, w.1)) w.2) w.1
 
-pub in_octets-octets-requires-clause-low : goal.in_octets-octets-requires-clause-low
-in_octets-octets-requires-clause-low c =
+pub octets_between-in_octets-requires-clause-low : goal.octets_between-in_octets-requires-clause-low
+octets_between-in_octets-requires-clause-low c =
     let low = c.in_ok-low.low in
     let high = c.in_ok-high.high in
     let good : InProfile (integer (between low high c.args.bounds.now.ext)) = rw (c.in_ok-low.was, c.in_ok-high.was) at c.requires.of_profile in
     let w = bounds_within low high c.args.bounds.now.ext good in
     rw (kept low w.0 (omega (arith, ints, w.1, w.2))) w.0
 
-pub in_octets-octets-requires-clause-high : goal.in_octets-octets-requires-clause-high
-in_octets-octets-requires-clause-high c =
+pub octets_between-in_octets-requires-clause-high : goal.octets_between-in_octets-requires-clause-high
+octets_between-in_octets-requires-clause-high c =
     let low = c.in_ok-low.low in
     let high = c.in_ok-high.high in
     let good : InProfile (integer (between low high c.args.bounds.now.ext)) = rw (c.in_ok-low.was, c.in_ok-high.was) at c.requires.of_profile in

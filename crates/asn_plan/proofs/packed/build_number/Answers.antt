@@ -3,12 +3,12 @@ use Rattle.asn_bits.proofs.Above.{kept}
 use Rattle.asn_plan.proofs.NodeKinds.{number_is, truth_is, item_is, leaf_is}
 use Rattle.asn_plan.proofs.packed.build_number.Goals as goal
 
-pub returns-in_ok-part-in-Number : goal.returns-in_ok-part-in-Number
-returns-in_ok-part-in-Number g c t us good p =
+pub returns-in-Number : goal.returns-in-Number
+returns-in-Number g c t us good p =
     let is = number_is c.args.nodes.now t c.in-Number.number (rw c.in-Number.is at p) in
-    let z = c.in_ok-integer-in-Number.integer in
-    let of_z = c.in_ok-integer-in-Number.ensures.of_integers in
-    rw is (record { value = number z; of_value = rw (kept z of_z.0 of_z.1) at c.in_ok-part-in-Number.ensures; read = c.in_ok-integer-in-Number.ensures.some us })
+    let z = c.in_ok-integer.integer in
+    let of_z = c.in_ok-integer.ensures.of_integers in
+    rw is (record { value = number z; of_value = rw (kept z of_z.0 of_z.1) at c.in_ok-part.ensures; read = c.in_ok-integer.ensures.some us })
 
 pub returns-in_ok-part-in-Truth : goal.returns-in_ok-part-in-Truth
 returns-in_ok-part-in-Truth g c t us good p =

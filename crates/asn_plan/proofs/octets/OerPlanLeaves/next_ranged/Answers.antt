@@ -19,7 +19,7 @@ pub offset_from-offset-requires-clause-octets : goal.offset_from-offset-requires
 unfolding oer_coding oer_ruling
 offset_from-offset-requires-clause-octets c =
     let r = c.args.range.now in
-    omega (arith, c.in_ok-octets.ensures.fits, two_pow_octets r.octets)
+    omega (arith, c.in_ok-octets.ensures.fits, (c.requires.ranged.octets (omega (arith, c.if-range-eq0.false))).mask, two_pow_octets r.octets)
 
 pub at_offset-requires-clause-within_low : goal.at_offset-requires-clause-within_low
 unfolding oer_coding oer_ruling
@@ -41,7 +41,7 @@ returns-clause-some c us =
     let n = c.in_ok-octets.octets in
     let off = c.offset_from-offset.result in
     let few : off ≤ r.highest = omega (arith, c.if-offset-range.false) in
-    let whole = number_held r n off (before oer_coding c.args.word.now us) (before oer_coding c.take.new.self us) c.requires.ranged held c.offset_from-offset.ensures few (octets_taken c.args.word.now c.take.new.self r.octets n us c.in_ok-octets.ensures.some) in
+    let whole = number_held r n off (before oer_coding c.args.word.now us) (before oer_coding c.take_below.new.self us) c.requires.ranged held c.offset_from-offset.ensures few (octets_taken c.args.word.now c.take_below.new.self r.octets n us c.in_ok-octets.ensures.some) in
     let value : c.at_offset.result ≡ r.low +ℤ pos off = rw (low_kept r c.requires.ranged) at c.at_offset.ensures in
     let same : to_z w128 (of_z w128 (r.low +ℤ pos off)) ≡ r.low +ℤ pos off = kept (r.low +ℤ pos off) whole.spelt.fits.0.0 whole.spelt.fits.0.1 in
     rw (value, same) whole

@@ -8,4 +8,4 @@ use Rattle.asn_plan.proofs.rules.PerPlanLeaves.next_item.Goals as goal
 pub returns : goal.returns
 unfolding per_coding per_ruling
 returns c us =
-    ordered_first c.args.items.now c.in_ok-index.index (before per_coding c.args.word.now us) (before per_coding c.take.new.self us) c.requires (omega (arith, c.if-index-last.false, c.from-last.ensures)) (bits_taken c.args.word.now c.take.new.self c.args.items.now.bits c.in_ok-index.index us c.in_ok-index.ensures.some)
+    ordered_first c.args.items.now c.in_ok-index.index (before per_coding c.args.word.now us) (before per_coding c.take_below.new.self us) c.requires (omega (arith, c.if-index-last.false, c.from-last.ensures)) (bits_taken c.args.word.now c.take_below.new.self c.args.items.now.bits c.in_ok-index.index us c.in_ok-index.ensures.some)

@@ -25,7 +25,7 @@ returns-clause-some c us =
     let r = c.args.range.now in
     let n = c.in_ok-offset.offset in
     let few : n ≤ r.highest = omega (arith, c.if-offset-range.false) in
-    let whole = number_first r n (before per_coding c.args.word.now us) (before per_coding c.take.new.self us) c.requires.ranged few (bits_taken c.args.word.now c.take.new.self r.bits n us c.in_ok-offset.ensures.some) in
+    let whole = number_first r n (before per_coding c.args.word.now us) (before per_coding c.take_below.new.self us) c.requires.ranged few (bits_taken c.args.word.now c.take_below.new.self r.bits n us c.in_ok-offset.ensures.some) in
     let value : c.at_offset.result ≡ r.low +ℤ pos n = rw (low_kept r c.requires.ranged) at c.at_offset.ensures in
     let same : to_z w128 (of_z w128 (r.low +ℤ pos n)) ≡ r.low +ℤ pos n = kept (r.low +ℤ pos n) whole.spelt.fits.0.0 whole.spelt.fits.0.1 in
     rw (value, same) whole
@@ -37,7 +37,7 @@ returns-clause-of_integers c =
     let n = c.in_ok-offset.offset in
     let few : n ≤ r.highest = omega (arith, c.if-offset-range.false) in
     let us : List ℕ = [] in
-    let whole = number_first r n (before per_coding c.args.word.now us) (before per_coding c.take.new.self us) c.requires.ranged few (bits_taken c.args.word.now c.take.new.self r.bits n us c.in_ok-offset.ensures.some) in
+    let whole = number_first r n (before per_coding c.args.word.now us) (before per_coding c.take_below.new.self us) c.requires.ranged few (bits_taken c.args.word.now c.take_below.new.self r.bits n us c.in_ok-offset.ensures.some) in
     let value : c.at_offset.result ≡ r.low +ℤ pos n = rw (low_kept r c.requires.ranged) at c.at_offset.ensures in
     let same : to_z w128 (of_z w128 (r.low +ℤ pos n)) ≡ r.low +ℤ pos n = kept (r.low +ℤ pos n) whole.spelt.fits.0.0 whole.spelt.fits.0.1 in
     rw (value, same) (whole.spelt.fits.0.0, whole.spelt.fits.0.1)

@@ -126,6 +126,32 @@ preamble_held a n mark m r old mid new last us is few fits e f g =
     subst (λ (l : List ℕ). Spells oer_fields (FilledFields k r.1 n 0) (mark, m) l (before oer_coding last us)) (sym split) (units_front code oer_fields same (mark, m) (few, omega arith, fits) (before oer_coding last us)) in
     (preamble_leads n a (before oer_coding old us)).done (mark, m) (before oer_coding last us) (subst (λ (q : ℕ × ℕ). Spells oer_fields (FilledFields q.0 q.1 n 0) (mark, m) (before oer_coding old us) (before oer_coding last us)) is read)
 
+-- presence bits without an extension bit
+pub alone_held : (n m z : ℕ) (a : Option ℕ) (old new last : Word) (us : List ℕ) → a ≡ None → z ≡ (8 - n % 8) % 8 → m < 2 ^ n
+    → bits old.left old.bits ≡ bits n m ++ bits new.left new.bits → bits new.left new.bits ≡ bits z 0 ++ bits last.left last.bits
+    → Spells oer_fields (PreambleOf oer_coding n a) (false, m) (before oer_coding old us) (before oer_coding last us)
+alone_held n m z a old new last us is zeros fits f g =
+    preamble_held a n 0 m (0, 0) old old new last us (rw is refl) (omega arith) fits refl f (subst (λ (i : ℕ). bits new.left new.bits ≡ bits i 0 ++ bits last.left last.bits) (omega (arith, zeros)) g)
+
+-- and with one
+pub marked_held : (n k mark m z : ℕ) (a : Option ℕ) (old mid new last : Word) (us : List ℕ) → a ≡ Some k → z ≡ 7 - n % 8 → mark < 2
+    → (nat_lt 0 mark ≡ true → 0 < k) → m < 2 ^ n → bits old.left old.bits ≡ bits 1 mark ++ bits mid.left mid.bits
+    → bits mid.left mid.bits ≡ bits n m ++ bits new.left new.bits → bits new.left new.bits ≡ bits z 0 ++ bits last.left last.bits
+    → Spells oer_fields (PreambleOf oer_coding n a) (nat_lt 0 mark, m) (before oer_coding old us) (before oer_coding last us)
+marked_held n k mark m z a old mid new last us is zeros one some fits e f g = go k is some
+  where
+    filled : bits new.left new.bits ≡ bits ((8 - (1 + n) % 8) % 8) 0 ++ bits last.left last.bits
+    filled = subst (λ (i : ℕ). bits new.left new.bits ≡ bits i 0 ++ bits last.left last.bits) (omega (arith, zeros)) g
+
+    none_listed : (i : ℕ) → (nat_lt 0 i ≡ true → 0 < 0) → i ≤ 0
+    none_listed zero h = omega arith
+    none_listed (suc i) h = absurd (omega (arith, h (lt-ltb 0 (suc i) (omega arith))))
+
+    go : (j : ℕ) → a ≡ Some j → (nat_lt 0 mark ≡ true → 0 < j)
+        → Spells oer_fields (PreambleOf oer_coding n a) (nat_lt 0 mark, m) (before oer_coding old us) (before oer_coding last us)
+    go zero same h = preamble_held a n mark m (1, 0) old mid new last us (rw same refl) (none_listed mark h) fits e f filled
+    go (suc j) same h = preamble_held a n mark m (1, 1) old mid new last us (rw same refl) (omega (arith, one)) fits e f filled
+
 -- ---- INTEGER
 
 -- how far one number lies above another, where k octets hold both, is told by the last k octets of their difference

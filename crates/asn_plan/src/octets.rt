@@ -1,8 +1,9 @@
 //! What a plan reads by OER: values by what was worked out of their types once, from octets that were taken at once.
-ghost use Rattle.std.specs.Prelude.{◌≡◌, ◌*◌, ◌≤◌, ◌<◌, ◌+◌, ◌%◌, ◌^◌, None, IfSome, IsNone};
+ghost use Rattle.std.specs.Prelude.{◌≡◌, ◌*◌, ◌≤◌, ◌<◌, ◌+◌, ◌++◌, ◌%◌, ◌^◌, None, IfSome, IsNone, IsSome};
 ghost use Rattle.asn_values.specs.Datum.{number};
 ghost use Rattle.asn_rules.specs.Listed.{Spelt};
 ghost use Rattle.asn_rules.specs.OctetReading.{AtOctet, ReadsOctets};
+ghost use Rattle.asn_bits.specs.Numbers.{bits};
 ghost use Rattle.asn_walk.specs.Integers.{IsOfProfile};
 ghost use Rattle.asn_oer.specs.Oer.{oer};
 ghost use Rattle.asn_plan.specs.Ranged.{ranged, IsRanged};
@@ -14,7 +15,6 @@ use crate::word::{Run, Word};
 use asn_bits::BitCursor;
 use asn_bits::internal::at_offset;
 use asn_oer::Oer;
-use asn_oer::internal::marks;
 use asn_rules::internal::{offsets_of, try_counted_signed};
 use asn_values::profile::LOWEST_INTEGER;
 use asn_walk::{Preamble, ReadLeaves};
@@ -40,13 +40,20 @@ impl PlanLeaves for Oer {
         additions: Option<usize>,
         word: &mut Word,
     ) -> Option<Preamble> {
-        let (marks, most) = marks(additions);
-        let mark = word.take(marks)?;
-        let bitmap = word.take_below(count, mask)?;
-        let unused = word.take((8 - (marks + count) % 8) % 8)?;
-        if mark > most || unused > 0 {
+        let Some(listed) = additions else {
+            let alone = word.take_below(count, mask)?;
+            next_zeros((8 - count % 8) % 8, word)?;
+            return Some(Preamble {
+                extended: false,
+                bitmap: alone,
+            });
+        };
+        let mark = word.take(1)?;
+        if mark > 0 && listed == 0 {
             return None;
         }
+        let bitmap = word.take_below(count, mask)?;
+        next_zeros(7 - count % 8, word)?;
         Some(Preamble {
             extended: mark > 0,
             bitmap,
@@ -108,6 +115,18 @@ impl PlanLeaves for Oer {
         *units = start;
         None
     }
+}
+
+/// Takes this many zeros; `None` where other bits stand there, or fewer.
+#[inline(always)]
+fn next_zeros(count: u32, word: &mut Word) -> Option<()>
+    ensures { IsSome result → bits word.old.left word.old.bits ≡ bits count 0 ++ bits word.new.left word.new.bits }
+{
+    let number = word.take(count)?;
+    if number > 0 {
+        return None;
+    }
+    Some(())
 }
 
 /// Reads an INTEGER by OER whose octets are more than are taken at once, or not as many for all its numbers; one with an

@@ -1,5 +1,5 @@
 -- What is built in slots: it stands after what was there, and nothing that was there is changed.
-use Rattle.std.specs.Prelude.{◌≡◌, ◌≤◌, ◌+◌, ℕ, List, [], ◌∷◌, ◌++◌, length, map, Option, Some}
+use Rattle.std.specs.Prelude.{◌≡◌, ◌≤◌, ◌<◌, ◌+◌, ◌*◌, ◌%◌, ◌^◌, ℕ, List, [], ◌∷◌, ◌++◌, length, map, Option, Some}
 use Rattle.asn_values.specs.Datum.{Datum}
 use Rattle.asn_plan.specs.Plans.{absents}
 use Rattle.asn_message.specs.declared.flat.Elements.{Elements}
@@ -42,21 +42,21 @@ pub record AreInside (r s : Room) (at : ℕ) (es : List (Option Datum)) : Type 0
   pub stand : Stand s.octets.items inside es
   pub nest : Nest s.octets.items inside
 
--- these entries of a SEQUENCE; each present one has a slot at least
+-- these entries of a SEQUENCE; each present one has a slot at least, before which fewer than 2^32 are absent
 pub record AreEntries (r s : Room) (e : Entries) (es : List (Option Datum)) : Type 0 where
   pub first : List (Option Datum)
   pub within : AreInside r s e.at first
-  pub few : e.present ≤ length within.inside
-  pub count : e.present + e.absent ≡ length es
-  pub after : s.absent ≤ e.absent
   pub all : es ≡ first ++ absents s.absent
+  pub few_absent : s.absent < 2 ^ 32
+  pub few : length es ≤ 2 ^ 32 * length within.inside + s.absent
+  pub count : e.count ≡ length es % 2 ^ 64
 
 -- these elements of a SEQUENCE OF; each has a slot at least
 pub record AreElements (r s : Room) (e : Elements) (ds : List Datum) : Type 0 where
   pub within : AreInside r s e.at (map (λ d. Some d) ds)
-  pub few : e.count ≤ length within.inside
-  pub count : e.count ≡ length ds
   pub over : s.absent ≡ 0
+  pub few : length ds ≤ length within.inside
+  pub count : e.count ≡ length ds % 2 ^ 32
 
 -- the slot of a CHOICE, whose alternative is not there yet
 abbrev pub IsBegun : Room → Room → ℕ → ℕ → Type 0

@@ -1,6 +1,6 @@
 //! A builder that puts values into slots.
 ghost use Rattle.std.specs.Prelude.{◌≡◌, ◌++◌, ℕ, pos, Bool, List, map, Option, IfSome, IsSome};
-ghost use Rattle.asn_values.specs.Datum.{Datum, number, bit_list, octet_list};
+ghost use Rattle.asn_values.specs.Datum.{Datum, truth, number, bit_list, octet_list};
 ghost use Rattle.asn_values.specs.View.{datum_of};
 ghost use Rattle.asn_bits.specs.Numbers.{bits, octets};
 ghost use Rattle.asn_bits.specs.Sink.{bit_of};
@@ -23,10 +23,9 @@ pub struct Flat;
 pub struct Entries {
     /// Where its slot is.
     pub(crate) at: usize,
-    /// How many of its components are present, modulo 2^32: each has a slot, and a value has no more slots than that.
-    pub(crate) present: u32,
-    /// How many of them are absent.
-    pub(crate) absent: u32,
+    /// How many entries there are, modulo 2^64: each present one has a slot, before which fewer than 2^32 are absent, and a
+    /// value has no more than 2^32 slots.
+    pub(crate) count: u64,
 }
 
 /// A SEQUENCE OF whose elements are not all there.
@@ -64,7 +63,7 @@ impl Build for Flat {
 
     #[inline(always)]
     fn truth(room: &mut Room, is_true: bool) -> Option<()> {
-        put_slot(room, Content::Truth(is_true))
+        put_truth(room, is_true)
     }
 
     #[inline(always)]
@@ -99,23 +98,19 @@ impl Build for Flat {
     #[inline(always)]
     fn entries(_alloc: Global, room: &mut Room, _count: usize) -> Option<Entries> {
         let at = room.begin()?;
-        Some(Entries {
-            at,
-            present: 0,
-            absent: 0,
-        })
+        Some(Entries { at, count: 0 })
     }
 
     #[inline(always)]
     fn absent(room: &mut Room, entries: &mut Entries) -> Option<()> {
-        entries.absent = entries.absent.checked_add(1)?;
-        room.absent = room.absent.wrapping_add(1);
+        room.absent = room.absent.checked_add(1)?;
+        entries.count = entries.count.wrapping_add(1);
         Some(())
     }
 
     #[inline(always)]
     fn present(_room: &mut Room, entries: &mut Entries, _part: ()) -> Option<()> {
-        entries.present = entries.present.wrapping_add(1);
+        entries.count = entries.count.wrapping_add(1);
         Some(())
     }
 
@@ -123,8 +118,7 @@ impl Build for Flat {
     #[inline(always)]
     fn sequence(room: &mut Room, entries: Entries) -> Option<()> {
         let absent = room.absent;
-        let passed = entries.absent.wrapping_sub(absent);
-        let taken = entries.present.checked_add(passed)?;
+        let taken = u32::try_from(entries.count.wrapping_sub(u64::from(absent))).ok()?;
         room.absent = 0;
         room.close(entries.at, Content::Sequence { taken, absent })
     }
@@ -172,6 +166,14 @@ fn put_slot(room: &mut Room, content: Content) -> Option<()>
         → IsPut r room.new d }
 {
     room.push(content)
+}
+
+/// Puts a BOOLEAN into a slot.
+#[inline(never)]
+fn put_truth(room: &mut Room, is_true: bool) -> Option<()>
+    ensures { IsSome result → IsPut room.old room.new (truth is_true) }
+{
+    put_slot(room, Content::Truth(is_true))
 }
 
 /// Puts an INTEGER into a slot.
@@ -226,13 +228,23 @@ pub(crate) fn put_alone(room: &mut Room, value: &Value) -> Option<()>
     ensures { IsSome result → IsPut room.old room.new (datum_of value.now) }
 {
     match value {
-        Value::Bool(truth) => put_slot(room, Content::Truth(*truth)),
-        Value::Null => put_slot(room, Content::Null),
+        Value::Bool(truth) => put_truth(room, *truth),
         Value::Int(number) => {
             let number = of_profile(number)?;
             put_number(room, number)
         }
         Value::Enum(index) => put_slot(room, Content::Item(*index)),
+        _ => put_string(room, value),
+    }
+}
+
+/// Puts a string into a slot, or NULL.
+#[inline(never)]
+fn put_string(room: &mut Room, value: &Value) -> Option<()>
+    ensures { IsSome result → IsPut room.old room.new (datum_of value.now) }
+{
+    match value {
+        Value::Null => put_slot(room, Content::Null),
         Value::Bits(bits) => {
             let span = room.push_bits(bits)?;
             put_slot(room, Content::Bits(span))

@@ -1,5 +1,5 @@
 //! The slots of a value.
-ghost use Rattle.std.specs.Prelude.{◌≡◌, ◌≤◌, ◌<◌, ◌++◌, ◌∷◌, [], ℕ, Bool, List, map, length, vec_len, vec_capacity, IfSome, IsSome};
+ghost use Rattle.std.specs.Prelude.{◌≡◌, ◌≤◌, ◌<◌, ◌++◌, ◌∷◌, [], ℕ, pos, Bool, List, map, length, vec_len, vec_capacity, IfSome, IsSome};
 ghost use Rattle.asn_message.specs.declared.slots.Content.TheVariants as content;
 ghost use Rattle.asn_message.specs.declared.slots.Slot.{Slot};
 ghost use Rattle.asn_bits.specs.Numbers.{bits, octets};
@@ -115,10 +115,10 @@ impl Room {
         ensures absent { self.new.absent ≡ 0 }
         ensures at { IfSome result (λ at. at ≡ length self.old.slots.items) }
         ensures slots { IsSome result → self.new.slots.items
-            ≡ self.old.slots.items ++ record { content = content.List 0; absent_before = self.old.absent; inside = 0 } ∷ [] }
+            ≡ self.old.slots.items ++ record { content = content.Number (pos 0); absent_before = self.old.absent; inside = 0 } ∷ [] }
     {
         let at = self.slots.len();
-        self.push(Content::List(0))?;
+        self.push(Content::Number(0))?;
         Some(at)
     }
 

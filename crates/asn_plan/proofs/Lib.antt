@@ -13,5 +13,6 @@ pub mod RangedRead
 pub mod Rows
 pub mod OpenHere
 pub mod Ordered
+pub mod StringsPut
 pub mod StringsRead
 pub mod WordsRead

@@ -148,42 +148,39 @@ impl Spare {
         }
         let here = &mut self.here;
         if here.at < here.items.len() {
-            if let Some(Value::Seq(entries)) = &mut here.items[here.at]
-                && entries.len() == count
-            {
+            if let Some(Value::Seq(entries)) = &mut here.items[here.at] {
                 let items = mem::replace(entries, Vec::new(alloc));
-                let place = mem::replace(here, Place { items, at: 0 });
-                self.around.push_reserved(place);
-                return Some(());
+                if items.len() == count {
+                    let at = mem::replace(&mut here.at, 0);
+                    let items = mem::replace(&mut here.items, items);
+                    self.around.push_reserved(Place { items, at });
+                    return Some(());
+                }
+                return self.enter_other(alloc, items, count);
             }
         }
-        self.enter_other(alloc, count)
+        self.enter_other(alloc, Vec::new(alloc), count)
     }
 
-    /// The same where no SEQUENCE of this many components is here.
+    /// The same with entries for it in the memory of one of another length, where it serves, or new ones.
     #[inline(never)]
-    fn enter_other(&mut self, alloc: Global, count: usize) -> Option<()>
+    fn enter_other(
+        &mut self,
+        alloc: Global,
+        memory: Vec<Option<Value>>,
+        count: usize,
+    ) -> Option<()>
         ensures { IsSome result → AreEntries self.old self.new [] }
     {
-        let items = self.other_entries(alloc, count)?;
+        let items = if memory.capacity() < count {
+            Vec::with_capacity(alloc, count).ok()?
+        } else {
+            let mut items = memory;
+            items.truncate(count);
+            items
+        };
         let place = mem::replace(&mut self.here, Place { items, at: 0 });
         self.around.push(place).ok()
-    }
-
-    /// Entries for a SEQUENCE of this many, in the memory of one of another length that is here, or new ones.
-    fn other_entries(&mut self, alloc: Global, count: usize) -> Option<Vec<Option<Value>>>
-        ensures here { taken self.new.here ≡ taken self.old.here }
-        ensures around { self.new.around ≡ self.old.around }
-    {
-        let Value::Seq(entries) = self.here.take() else {
-            return Vec::with_capacity(alloc, count).ok();
-        };
-        if entries.capacity() < count {
-            return Vec::with_capacity(alloc, count).ok();
-        }
-        let mut entries = entries;
-        entries.truncate(count);
-        Some(entries)
     }
 
     /// Makes room for one more place around.

@@ -1,5 +1,5 @@
 -- What stands in slots, as values are added.
-use Rattle.std.proofs.Common.{◌≡◌, ◌+◌, ℕ, zero, suc, List, [], ◌∷◌, ◌++◌, length, map, drop, Vec, Global, Option, Some, None, refl, sym, ap, subst, ◌∙◌, append_assoc, append-nil, arith}
+use Rattle.std.proofs.Common.{◌≡◌, ◌≤◌, ◌<◌, ◌+◌, ◌-◌, ◌*◌, ◌%◌, ◌^◌, ℕ, zero, suc, List, [], ◌∷◌, ◌++◌, length, map, drop, Vec, Global, Option, Some, None, refl, sym, ap, subst, ◌∙◌, append_assoc, append-nil, arith}
 use Rattle.std.proofs.Math.Numerals.{add-one}
 use Rattle.std.proofs.lemmas.List.{take_at, drop_at, drop_all, drop-append-le, length-append, length-map, map_push}
 use Rattle.asn_values.specs.Datum.{Datum, components, components_of, elements, elements_of, alternative}
@@ -69,11 +69,11 @@ counted_alone : (c : Content) (es : List (Option Datum)) → entries_inside c �
 counted_alone (content.List count) es h = rw h refl
 counted_alone _ es h = tt
 
-pub put_alone : (r m s : Room) (c : Content) (d : Datum) (at : ℕ) → Grows r m → m.slots ≡ r.slots → m.absent ≡ r.absent
+pub put_alone : (r m s : Room) (c : Content) (d : Datum) → Grows r m → m.slots ≡ r.slots → m.absent ≡ r.absent
     → s.octets ≡ m.octets → s.absent ≡ 0 → s.slots.items ≡ m.slots.items ++ alone c m.absent ∷ []
-    → at ≡ length m.slots.items → entries_inside c ≡ 0
-    → ((more : List ℕ) (es : List (Option Datum)) → value_at (m.octets.items ++ more) c es ≡ d) → IsPut r s at d
-put_alone r m s c d at g same before os over slots here none is =
+    → entries_inside c ≡ 0
+    → ((more : List ℕ) (es : List (Option Datum)) → value_at (m.octets.items ++ more) c es ≡ d) → IsPut r s d
+put_alone r m s c d g same before os over slots none is =
     let old : m.slots.items ≡ r.slots.items = ap (λ (v : Vec Slot Global). v.items) same in
     let all : s.octets.items ≡ m.octets.items = ap (λ (v : Vec ℕ Global). v.items) os in
     record {
@@ -81,7 +81,6 @@ put_alone r m s c d at g same before os over slots here none is =
       first = alone c m.absent;
       inside = [];
       slots = slots ∙ ap (λ (l : List Slot). l ++ alone c m.absent ∷ []) old;
-      here = here ∙ ap (λ (l : List Slot). length l) old;
       before = before;
       over = over;
       stand = λ a fs. (let v : value_at (s.octets.items ++ a) c fs ≡ d = rw all (is a fs) in rw (v, none, before) (sym (append_assoc (absents r.absent) (Some d ∷ []) fs)));
@@ -89,8 +88,8 @@ put_alone r m s c d at g same before os over slots here none is =
     }
 
 -- the same value, seen otherwise
-pub of_same : (r s : Room) (at : ℕ) (d e : Datum) → e ≡ d → IsPut r s at d → IsPut r s at e
-of_same r s at d e same h = subst (λ (x : Datum). IsPut r s at x) (sym same) h
+pub of_same : (r s : Room) (d e : Datum) → e ≡ d → IsPut r s d → IsPut r s e
+of_same r s d e same h = subst (λ (x : Datum). IsPut r s x) (sym same) h
 
 -- ---- values inside another
 
@@ -108,9 +107,9 @@ begun r s c at os slots here = record {
 }
 
 -- a value more, and the components that are absent before it
-put_inside : (r s t : Room) (at p : ℕ) (es : List (Option Datum)) (d : Datum) → AreInside r s at es → IsPut s t p d
+put_inside : (r s t : Room) (at : ℕ) (es : List (Option Datum)) (d : Datum) → AreInside r s at es → IsPut s t d
     → AreInside r t at (es ++ (absents s.absent ++ Some d ∷ []))
-put_inside r s t at p es d h k = record {
+put_inside r s t at es d h k = record {
   grows = grows_both r s t h.grows k.grows;
   first = h.first;
   inside = h.inside ++ k.first ∷ k.inside;
@@ -120,12 +119,6 @@ put_inside r s t at p es d h k = record {
   stand = both_stand t.octets.items h.inside (k.first ∷ k.inside) es (absents s.absent ++ Some d ∷ []) (stays s t h.inside es k.grows h.stand) k.stand;
   nest = both_nest t.octets.items h.inside (k.first ∷ k.inside) (nest_stays s t h.inside k.grows h.nest) k.nest;
 }
-
--- the same, where none is absent
-pub next_inside : (r s t : Room) (at p : ℕ) (es : List (Option Datum)) (d : Datum) → AreInside r s at es
-    → s.absent ≡ 0 → IsPut s t p d → AreInside r t at (es ++ Some d ∷ [])
-next_inside r s t at p es d h none k =
-    subst (λ (n : ℕ). AreInside r t at (es ++ (absents n ++ Some d ∷ []))) none (put_inside r s t at p es d h k)
 
 -- they are inside it whatever is absent after them
 with_absent : (r s t : Room) (at : ℕ) (es : List (Option Datum)) → t.slots ≡ s.slots → t.octets ≡ s.octets
@@ -144,26 +137,32 @@ with_absent r s t at es slots os h =
     }
 
 -- all of them are inside this slot
-pub closed : (r s t : Room) (at p : ℕ) (c : Content) (es : List (Option Datum)) (d : Datum) → AreInside r s at es
+pub closed : (r s t : Room) (at : ℕ) (c : Content) (es : List (Option Datum)) (d : Datum) → AreInside r s at es
     → t.octets ≡ s.octets → t.absent ≡ 0
     → ((xs : List Slot) (old : Slot) (ys : List Slot) → s.slots.items ≡ xs ++ old ∷ ys → at ≡ length xs
     → t.slots.items ≡ xs ++ record { content = c; absent_before = old.absent_before; inside = length ys } ∷ ys)
-    → p ≡ at → ((os : List ℕ) (fs : List (Option Datum)) → value_at os c (es ++ fs) ≡ d)
+    → ((os : List ℕ) (fs : List (Option Datum)) → value_at os c (es ++ fs) ≡ d)
     → ((fs : List (Option Datum)) → drop (entries_inside c) (es ++ fs) ≡ fs)
-    → ((fs : List (Option Datum)) → IsCounted c (es ++ fs)) → IsPut r t p d
-closed r s t at p c es d h os over slots e value rest counted =
+    → ((fs : List (Option Datum)) → IsCounted c (es ++ fs)) → IsPut r t d
+closed r s t at c es d h os over slots value rest counted =
     let all : t.octets.items ≡ s.octets.items = ap (λ (v : Vec ℕ Global). v.items) os in
     record {
       grows = grows_both r s t h.grows (grows_nothing s t os);
       first = record { content = c; absent_before = h.first.absent_before; inside = length h.inside };
       inside = h.inside;
       slots = slots r.slots.items h.first h.inside h.slots h.here;
-      here = e ∙ h.here;
       before = h.before;
       over = over;
       stand = λ a fs. (let i : entries_in (t.octets.items ++ a) h.inside fs ≡ es ++ fs = rw all (h.stand a fs) in rw (i, value (t.octets.items ++ a) fs, rest fs, h.before) (sym (append_assoc (absents r.absent) (Some d ∷ []) fs)));
       nest = λ a fs. (let i : entries_in (t.octets.items ++ a) h.inside fs ≡ es ++ fs = rw all (h.stand a fs) in let n : AreNested (t.octets.items ++ a) fs h.inside = rw all (h.nest a fs) in (omega arith, (rw (i, rest fs, drop_all (length h.inside) h.inside (omega arith)) refl, (subst (λ (l : List (Option Datum)). IsCounted c l) (sym i) (counted fs), n))));
     }
+
+-- where a value with parts has no more than 2^32 slots, fewer are inside it
+few_inside : (r s : Room) (at : ℕ) (es : List (Option Datum)) (h : AreInside r s at es) → length s.slots.items ≤ at + 2 ^ 32
+    → length h.inside < 2 ^ 32
+few_inside r s at es h few =
+    let all : length s.slots.items ≡ length r.slots.items + (1 + length h.inside) = ap (λ (l : List Slot). length l) h.slots ∙ length-append r.slots.items (h.first ∷ h.inside) in
+    omega (arith, few, all, h.here)
 
 -- ---- SEQUENCE
 
@@ -172,102 +171,143 @@ pub no_entries : (r s : Room) (e : Entries) (c : Content) → s.octets ≡ r.oct
     → AreEntries r s e []
 no_entries r s e c os over slots here n = record {
   first = [];
-  inside = begun r s c e.at os slots here;
-  count = n;
+  within = begun r s c e.at os slots here;
   all = rw over refl;
+  few_absent = omega (arith, over);
+  few = omega arith;
+  count = n;
 }
 
+-- counting goes on past 2^64 from 0
+counted_on : (n c d : ℕ) → c ≡ n % 2 ^ 64 → d ≡ (c + 1) % 2 ^ 64 → d ≡ (n + 1) % 2 ^ 64
+counted_on n c d h k = omega (arith, h, k)
+
 pub absent_more : (r s t : Room) (e f : Entries) (es : List (Option Datum)) → AreEntries r s e es → t.slots ≡ s.slots
-    → t.octets ≡ s.octets → t.absent ≡ s.absent + 1 → f.at ≡ e.at → f.count ≡ e.count + 1
+    → t.octets ≡ s.octets → t.absent ≡ s.absent + 1 → t.absent < 2 ^ 32 → f.at ≡ e.at → f.count ≡ (e.count + 1) % 2 ^ 64
     → AreEntries r t f (es ++ None ∷ [])
-absent_more r s t e f es h slots os absent at count = record {
-  first = h.first;
-  inside = rw at (with_absent r s t e.at h.first slots os h.inside);
-  count = omega (arith, count, h.count, length-append es (None ∷ []));
-  all = ap (λ (l : List (Option Datum)). l ++ None ∷ []) h.all ∙ append_assoc h.first (absents s.absent) (None ∷ []) ∙ ap (λ (l : List (Option Datum)). h.first ++ l) (sym (rw (absent, add-one) (absents_more s.absent)));
-}
+absent_more r s t e f es h slots os absent few at count =
+    let one : length (es ++ None ∷ []) ≡ length es + 1 = length-append es (None ∷ []) in
+    record {
+      first = h.first;
+      within = rw at (with_absent r s t e.at h.first slots os h.within);
+      all = ap (λ (l : List (Option Datum)). l ++ None ∷ []) h.all ∙ append_assoc h.first (absents s.absent) (None ∷ []) ∙ ap (λ (l : List (Option Datum)). h.first ++ l) (sym (rw (absent, add-one) (absents_more s.absent)));
+      few_absent = few;
+      few = rw at (omega (arith, one, h.few, absent));
+      count = rw one (counted_on (length es) e.count f.count h.count count);
+    }
 
 length-absents : (n : ℕ) → length (absents n) ≡ n
 length-absents zero = refl
 length-absents (suc n) = ap suc (length-absents n)
 
-pub present_more : (r s t : Room) (e f : Entries) (p : ℕ) (es : List (Option Datum)) (d : Datum) → AreEntries r s e es
-    → IsPut s t p d → f.at ≡ e.at → f.count ≡ e.count + 1 → AreEntries r t f (es ++ Some d ∷ [])
-present_more r s t e f p es d h k at count =
+pub present_more : (r s t : Room) (e f : Entries) (es : List (Option Datum)) (d : Datum) → AreEntries r s e es
+    → IsPut s t d → f.at ≡ e.at → f.count ≡ (e.count + 1) % 2 ^ 64 → AreEntries r t f (es ++ Some d ∷ [])
+present_more r s t e f es d h k at count =
     let more = absents s.absent ++ Some d ∷ [] in
+    let one : length (es ++ Some d ∷ []) ≡ length es + 1 = length-append es (Some d ∷ []) in
+    let slots : length (h.within.inside ++ k.first ∷ k.inside) ≡ length h.within.inside + (1 + length k.inside) = length-append h.within.inside (k.first ∷ k.inside) in
     record {
       first = h.first ++ more;
-      inside = rw at (put_inside r s t e.at p h.first d h.inside k);
-      count = omega (arith, count, h.count, length-append es (Some d ∷ []));
+      within = rw at (put_inside r s t e.at h.first d h.within k);
       all = ap (λ (l : List (Option Datum)). l ++ Some d ∷ []) h.all ∙ append_assoc h.first (absents s.absent) (Some d ∷ []) ∙ sym (append-nil (h.first ++ more)) ∙ ap (λ (n : ℕ). (h.first ++ more) ++ absents n) (sym k.over);
+      few_absent = omega (arith, k.over);
+      few = rw at (omega (arith, one, slots, h.few, h.few_absent, k.over));
+      count = rw one (counted_on (length es) e.count f.count h.count count);
     }
 
-pub sequence_put : (r s t : Room) (e : Entries) (p taken : ℕ) (es : List (Option Datum)) → AreEntries r s e es
-    → taken + s.absent ≡ e.count → t.octets ≡ s.octets → t.absent ≡ 0
+pub sequence_put : (r s t : Room) (e : Entries) (taken : ℕ) (es : List (Option Datum)) → AreEntries r s e es
+    → length s.slots.items ≤ e.at + 2 ^ 32 → taken ≡ (e.count + 2 ^ 64 - s.absent) % 2 ^ 64
+    → t.octets ≡ s.octets → t.absent ≡ 0
     → ((xs : List Slot) (old : Slot) (ys : List Slot) → s.slots.items ≡ xs ++ old ∷ ys → e.at ≡ length xs
     → t.slots.items ≡ xs ++ record { content = content.Sequence taken s.absent; absent_before = old.absent_before; inside = length ys } ∷ ys)
-    → p ≡ e.at → IsPut r t p (components (components_of es))
-sequence_put r s t e p taken es h sum os over slots here =
+    → IsPut r t (components (components_of es))
+sequence_put r s t e taken es h small rest os over slots =
     let whole : length es ≡ length h.first + s.absent = ap (λ (l : List (Option Datum)). length l) h.all ∙ length-append h.first (absents s.absent) ∙ ap (λ (n : ℕ). length h.first + n) (length-absents s.absent) in
-    let first : length h.first ≡ taken = omega (arith, sum, h.count, whole) in
-    closed r s t e.at p (content.Sequence taken s.absent) h.first (components (components_of es)) h.inside os over slots here (λ o fs. rw (take_at h.first fs taken first, ← h.all) refl) (λ fs. drop_at h.first fs taken first) (λ fs. tt)
+    let inside = few_inside r s e.at h.first h.within small in
+    let first : length h.first ≡ taken = omega (arith, rest, h.count, whole, h.few, h.few_absent, inside) in
+    closed r s t e.at (content.Sequence taken s.absent) h.first (components (components_of es)) h.within os over slots (λ o fs. rw (take_at h.first fs taken first, ← h.all) refl) (λ fs. drop_at h.first fs taken first) (λ fs. tt)
 
 -- ---- SEQUENCE OF
 
 pub no_elements : (r s : Room) (e : Elements) (c : Content) → s.octets ≡ r.octets → s.absent ≡ 0
     → s.slots.items ≡ r.slots.items ++ alone c r.absent ∷ [] → e.at ≡ length r.slots.items → e.count ≡ 0
     → AreElements r s e []
-no_elements r s e c os over slots here n = record { inside = begun r s c e.at os slots here; count = n; over = over }
-
-pub element_more : (r s t : Room) (e f : Elements) (p : ℕ) (ds : List Datum) (d : Datum) → AreElements r s e ds
-    → IsPut s t p d → f.at ≡ e.at → f.count ≡ e.count + 1 → AreElements r t f (ds ++ d ∷ [])
-element_more r s t e f p ds d h k at count = record {
-  inside = rw (at, map_push (λ d. Some d) ds d) (next_inside r s t e.at p (map (λ d. Some d) ds) d h.inside h.over k);
-  count = omega (arith, count, h.count, length-append ds (d ∷ []));
-  over = k.over;
+no_elements r s e c os over slots here n = record {
+  within = begun r s c e.at os slots here;
+  over = over;
+  few = omega arith;
+  count = n;
 }
+
+-- a value more, where no component is absent before it
+next_inside : (r s t : Room) (at : ℕ) (es : List (Option Datum)) (d : Datum) → AreInside r s at es
+    → s.absent ≡ 0 → IsPut s t d → AreInside r t at (es ++ Some d ∷ [])
+next_inside r s t at es d h none k = record {
+  grows = grows_both r s t h.grows k.grows;
+  first = h.first;
+  inside = h.inside ++ k.first ∷ k.inside;
+  slots = k.slots ∙ ap (λ (l : List Slot). l ++ k.first ∷ k.inside) h.slots ∙ append_assoc r.slots.items (h.first ∷ h.inside) (k.first ∷ k.inside);
+  here = h.here;
+  before = h.before;
+  stand = (put_inside r s t at es d h k).stand;
+  nest = both_nest t.octets.items h.inside (k.first ∷ k.inside) (nest_stays s t h.inside k.grows h.nest) k.nest;
+}
+
+pub element_more : (r s t : Room) (e f : Elements) (ds : List Datum) (d : Datum) → AreElements r s e ds
+    → IsPut s t d → f.at ≡ e.at → f.count ≡ (e.count + 1) % 2 ^ 32 → AreElements r t f (ds ++ d ∷ [])
+element_more r s t e f ds d h k at count =
+    let one : length (ds ++ d ∷ []) ≡ length ds + 1 = length-append ds (d ∷ []) in
+    let slots : length (h.within.inside ++ k.first ∷ k.inside) ≡ length h.within.inside + (1 + length k.inside) = length-append h.within.inside (k.first ∷ k.inside) in
+    record {
+      within = rw (at, map_push (λ d. Some d) ds d) (next_inside r s t e.at (map (λ d. Some d) ds) d h.within h.over k);
+      over = k.over;
+      few = rw (at, map_push (λ d. Some d) ds d) (omega (arith, one, slots, h.few));
+      count = omega (arith, one, h.count, count);
+    }
 
 values_somes : (ds : List Datum) → values_of (map (λ d. Some d) ds) ≡ ds
 values_somes [] = refl
 values_somes (d ∷ ds) = ap (λ (l : List Datum). d ∷ l) (values_somes ds)
 
-pub list_put : (r s t : Room) (e : Elements) (p : ℕ) (ds : List Datum) → AreElements r s e ds → t.octets ≡ s.octets
-    → t.absent ≡ s.absent
+pub list_put : (r s t : Room) (e : Elements) (ds : List Datum) → AreElements r s e ds
+    → length s.slots.items ≤ e.at + 2 ^ 32 → t.octets ≡ s.octets → t.absent ≡ s.absent
     → ((xs : List Slot) (old : Slot) (ys : List Slot) → s.slots.items ≡ xs ++ old ∷ ys → e.at ≡ length xs
     → t.slots.items ≡ xs ++ record { content = content.List e.count; absent_before = old.absent_before; inside = length ys } ∷ ys)
-    → p ≡ e.at → IsPut r t p (elements (elements_of ds))
-list_put r s t e p ds h os over slots here =
-    let n : length (map (λ (d : Datum). Some d) ds) ≡ e.count = length-map ds (λ d. Some d) ∙ sym h.count in
-    closed r s t e.at p (content.List e.count) (map (λ d. Some d) ds) (elements (elements_of ds)) h.inside os (over ∙ h.over) slots here (λ o fs. rw (take_at (map (λ d. Some d) ds) fs e.count n, values_somes ds) refl) (λ fs. drop_at (map (λ d. Some d) ds) fs e.count n) (λ fs. rw (take_at (map (λ (d : Datum). Some d) ds) fs e.count n, values_somes ds) (sym h.count))
+    → IsPut r t (elements (elements_of ds))
+list_put r s t e ds h small os over slots =
+    let inside = few_inside r s e.at (map (λ d. Some d) ds) h.within small in
+    let count : length ds ≡ e.count = omega (arith, h.few, h.count, inside) in
+    let n : length (map (λ (d : Datum). Some d) ds) ≡ e.count = length-map ds (λ d. Some d) ∙ count in
+    closed r s t e.at (content.List e.count) (map (λ d. Some d) ds) (elements (elements_of ds)) h.within os (over ∙ h.over) slots (λ o fs. rw (take_at (map (λ d. Some d) ds) fs e.count n, values_somes ds) refl) (λ fs. drop_at (map (λ d. Some d) ds) fs e.count n) (λ fs. rw (take_at (map (λ (d : Datum). Some d) ds) fs e.count n, values_somes ds) count)
 
 -- ---- CHOICE
 
-pub choice_put : (r s t u : Room) (at p part place : ℕ) (d : Datum) → AreInside r s at [] → s.absent ≡ 0
-    → IsPut s t part d → u.octets ≡ t.octets → u.absent ≡ t.absent
+pub choice_put : (r s t u : Room) (at place : ℕ) (d : Datum) → AreInside r s at [] → s.absent ≡ 0
+    → IsPut s t d → u.octets ≡ t.octets → u.absent ≡ t.absent
     → ((xs : List Slot) (old : Slot) (ys : List Slot) → t.slots.items ≡ xs ++ old ∷ ys → at ≡ length xs
     → u.slots.items ≡ xs ++ record { content = content.Choice place; absent_before = old.absent_before; inside = length ys } ∷ ys)
-    → p ≡ at → IsPut r u p (alternative place d)
-choice_put r s t u at p part place d h none k os over slots here =
-    closed r t u at p (content.Choice place) (Some d ∷ []) (alternative place d) (next_inside r s t at part [] d h none k) os (over ∙ k.over) slots here (λ o fs. refl) (λ fs. refl) (λ fs. tt)
+    → IsPut r u (alternative place d)
+choice_put r s t u at place d h none k os over slots =
+    closed r t u at (content.Choice place) (Some d ∷ []) (alternative place d) (next_inside r s t at [] d h none k) os (over ∙ k.over) slots (λ o fs. refl) (λ fs. refl) (λ fs. tt)
 
 -- ---- a whole message
 
-whole_entries : (r s : Room) (at : ℕ) (d : Datum) (h : IsPut r s at d) → r.absent ≡ 0
+whole_entries : (r s : Room) (d : Datum) (h : IsPut r s d) → r.absent ≡ 0
     → entries_in s.octets.items (h.first ∷ h.inside) [] ≡ Some d ∷ []
-whole_entries r s at d h none =
+whole_entries r s d h none =
     let all : entries_in (s.octets.items ++ []) (h.first ∷ h.inside) [] ≡ Some d ∷ [] = rw none at (h.stand [] []) in
     subst (λ (o : List ℕ). entries_in o (h.first ∷ h.inside) [] ≡ Some d ∷ []) (append-nil s.octets.items) all
 
-pub whole_value : (r s : Room) (at : ℕ) (d : Datum) → r.slots.items ≡ [] → r.absent ≡ 0 → IsPut r s at d
+pub whole_value : (r s : Room) (d : Datum) → r.slots.items ≡ [] → r.absent ≡ 0 → IsPut r s d
     → value_in s.octets.items s.slots.items ≡ d
-whole_value r s at d none before h =
+whole_value r s d none before h =
     let is : s.slots.items ≡ h.first ∷ h.inside = h.slots ∙ ap (λ (l : List Slot). l ++ h.first ∷ h.inside) none in
-    let all = rw (h.before ∙ before) at (whole_entries r s at d h before) in
+    let all = rw (h.before ∙ before) at (whole_entries r s d h before) in
     ap (λ (l : List Slot). value_in s.octets.items l) is ∙ ap first_of all
 
-pub whole_nested : (r s : Room) (at : ℕ) (d : Datum) → r.slots.items ≡ [] → IsPut r s at d
+pub whole_nested : (r s : Room) (d : Datum) → r.slots.items ≡ [] → IsPut r s d
     → AreNested s.octets.items [] s.slots.items
-whole_nested r s at d none h =
+whole_nested r s d none h =
     let is : s.slots.items ≡ h.first ∷ h.inside = h.slots ∙ ap (λ (l : List Slot). l ++ h.first ∷ h.inside) none in
     let all : AreNested s.octets.items [] (h.first ∷ h.inside) = subst (λ (o : List ℕ). AreNested o [] (h.first ∷ h.inside)) (append-nil s.octets.items) (h.nest [] []) in
     subst (λ (l : List Slot). AreNested s.octets.items [] l) (sym is) all

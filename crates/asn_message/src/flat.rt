@@ -1,15 +1,15 @@
 //! A builder that puts values into slots.
-ghost use Rattle.std.specs.Prelude.{◌≡◌, ◌++◌, ℕ, Bool, List, map, Option, IfSome};
-ghost use Rattle.asn_values.specs.Datum.{Datum, bit_list, octet_list};
+ghost use Rattle.std.specs.Prelude.{◌≡◌, ◌++◌, ℕ, pos, Bool, List, map, Option, IfSome, IsSome};
+ghost use Rattle.asn_values.specs.Datum.{Datum, truth, number, bit_list, octet_list};
 ghost use Rattle.asn_values.specs.View.{datum_of};
 ghost use Rattle.asn_bits.specs.Numbers.{bits, octets};
 ghost use Rattle.asn_bits.specs.Sink.{bit_of};
 ghost use Rattle.asn_walk.specs.Integers.{IsOfProfile};
 ghost use Rattle.asn_message.specs.declared.slots.Room.{Room};
-ghost use Rattle.asn_message.specs.Building.{IsPut, IsNumberAlone, AreEntries, AreElements, IsBegun, Grows};
+ghost use Rattle.asn_message.specs.Building.{IsPut, AreEntries, AreElements, IsBegun, Grows};
 ghost use Rattle.asn_message.specs.Slots.{entries_inside, value_at};
 
-use crate::slots::{Content, Room, Slot};
+use crate::slots::{Content, Room};
 use asn_plan::{Build, FixedString};
 use asn_values::Value;
 use asn_values::profile::{HIGHEST_INTEGER, LOWEST_INTEGER};
@@ -23,8 +23,9 @@ pub struct Flat;
 pub struct Entries {
     /// Where its slot is.
     pub(crate) at: usize,
-    /// How many entries there are.
-    pub(crate) count: u32,
+    /// How many entries there are, modulo 2^64: each present one has a slot, before which fewer than 2^32 are absent, and a
+    /// value has no more than 2^32 slots.
+    pub(crate) count: u64,
 }
 
 /// A SEQUENCE OF whose elements are not all there.
@@ -32,14 +33,14 @@ pub struct Entries {
 pub struct Elements {
     /// Where its slot is.
     pub(crate) at: usize,
-    /// How many elements there are.
+    /// How many elements there are, modulo 2^32: each has a slot.
     pub(crate) count: u32,
 }
 
 impl Build for Flat {
     type Room = Room;
 
-    type Part = usize;
+    type Part = ();
 
     type Entries = Entries;
 
@@ -47,7 +48,7 @@ impl Build for Flat {
 
     type Chosen = usize;
 
-    ghost built = { IsPut };
+    ghost built = { λ s r p d. IsPut s r d };
 
     ghost listed = { AreEntries };
 
@@ -56,21 +57,18 @@ impl Build for Flat {
     ghost opened = { IsBegun };
 
     #[inline(always)]
-    fn number(room: &mut Room, integer: i128) -> Option<usize> {
-        let at = put_slot(room, number_content(integer))?;
-        Some(at)
+    fn number(room: &mut Room, integer: i128) -> Option<()> {
+        put_number(room, integer)
     }
 
     #[inline(always)]
-    fn truth(room: &mut Room, is_true: bool) -> Option<usize> {
-        let at = put_slot(room, Content::Truth(is_true))?;
-        Some(at)
+    fn truth(room: &mut Room, is_true: bool) -> Option<()> {
+        put_truth(room, is_true)
     }
 
     #[inline(always)]
-    fn item(room: &mut Room, position: u32) -> Option<usize> {
-        let at = put_slot(room, Content::Item(position))?;
-        Some(at)
+    fn item(room: &mut Room, position: u32) -> Option<()> {
+        put_slot(room, Content::Item(position))
     }
 
     #[inline(always)]
@@ -79,70 +77,72 @@ impl Build for Flat {
     }
 
     #[inline(always)]
-    fn string(room: &mut Room, fixed: &FixedString, number: u64) -> Option<usize> {
+    fn string(room: &mut Room, fixed: &FixedString, number: u64) -> Option<()> {
         if fixed.of_octets {
-            let at = put_low_octets(room, fixed.length, number)?;
-            return Some(at);
+            put_low_octets(room, fixed.length, number)
+        } else {
+            put_low_bits(room, fixed.length, number)
         }
-        let at = put_low_bits(room, fixed.length, number)?;
-        Some(at)
     }
 
     #[inline(always)]
-    fn value(room: &mut Room, value: Value) -> Option<usize> {
+    fn value(room: &mut Room, value: Value) -> Option<()> {
         put_alone(room, &value)
     }
 
     #[inline(always)]
+    fn kept(room: &mut Room, value: &Value) -> Option<()> {
+        put_alone(room, value)
+    }
+
+    #[inline(always)]
     fn entries(_alloc: Global, room: &mut Room, _count: usize) -> Option<Entries> {
-        let at = room.push(Content::Null)?;
+        let at = room.begin()?;
         Some(Entries { at, count: 0 })
     }
 
     #[inline(always)]
     fn absent(room: &mut Room, entries: &mut Entries) -> Option<()> {
-        entries.count = entries.count.checked_add(1)?;
         room.absent = room.absent.checked_add(1)?;
+        entries.count = entries.count.wrapping_add(1);
         Some(())
     }
 
     #[inline(always)]
-    fn present(_room: &mut Room, entries: &mut Entries, _part: usize) -> Option<()> {
-        entries.count = entries.count.checked_add(1)?;
+    fn present(_room: &mut Room, entries: &mut Entries, _part: ()) -> Option<()> {
+        entries.count = entries.count.wrapping_add(1);
         Some(())
     }
 
+    /// The components that are absent after the last present one are those that no slot has passed yet.
     #[inline(always)]
-    fn sequence(room: &mut Room, entries: Entries) -> Option<usize> {
+    fn sequence(room: &mut Room, entries: Entries) -> Option<()> {
         let absent = room.absent;
-        let taken = entries.count.checked_sub(absent)?;
+        let taken = u32::try_from(entries.count.wrapping_sub(u64::from(absent))).ok()?;
         room.absent = 0;
-        let part = room.close(entries.at, Content::Sequence { taken, absent })?;
-        Some(part)
+        room.close(entries.at, Content::Sequence { taken, absent })
     }
 
     #[inline(always)]
     fn elements(_alloc: Global, room: &mut Room) -> Option<Elements> {
-        let at = room.push(Content::Null)?;
+        let at = room.begin()?;
         Some(Elements { at, count: 0 })
     }
 
     #[inline(always)]
-    fn element(_room: &mut Room, row: &mut Elements, _part: usize) -> Option<()> {
-        row.count = row.count.checked_add(1)?;
+    fn element(_room: &mut Room, row: &mut Elements, _part: ()) -> Option<()> {
+        row.count = row.count.wrapping_add(1);
         Some(())
     }
 
     #[inline(always)]
-    fn list(room: &mut Room, row: Elements) -> Option<usize> {
-        let part = room.close(row.at, Content::List(row.count))?;
-        Some(part)
+    fn list(room: &mut Room, row: Elements) -> Option<()> {
+        room.close(row.at, Content::List(row.count))
     }
 
     #[inline(always)]
     fn choosing(room: &mut Room, _place: usize) -> Option<usize> {
-        let chosen = room.push(Content::Null)?;
-        Some(chosen)
+        room.begin()
     }
 
     #[inline(always)]
@@ -151,94 +151,115 @@ impl Build for Flat {
         room: &mut Room,
         chosen: usize,
         place: usize,
-        _part: usize,
-    ) -> Option<usize> {
-        let part = room.close(chosen, Content::Choice(place as u32))?;
-        Some(part)
+        _part: (),
+    ) -> Option<()> {
+        room.close(chosen, Content::Choice(place as u32))
     }
 }
 
 /// Puts a value into a slot that has no others inside it.
 #[inline(always)]
-fn put_slot(room: &mut Room, content: Content) -> Option<usize>
-    ensures { IfSome result (λ at. (r : Room) (d : Datum) → Grows r room.old → room.old.slots ≡ r.slots
+fn put_slot(room: &mut Room, content: Content) -> Option<()>
+    ensures { IsSome result → (r : Room) (d : Datum) → Grows r room.old → room.old.slots ≡ r.slots
         → room.old.absent ≡ r.absent → entries_inside content ≡ 0
         → ((more : List ℕ) (es : List (Option Datum)) → value_at (room.old.octets.items ++ more) content es ≡ d)
-        → IsPut r room.new at d) }
+        → IsPut r room.new d }
 {
-    let at = room.push(content)?;
-    Some(at)
+    room.push(content)
+}
+
+/// Puts a BOOLEAN into a slot.
+#[inline(never)]
+fn put_truth(room: &mut Room, is_true: bool) -> Option<()>
+    ensures { IsSome result → IsPut room.old room.new (truth is_true) }
+{
+    put_slot(room, Content::Truth(is_true))
+}
+
+/// Puts an INTEGER into a slot.
+#[inline(always)]
+fn put_number(room: &mut Room, integer: i128) -> Option<()>
+    requires { IsOfProfile integer }
+    ensures { IsSome result → IsPut room.old room.new (number integer) }
+{
+    if integer > i64::MAX as i128 {
+        return put_large(room, integer as u64);
+    }
+    put_slot(room, Content::Number(integer as i64))
+}
+
+/// Puts an INTEGER that does not have 64 bits with a sign into a slot.
+#[cold]
+#[inline(never)]
+fn put_large(room: &mut Room, integer: u64) -> Option<()>
+    ensures { IsSome result → IsPut room.old room.new (number (pos integer)) }
+{
+    put_slot(room, Content::Large(integer))
 }
 
 /// Puts a BIT STRING of the last `count` bits of a number into a slot.
 #[inline(never)]
-fn put_low_bits(room: &mut Room, count: u32, number: u64) -> Option<usize>
-    ensures { IfSome result (λ at. (bs : List Bool) → map bit_of bs ≡ bits count number
-        → IsPut room.old room.new at (bit_list bs)) }
+fn put_low_bits(room: &mut Room, count: u32, number: u64) -> Option<()>
+    ensures { IsSome result → (bs : List Bool) → map bit_of bs ≡ bits count number
+        → IsPut room.old room.new (bit_list bs) }
 {
     if count > 64 {
         return None;
     }
     let span = room.push_low_bits(count, number)?;
-    let at = put_slot(room, Content::Bits(span))?;
-    Some(at)
+    put_slot(room, Content::Bits(span))
 }
 
 /// Puts an OCTET STRING of the last `count` octets of a number into a slot.
 #[inline(never)]
-fn put_low_octets(room: &mut Room, count: u32, number: u64) -> Option<usize>
-    ensures { IfSome result (λ at. IsPut room.old room.new at (octet_list (octets count number))) }
+fn put_low_octets(room: &mut Room, count: u32, number: u64) -> Option<()>
+    ensures { IsSome result → IsPut room.old room.new (octet_list (octets count number)) }
 {
     if count > 8 {
         return None;
     }
     let span = room.push_low_octets(count, number)?;
-    let at = put_slot(room, Content::Octets(span))?;
-    Some(at)
+    put_slot(room, Content::Octets(span))
 }
 
 /// Puts a value without parts into a slot.
 #[inline(always)]
-pub(crate) fn put_alone(room: &mut Room, value: &Value) -> Option<usize>
-    ensures { IfSome result (λ at. IsPut room.old room.new at (datum_of value.now)) }
+pub(crate) fn put_alone(room: &mut Room, value: &Value) -> Option<()>
+    ensures { IsSome result → IsPut room.old room.new (datum_of value.now) }
 {
     match value {
-        Value::Bool(truth) => {
-            let at = put_slot(room, Content::Truth(*truth))?;
-            Some(at)
-        }
-        Value::Null => {
-            let at = put_slot(room, Content::Null)?;
-            Some(at)
-        }
+        Value::Bool(truth) => put_truth(room, *truth),
         Value::Int(number) => {
             let number = of_profile(number)?;
-            let at = put_slot(room, number_content(number))?;
-            Some(at)
+            put_number(room, number)
         }
-        Value::Enum(index) => {
-            let at = put_slot(room, Content::Item(*index))?;
-            Some(at)
-        }
+        Value::Enum(index) => put_slot(room, Content::Item(*index)),
+        _ => put_string(room, value),
+    }
+}
+
+/// Puts a string into a slot, or NULL.
+#[inline(never)]
+fn put_string(room: &mut Room, value: &Value) -> Option<()>
+    ensures { IsSome result → IsPut room.old room.new (datum_of value.now) }
+{
+    match value {
+        Value::Null => put_slot(room, Content::Null),
         Value::Bits(bits) => {
             let span = room.push_bits(bits)?;
-            let at = put_slot(room, Content::Bits(span))?;
-            Some(at)
+            put_slot(room, Content::Bits(span))
         }
         Value::Octets(octets) => {
             let span = room.push_octets(octets)?;
-            let at = put_slot(room, Content::Octets(span))?;
-            Some(at)
+            put_slot(room, Content::Octets(span))
         }
         Value::Text(codes) => {
             let span = room.push_octets(codes)?;
-            let at = put_slot(room, Content::Text(span))?;
-            Some(at)
+            put_slot(room, Content::Text(span))
         }
         Value::Utf8(text) => {
             let span = room.push_octets(text.as_bytes())?;
-            let at = put_slot(room, Content::Utf8(span))?;
-            Some(at)
+            put_slot(room, Content::Utf8(span))
         }
         _ => None,
     }
@@ -252,17 +273,4 @@ fn of_profile(integer: &i128) -> Option<i128>
         return None;
     }
     Some(*integer)
-}
-
-/// What the slot of an integer of the profile is of.
-#[inline(always)]
-fn number_content(integer: i128) -> Content
-    requires { IsOfProfile integer }
-    ensures { IsNumberAlone result integer }
-{
-    if integer <= i64::MAX as i128 {
-        Content::Number(integer as i64)
-    } else {
-        Content::Large(integer as u64)
-    }
 }

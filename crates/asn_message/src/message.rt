@@ -95,7 +95,7 @@ impl Message {
     {
         let mut room = self.take_room();
         match planned.build::<R, Flat>(alloc, octets, &mut room) {
-            Some(at) => {
+            Some(()) => {
                 *self = Message { room };
                 true
             }
@@ -114,7 +114,7 @@ impl Message {
     {
         let mut room = self.take_room();
         match put(&mut room, value) {
-            Some(at) => {
+            Some(()) => {
                 *self = Message { room };
                 Some(())
             }

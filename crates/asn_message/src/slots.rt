@@ -1,5 +1,6 @@
 //! The slots of a value.
-ghost use Rattle.std.specs.Prelude.{◌≡◌, ◌≤◌, ◌<◌, ◌++◌, ◌∷◌, [], ℕ, Bool, List, map, length, vec_len, vec_capacity, IfSome, IsSome};
+ghost use Rattle.std.specs.Prelude.{◌≡◌, ◌≤◌, ◌<◌, ◌++◌, ◌∷◌, [], ℕ, pos, Bool, List, map, length, vec_len, vec_capacity, IfSome, IsSome};
+ghost use Rattle.asn_message.specs.declared.slots.Content.TheVariants as content;
 ghost use Rattle.asn_message.specs.declared.slots.Slot.{Slot};
 ghost use Rattle.asn_bits.specs.Numbers.{bits, octets};
 ghost use Rattle.asn_bits.specs.Sink.{bit_of};
@@ -89,24 +90,35 @@ impl Room {
         self.absent = 0;
     }
 
-    /// Adds a slot, before which stand the components that are absent, and tells where.
+    /// Adds a slot, before which stand the components that are absent.
     #[inline(always)]
-    pub(crate) fn push(&mut self, content: Content) -> Option<usize>
+    pub(crate) fn push(&mut self, content: Content) -> Option<()>
         ensures octets { self.new.octets ≡ self.old.octets }
         ensures absent { self.new.absent ≡ 0 }
-        ensures at { IfSome result (λ at. at ≡ length self.old.slots.items) }
-        ensures slots { IfSome result (λ at. self.new.slots.items
-            ≡ self.old.slots.items ++ record { content = content; absent_before = self.old.absent; inside = 0 } ∷ []) }
+        ensures slots { IsSome result → self.new.slots.items
+            ≡ self.old.slots.items ++ record { content = content; absent_before = self.old.absent; inside = 0 } ∷ [] }
     {
-        let at = self.slots.len();
-        let slot = Slot {
+        make_room(&mut self.slots)?;
+        self.slots.push_reserved(Slot {
             content,
             absent_before: self.absent,
             inside: 0,
-        };
+        });
         self.absent = 0;
-        make_room(&mut self.slots)?;
-        self.slots.push_reserved(slot);
+        Some(())
+    }
+
+    /// Adds the slot of a value with parts, which are not there yet, and tells where.
+    #[inline(always)]
+    pub(crate) fn begin(&mut self) -> Option<usize>
+        ensures octets { self.new.octets ≡ self.old.octets }
+        ensures absent { self.new.absent ≡ 0 }
+        ensures at { IfSome result (λ at. at ≡ length self.old.slots.items) }
+        ensures slots { IsSome result → self.new.slots.items
+            ≡ self.old.slots.items ++ record { content = content.Number (pos 0); absent_before = self.old.absent; inside = 0 } ∷ [] }
+    {
+        let at = self.slots.len();
+        self.push(Content::Number(0))?;
         Some(at)
     }
 
@@ -125,12 +137,11 @@ impl Room {
         Some(())
     }
 
-    /// Tells of the slot of a value with parts what it is of, once these are there, and where it is.
+    /// Tells of the slot of a value with parts what it is of, once these are there.
     #[inline(always)]
-    pub(crate) fn close(&mut self, at: usize, content: Content) -> Option<usize>
+    pub(crate) fn close(&mut self, at: usize, content: Content) -> Option<()>
         ensures octets { self.new.octets ≡ self.old.octets }
         ensures absent { self.new.absent ≡ self.old.absent }
-        ensures at { IfSome result (λ here. here ≡ at) }
         ensures slots { IsSome result → (xs : List Slot) (old : Slot) (ys : List Slot)
             → self.old.slots.items ≡ xs ++ old ∷ ys → at ≡ length xs → self.new.slots.items
             ≡ xs ++ record { content = content; absent_before = old.absent_before; inside = length ys } ∷ ys }
@@ -146,8 +157,7 @@ impl Room {
             absent_before: begun.absent_before,
             inside,
         };
-        self.replace(at, slot)?;
-        Some(at)
+        self.replace(at, slot)
     }
 
     /// Adds the octets of a string, and tells where.
@@ -176,11 +186,10 @@ impl Room {
             → octets_at (self.new.octets.items ++ more) s ≡ octets count number) }
     {
         let begin = u32::try_from(self.octets.len()).ok()?;
-        for i in 0..count {
-            let octet = low_octet(number >> (8 * (count - 1 - i)));
-            let Ok(()) = self.octets.push(octet) else {
-                return None;
-            };
+        if count > 0 {
+            let eight = (number << (64 - 8 * count)).to_be_bytes();
+            push_eight(&mut self.octets, &eight)?;
+            self.octets.truncate(begin as usize + count as usize);
         }
         Some(Span {
             begin,
@@ -198,11 +207,13 @@ impl Room {
             → bits_at (self.new.octets.items ++ more) s ≡ bs) }
     {
         let begin = u32::try_from(self.octets.len()).ok()?;
-        for i in 0..count {
-            let bit = (number >> (count - 1 - i) & 1) as u8;
-            let Ok(()) = self.octets.push(bit) else {
-                return None;
-            };
+        if count > 0 {
+            let first = number << (64 - count);
+            for i in 0..count.div_ceil(8) {
+                let eight = spread(low_octet(first >> (56 - 8 * i)));
+                push_eight(&mut self.octets, &eight)?;
+            }
+            self.octets.truncate(begin as usize + count as usize);
         }
         Some(Span {
             begin,
@@ -251,4 +262,22 @@ fn grow(slots: &mut Vec<Slot>) -> Option<()>
         return None;
     };
     Some(())
+}
+
+/// Adds eight octets.
+#[inline(always)]
+fn push_eight(to: &mut Vec<u8>, eight: &[u8; 8]) -> Option<()>
+    ensures { IsSome result → to.new.items ≡ to.old.items ++ eight.now }
+{
+    to.extend_from_slice(eight).ok()
+}
+
+/// The bits of an octet, an octet for each: of the eight products, each nine bits above the one before, none reaches into
+/// another, and bit 7 of each octet of the sum is one of them.
+#[inline(always)]
+fn spread(octet: u8) -> [u8; 8]
+    ensures { result ≡ bits 8 octet }
+{
+    let apart = u64::from(octet).wrapping_mul(0x8040_2010_0804_0201);
+    (apart >> 7 & 0x0101_0101_0101_0101).to_le_bytes()
 }

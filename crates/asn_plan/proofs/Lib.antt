@@ -14,5 +14,6 @@ pub mod Rows
 pub mod OpenHere
 pub mod Ordered
 pub mod Others
+pub mod StringsPut
 pub mod StringsRead
 pub mod WordsRead

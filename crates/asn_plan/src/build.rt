@@ -5,6 +5,7 @@ ghost use Rattle.asn_values.specs.View.{datum_of, entries_seen};
 ghost use Rattle.asn_walk.specs.Integers.{IsOfProfile};
 ghost use Rattle.asn_plan.specs.FixedStrings.{IsStringOf};
 
+use crate::copies::copy_default;
 use crate::fixed::FixedString;
 use asn_values::Value;
 use std::alloc::Global;
@@ -67,6 +68,15 @@ pub trait Build {
     /// Of a value without parts; it may give up at another.
     fn value(room: &mut Self::Room, value: Value) -> Option<Self::Part>
         ensures { IfSome result (λ p. built room.old room.new p (datum_of value)) };
+
+    /// The same of a value that stays where it is, as the DEFAULT of a component that is absent.
+    #[inline(always)]
+    fn kept(room: &mut Self::Room, value: &Value) -> Option<Self::Part>
+        ensures { IfSome result (λ p. built room.old room.new p (datum_of value.now)) }
+    {
+        let copy = copy_default(value)?;
+        Self::value(room, copy)
+    }
 
     /// A value whose memory serves for the next part, which is a string, if there is one.
     fn spare(room: &mut Self::Room) -> Option<Value>
@@ -175,6 +185,11 @@ impl Build for Nothing {
 
     #[inline(always)]
     fn value(_room: &mut (), _value: Value) -> Option<()> {
+        Some(())
+    }
+
+    #[inline(always)]
+    fn kept(_room: &mut (), _value: &Value) -> Option<()> {
         Some(())
     }
 

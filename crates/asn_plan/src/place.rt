@@ -1,9 +1,12 @@
 //! Where values are put over those of a value before.
-ghost use Rattle.std.specs.Prelude.{◌≡◌, ◌++◌, ◌∷◌, [], Some, None, IsSome, true};
-ghost use Rattle.asn_values.specs.Datum.{Datum, truth, number, item, components, components_of};
+ghost use Rattle.std.specs.Prelude.{◌≡◌, ◌≤◌, ◌++◌, ◌∷◌, [], Bool, List, length, map, Some, None, IsSome, true};
+ghost use Rattle.asn_bits.specs.Numbers.{bits, octets};
+ghost use Rattle.asn_bits.specs.Sink.{bit_of};
+ghost use Rattle.asn_values.specs.Datum.{Datum, truth, number, item, bit_list, octet_list, components, components_of};
 ghost use Rattle.asn_values.specs.View.{datum_of, entries_seen};
 ghost use Rattle.asn_plan.specs.Placed.{IsAbsent, IsPut, IsThere, taken};
 
+use asn_bits::internal::low_octet;
 use asn_values::Value;
 use std::alloc::Global;
 use std::mem;
@@ -81,6 +84,51 @@ impl Place {
         ensures { IsSome result → IsPut self.old self.new (item position) }
     {
         self.put(Value::Enum(position))
+    }
+
+    /// Puts a BIT STRING of the last `count` bits of a number here.
+    #[inline(never)]
+    pub(crate) fn put_low_bits(&mut self, count: u32, number: u64) -> Option<()>
+        ensures { IsSome result → (bs : List Bool) → map bit_of bs ≡ bits count number
+            → IsPut self.old self.new (bit_list bs) }
+    {
+        if count > 64 {
+            return None;
+        }
+        if self.at < self.items.len() {
+            if let Some(Value::Bits(there)) = &mut self.items[self.at]
+                && there.len() == count as usize
+            {
+                set_low_bits(there, number);
+                return Some(());
+            }
+        }
+        let mut made = Vec::new(*self.items.allocator());
+        made.resize(count as usize, false).ok()?;
+        set_low_bits(&mut made, number);
+        self.put_back(Value::Bits(made))
+    }
+
+    /// Puts an OCTET STRING of the last `count` octets of a number here.
+    #[inline(never)]
+    pub(crate) fn put_low_octets(&mut self, count: u32, number: u64) -> Option<()>
+        ensures { IsSome result → IsPut self.old self.new (octet_list (octets count number)) }
+    {
+        if count > 8 {
+            return None;
+        }
+        if self.at < self.items.len() {
+            if let Some(Value::Octets(there)) = &mut self.items[self.at]
+                && there.len() == count as usize
+            {
+                set_low_octets(there, number);
+                return Some(());
+            }
+        }
+        let mut made = Vec::new(*self.items.allocator());
+        made.resize(count as usize, 0).ok()?;
+        set_low_octets(&mut made, number);
+        self.put_back(Value::Octets(made))
     }
 
     /// Puts a value here.
@@ -168,21 +216,6 @@ impl Place {
         }
     }
 
-    /// Takes the entries out of the SEQUENCE that is here, for their memory, where it has this many.
-    #[inline(always)]
-    pub(crate) fn take_entries(&mut self, alloc: Global, count: usize) -> Option<Vec<Option<Value>>>
-        ensures { taken self.new ≡ taken self.old }
-    {
-        if self.at < self.items.len() {
-            if let Some(Value::Seq(entries)) = &mut self.items[self.at] {
-                if entries.len() == count {
-                    return Some(mem::replace(entries, Vec::new(alloc)));
-                }
-            }
-        }
-        None
-    }
-
     /// Puts a SEQUENCE of these entries here.
     #[inline(always)]
     pub(crate) fn put_entries(&mut self, entries: Vec<Option<Value>>) -> Option<()>
@@ -249,9 +282,33 @@ impl Place {
     }
 }
 
+/// Each bit becomes that of a number at its place from the last one.
+#[inline(always)]
+fn set_low_bits(into: &mut [bool], number: u64)
+    requires few { length into.old ≤ 64 }
+    ensures { (bs : List Bool) → map bit_of bs ≡ bits (length into.old) number → into.new ≡ bs }
+{
+    let count = into.len();
+    for i in 0..count {
+        into[i] = number >> (count - 1 - i) & 1 == 1;
+    }
+}
+
+/// Each octet becomes that of a number at its place from the last one.
+#[inline(always)]
+fn set_low_octets(into: &mut [u8], number: u64)
+    requires few { length into.old ≤ 8 }
+    ensures { into.new ≡ octets (length into.old) number }
+{
+    let count = into.len();
+    for i in 0..count {
+        into[i] = low_octet(number >> (8 * (count - 1 - i)));
+    }
+}
+
 /// Puts a value in the place of another.
 #[inline(always)]
-fn put_over(value: Value, place: &mut Value)
+pub(crate) fn put_over(value: Value, place: &mut Value)
     ensures { datum_of place.new ≡ datum_of value }
 {
     if let Value::Null = place {

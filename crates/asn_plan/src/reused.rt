@@ -5,7 +5,8 @@ ghost use Rattle.asn_values.specs.View.{datum_of};
 ghost use Rattle.asn_plan.specs.Placed.{taken, made, IsThere, IsPutIn, AreEntries, AreElements, IsBegun};
 
 use crate::build::Build;
-use crate::place::Place;
+use crate::fixed::FixedString;
+use crate::place::{Place, put_over};
 use asn_values::Value;
 use std::alloc::Global;
 use std::mem;
@@ -38,7 +39,7 @@ pub struct ChoiceOver {
 }
 
 impl ElementsOver {
-    /// Lays the element that stood at this place into the room, for its memory, and after the last one that is kept.
+    /// Lays the element that stood at this place into the room, for its memory, and after the last one one that is kept.
     #[inline(always)]
     fn lay_next(&mut self, room: &mut Spare)
         ensures same { taken room.new.here ≡ taken room.old.here }
@@ -54,8 +55,42 @@ impl ElementsOver {
         }
     }
 
-    /// Adds the element that is in the room.
+    /// Adds the element that is in the room, and lays the next one there.
     #[inline(always)]
+    fn go_on(&mut self, room: &mut Spare) -> Option<()>
+        ensures same { IsSome result → taken room.new.here ≡ taken room.old.here }
+        ensures around { room.new.around ≡ room.old.around }
+        ensures made { IsSome result → (d : Datum) → IsThere room.old.here d → made self.new ≡ made self.old ++ d ∷ [] }
+    {
+        let at = self.count;
+        if at < self.items.len() && at + 1 < self.items.len() {
+            let here = &mut room.here;
+            if here.at < here.items.len() {
+                if let Some(place) = &mut here.items[here.at] {
+                    let next = mem::replace(&mut self.items[at + 1], Value::Null);
+                    let element = mem::replace(place, next);
+                    put_over(element, &mut self.items[at]);
+                    self.count = at + 1;
+                    return Some(());
+                }
+            }
+        }
+        self.add_last(room)
+    }
+
+    /// Adds the element that is in the room, where it is the last one of the value before or stands behind it.
+    #[inline(never)]
+    fn add_last(&mut self, room: &mut Spare) -> Option<()>
+        ensures same { IsSome result → taken room.new.here ≡ taken room.old.here }
+        ensures around { room.new.around ≡ room.old.around }
+        ensures made { IsSome result → (d : Datum) → IsThere room.old.here d → made self.new ≡ made self.old ++ d ∷ [] }
+    {
+        self.add(&mut room.here)?;
+        self.lay_next(room);
+        Some(())
+    }
+
+    /// Adds the element that is in the room.
     fn add(&mut self, room: &mut Place) -> Option<()>
         ensures same { IsSome result → taken room.new ≡ taken room.old }
         ensures made { IsSome result → (d : Datum) → IsThere room.old d → made self.new ≡ made self.old ++ d ∷ [] }
@@ -71,7 +106,6 @@ impl ElementsOver {
     }
 
     /// Adds an element behind all others, which are new.
-    #[inline(never)]
     fn push(&mut self, element: Value) -> Option<()>
         ensures { IsSome result → vec_len self.old.items ≤ self.old.count
             → made self.new ≡ made self.old ++ datum_of element ∷ [] }
@@ -109,37 +143,48 @@ impl Spare {
     fn enter(&mut self, alloc: Global, count: usize) -> Option<()>
         ensures { IsSome result → AreEntries self.old self.new [] }
     {
-        let entries = match self.here.take_entries(alloc, count) {
-            Some(entries) => entries,
-            None => self.other_entries(alloc, count)?,
-        };
         if self.around.len() >= self.around.capacity() {
             self.grow()?;
         }
-        let items = mem::replace(&mut self.here.items, entries);
-        let at = mem::replace(&mut self.here.at, 0);
-        self.around.push_reserved(Place { items, at });
-        Some(())
+        let here = &mut self.here;
+        if here.at < here.items.len() {
+            if let Some(Value::Seq(entries)) = &mut here.items[here.at] {
+                let items = mem::replace(entries, Vec::new(alloc));
+                if items.len() == count {
+                    let at = mem::replace(&mut here.at, 0);
+                    let items = mem::replace(&mut here.items, items);
+                    self.around.push_reserved(Place { items, at });
+                    return Some(());
+                }
+                return self.enter_other(alloc, items, count);
+            }
+        }
+        self.enter_other(alloc, Vec::new(alloc), count)
     }
 
-    /// Entries for a SEQUENCE of this many, in the memory of one of another length that is here, or new ones.
+    /// The same with entries for it in the memory of one of another length, where it serves, or new ones.
     #[inline(never)]
-    fn other_entries(&mut self, alloc: Global, count: usize) -> Option<Vec<Option<Value>>>
-        ensures here { taken self.new.here ≡ taken self.old.here }
-        ensures around { self.new.around ≡ self.old.around }
+    fn enter_other(
+        &mut self,
+        alloc: Global,
+        memory: Vec<Option<Value>>,
+        count: usize,
+    ) -> Option<()>
+        ensures { IsSome result → AreEntries self.old self.new [] }
     {
-        let Value::Seq(entries) = self.here.take() else {
-            return Vec::with_capacity(alloc, count).ok();
+        let items = if memory.capacity() < count {
+            Vec::with_capacity(alloc, count).ok()?
+        } else {
+            let mut items = memory;
+            items.truncate(count);
+            items
         };
-        if entries.capacity() < count {
-            return Vec::with_capacity(alloc, count).ok();
-        }
-        let mut entries = entries;
-        entries.truncate(count);
-        Some(entries)
+        let place = mem::replace(&mut self.here, Place { items, at: 0 });
+        self.around.push(place).ok()
     }
 
     /// Makes room for one more place around.
+    #[cold]
     #[inline(never)]
     fn grow(&mut self) -> Option<()>
         ensures here { self.new.here ≡ self.old.here }
@@ -156,9 +201,8 @@ impl Spare {
             → IsPutIn s self.new (components (components_of es)) }
     {
         let place = self.around.pop()?;
-        let items = mem::replace(&mut self.here.items, place.items);
-        let count = mem::replace(&mut self.here.at, place.at);
-        if count != items.len() {
+        let Place { items, at } = mem::replace(&mut self.here, place);
+        if at != items.len() {
             return None;
         }
         self.here.put_entries(items)
@@ -226,7 +270,7 @@ impl Build for Reused {
 
     ghost listed = { λ s r e es. AreEntries s r es };
 
-    ghost rowed = { λ s r e ds. AreElements s r e ds };
+    ghost rowed = { AreElements };
 
     ghost opened = { λ s r c n. IsBegun s r };
 
@@ -246,12 +290,36 @@ impl Build for Reused {
     }
 
     #[inline(always)]
+    fn takes_strings() -> bool {
+        true
+    }
+
+    #[inline(always)]
+    fn string(room: &mut Spare, fixed: &FixedString, number: u64) -> Option<()> {
+        if fixed.of_octets {
+            room.here.put_low_octets(fixed.length, number)
+        } else {
+            room.here.put_low_bits(fixed.length, number)
+        }
+    }
+
+    #[inline(always)]
     fn value(room: &mut Spare, value: Value) -> Option<()> {
         match value {
             Value::Bool(is_true) => room.here.put_truth(is_true),
             Value::Int(integer) => room.here.put_integer(integer),
             Value::Enum(position) => room.here.put_item(position),
             other => room.here.put_back(other),
+        }
+    }
+
+    #[inline(always)]
+    fn kept(room: &mut Spare, value: &Value) -> Option<()> {
+        match value {
+            Value::Bool(is_true) => room.here.put_truth(*is_true),
+            Value::Int(integer) => room.here.put_integer(*integer),
+            Value::Enum(position) => room.here.put_item(*position),
+            _ => None,
         }
     }
 
@@ -282,8 +350,7 @@ impl Build for Reused {
 
     #[inline(always)]
     fn sequence(room: &mut Spare, _entries: ()) -> Option<()> {
-        room.leave()?;
-        Some(())
+        room.leave()
     }
 
     #[inline(always)]
@@ -299,9 +366,7 @@ impl Build for Reused {
 
     #[inline(always)]
     fn element(room: &mut Spare, row: &mut ElementsOver, _part: ()) -> Option<()> {
-        row.add(&mut room.here)?;
-        row.lay_next(room);
-        Some(())
+        row.go_on(room)
     }
 
     #[inline(always)]
@@ -321,7 +386,7 @@ impl Build for Reused {
             return Some(ChoiceOver { inner: None });
         };
         let mut inner = inner;
-        room.here.exchange(&mut *inner);
+        room.here.lay(mem::replace(&mut *inner, Value::Null));
         Some(ChoiceOver { inner: Some(inner) })
     }
 
@@ -336,7 +401,7 @@ impl Build for Reused {
         match chosen.inner {
             Some(inner) => {
                 let mut inner = inner;
-                room.here.exchange(&mut *inner);
+                put_over(room.here.take(), &mut *inner);
                 room.here.put_back(Value::Choice(place as u32, inner))
             }
             None => {

@@ -1,4 +1,5 @@
 pub mod Enumerations
+pub mod Fields
 pub mod FixedStrings
 pub mod Placed
 pub mod Plans

@@ -32,6 +32,40 @@ pub(crate) fn build_choice<R: PlanLeaves, B: Build>(
         → Builds R.rules (B.built room.old room.new) t p units.old units.new) }
 {
     R::keep_laws();
+    if parts.begin > parts.middle || parts.middle > nodes.len() {
+        return None;
+    }
+    let Some(place) = R::try_index(&parts.indexes, units) else {
+        return build_chosen::<R, B>(alloc, nodes, parts, units, room);
+    };
+    let before = &nodes[..parts.begin];
+    let root = &nodes[parts.begin..parts.middle];
+    let place = place as usize;
+    if place >= root.len() {
+        return None;
+    }
+    let chosen = B::choosing(room, place)?;
+    let part = build_at::<R, B>(alloc, before, &root[place].kind, units, room)?;
+    let whole = B::choice(alloc, room, chosen, place, part)?;
+    Some(whole)
+}
+
+/// The same, where the index is read on its own.
+#[inline(never)]
+#[cycle(walk)]
+fn build_chosen<R: PlanLeaves, B: Build>(
+    alloc: Global,
+    nodes: &[Node],
+    parts: &AlternativeRows,
+    units: &mut BitCursor<'_>,
+    room: &mut B::Room,
+) -> Option<B::Part>
+    requires at_unit { R.rules.at_unit units.old }
+    ensures at_unit { IsSome result → R.rules.at_unit units.new }
+    ensures some { IfSome result (λ p. (t : Shape) → InProfile t → IsPlan nodes.now t (kind.Choice parts.now)
+        → Builds R.rules (B.built room.old room.new) t p units.old units.new) }
+{
+    R::keep_laws();
     if parts.begin >= parts.end || parts.end > nodes.len() {
         return None;
     }

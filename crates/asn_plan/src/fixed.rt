@@ -12,4 +12,15 @@ pub struct FixedString {
     pub highest: u64,
     /// How many bits they have, with the extension bit, where there is a mark.
     pub bits: u32,
+    /// How many octets they have by OER, if at most 7; else 0.
+    pub octets: u32,
+    /// How many bits stand before their own by OER: 16 with the length and the count of unused bits, where there is a mark,
+    /// else none.
+    pub head_bits: u32,
+    /// The number in these bits.
+    pub head: u64,
+    /// How many bits they have of their own.
+    pub own_bits: u32,
+    /// How many zeros fill up the last octet by OER.
+    pub unused: u32,
 }

@@ -196,7 +196,7 @@ fn try_string<R: PlanLeaves>(fixed: &FixedString, units: &mut BitCursor<'_>) -> 
     let start = units.copied();
     let run = Run {
         bits: fixed.bits,
-        octets: 0,
+        octets: fixed.octets,
     };
     let mut word = R::take_word(run, units);
     if let Some(number) = R::next_string(fixed, &mut word)
@@ -219,11 +219,23 @@ pub(crate) fn fixed_of(ty: &AsnType) -> Option<FixedString>
             if length > 62 {
                 return None;
             }
+            let octets = (length + 7) / 8;
+            let unused = 8 * octets - length;
+            let (head_bits, head) = if size.ext {
+                (16, u64::from(256 * (octets + 1) + unused))
+            } else {
+                (0, 0)
+            };
             Some(FixedString {
                 of_octets: false,
                 length,
                 highest: greatest_of_width(length),
                 bits: u32::from(size.ext) + length,
+                octets: if head_bits / 8 + octets > 7 { 0 } else { head_bits / 8 + octets },
+                head_bits,
+                head,
+                own_bits: length,
+                unused,
             })
         }
         AsnType::Octets(size) => {
@@ -236,6 +248,11 @@ pub(crate) fn fixed_of(ty: &AsnType) -> Option<FixedString>
                 length,
                 highest: greatest_of_width(8 * length),
                 bits: 8 * length,
+                octets: length,
+                head_bits: 0,
+                head: 0,
+                own_bits: 8 * length,
+                unused: 0,
             })
         }
         _ => None,

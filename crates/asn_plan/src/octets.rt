@@ -9,6 +9,9 @@ ghost use Rattle.asn_oer.specs.Oer.{oer};
 ghost use Rattle.asn_plan.specs.Ranged.{ranged, IsRanged};
 
 use crate::enumeration::Enumeration;
+use crate::field::BitFields;
+use crate::fields::take_told;
+use crate::fixed::FixedString;
 use crate::ranged::Ranged;
 use crate::rules::{PlanLeaves, take_bits};
 use crate::word::{Run, Word};
@@ -114,6 +117,48 @@ impl PlanLeaves for Oer {
         }
         *units = start;
         None
+    }
+
+    #[inline(always)]
+    fn next_string(fixed: &FixedString, word: &mut Word) -> Option<u64> {
+        let head = word.take(fixed.head_bits)?;
+        let number = word.take(fixed.own_bits)?;
+        let unused = word.take(fixed.unused)?;
+        if head != fixed.head || unused > 0 {
+            return None;
+        }
+        Some(number)
+    }
+
+    #[inline(always)]
+    fn enter_open(units: &mut BitCursor<'_>) -> Option<u32> {
+        let octets = units.peek_octet()?;
+        if octets > 127 {
+            return None;
+        }
+        units.pass(8);
+        Some(octets as u32)
+    }
+
+    #[inline(always)]
+    fn leave_open(octets: u32, taken: u128, _units: &mut BitCursor<'_>) -> bool {
+        taken == u128::from(octets)
+    }
+
+    #[inline(always)]
+    fn try_index(fields: &BitFields, units: &mut BitCursor<'_>) -> Option<u32> {
+        let Some(field) = &fields.in_octets else {
+            return None;
+        };
+        take_told(field, units)
+    }
+
+    #[inline(always)]
+    fn try_count(fields: &BitFields, units: &mut BitCursor<'_>) -> Option<u32> {
+        let Some(field) = &fields.in_octets else {
+            return None;
+        };
+        take_told(field, units)
     }
 }
 

@@ -12,6 +12,7 @@ ghost use Rattle.asn_plan.specs.SimpleTypes.{is_simple};
 ghost use Rattle.asn_plan.specs.Plans.{IsLeafPlan, IsPresence, IsPlan, IsPlanOf, ArePlans, ArePlansOfMore, ArePlansOfEach, ArePlansOfOthers};
 
 use crate::copies::copy_simple;
+use crate::fields::{count_fields, index_fields};
 use crate::items::items_of;
 use crate::leaves::{between_of, fixed_of};
 use crate::plan::{
@@ -149,7 +150,12 @@ fn place_element(kind: Kind, size: Size, nodes: &mut Vec<Node>) -> Result<Kind, 
         kind,
         run: Runs::none(),
     })?;
-    Ok(Kind::List(ElementRow { size, element }))
+    let counts = count_fields(&size);
+    Ok(Kind::List(ElementRow {
+        size,
+        counts,
+        element,
+    }))
 }
 
 /// The nodes of the alternatives of a CHOICE, after the nodes that they need are added.
@@ -191,6 +197,7 @@ fn place_alternatives(
     let mut first = first;
     let mut rest = rest;
     let begin = nodes.len();
+    let indexes = index_fields(first.len(), additions);
     nodes.append(&mut first)?;
     let middle = nodes.len();
     nodes.append(&mut rest)?;
@@ -200,6 +207,7 @@ fn place_alternatives(
         middle,
         end,
         additions,
+        indexes,
     }))
 }
 

@@ -8,6 +8,7 @@ ghost use Rattle.asn_walk.specs.Laws.{IsSizeOfProfile};
 ghost use Rattle.asn_plan.specs.SimpleTypes.{is_simple};
 
 use crate::enumeration::Enumeration;
+use crate::field::BitFields;
 use crate::fixed::FixedString;
 use crate::ranged::Ranged;
 use crate::word::Run;
@@ -79,6 +80,8 @@ pub struct ComponentRows {
 #[derive(Debug, Clone, Copy)]
 pub struct ElementRow {
     pub size: Size,
+    /// Those of the counts of the root.
+    pub counts: BitFields,
     pub element: usize,
     ghost of_profile: { IsSizeOfProfile (size_range_of size) },
 }
@@ -93,6 +96,8 @@ pub struct AlternativeRows {
     pub end: usize,
     /// How many extension additions there are, where there is an extension mark.
     pub additions: Option<usize>,
+    /// Those of the indexes of the root.
+    pub indexes: BitFields,
 }
 
 /// What is to be read.

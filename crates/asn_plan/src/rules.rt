@@ -1,12 +1,13 @@
 //! Encoding rules by which a plan is read.
-ghost use Rattle.std.specs.Prelude.{◌≡◌, ◌^◌, ◌+◌, ◌≤◌, ◌%◌, ◌++◌, ℕ, List, IfSome, IsNone, true};
+ghost use Rattle.std.specs.Prelude.{◌≡◌, ◌^◌, ◌+◌, ◌≤◌, ◌%◌, ◌++◌, ℕ, List, Option, IfSome, IsNone, true};
+ghost use mathlib.Core.Logic.{inl};
 ghost use Rattle.asn_values.specs.Datum.{truth, number, item};
 ghost use Rattle.asn_values.specs.Profile.{InProfile};
-ghost use Rattle.asn_values.specs.Shape.{Shape, boolean};
+ghost use Rattle.asn_values.specs.Shape.{Shape, SizeRange, boolean};
 ghost use Rattle.asn_values.specs.View.{shape_of};
 ghost use Rattle.asn_rules.specs.Languages.{Spells};
 ghost use Rattle.asn_bits.specs.Numbers.{bits};
-ghost use Rattle.asn_walk.specs.Coding.{PreambleOf};
+ghost use Rattle.asn_walk.specs.Coding.{IndexOf, PreambleOf};
 ghost use Rattle.asn_walk.specs.Views.{preamble_seen};
 ghost use Rattle.asn_walk.specs.Integers.{IsOfProfile};
 ghost use Rattle.asn_walk.specs.Reading.{Reads, ValuesOf};
@@ -14,6 +15,7 @@ ghost use Rattle.asn_per.specs.Per.{filling};
 ghost use Rattle.asn_per.specs.Walk.{per_coding};
 ghost use Rattle.asn_oer.specs.Walk.{oer_coding};
 ghost use Rattle.asn_plan.specs.Enumerations.{IsEnumeration};
+ghost use Rattle.asn_plan.specs.Fields.{AreCountFields, AreIndexFields, BeginsList};
 ghost use Rattle.asn_plan.specs.FixedStrings.{IsFixedString};
 ghost use Rattle.asn_plan.specs.Plans.{BeginsOpen, EndsOpen, TellsString};
 ghost use Rattle.asn_plan.specs.Ranged.{ranged, IsRanged};
@@ -21,6 +23,8 @@ ghost use Rattle.asn_plan.specs.Rules.{per_parts, oer_parts};
 ghost use Rattle.asn_plan.specs.Words.{before};
 
 use crate::enumeration::Enumeration;
+use crate::field::BitFields;
+use crate::fields::take_told;
 use crate::fixed::FixedString;
 use crate::ranged::Ranged;
 use crate::word::{Run, Word};
@@ -123,6 +127,24 @@ pub trait PlanLeaves: ReadLeaves {
             Reads Self.rules (ValuesOf Self.rules (ranged range.now)) (number z) units.old units.new) }
         ensures of_integers { IfSome result IsOfProfile }
         ensures none { IsNone result → units.new ≡ units.old };
+
+    /// Reads the index of an alternative of the root of a CHOICE, or gives `None` and leaves the cursor where it is: if it is
+    /// not at hand, or not told by these fields.
+    fn try_index(fields: &BitFields, units: &mut BitCursor<'_>) -> Option<u32>
+        requires at_unit { Self.rules.at_unit units.old }
+        ensures at_unit { Self.rules.at_unit units.new }
+        ensures some { IfSome result (λ n. (root : ℕ) (more : Option ℕ) → AreIndexFields fields.now root more
+            → Reads Self.rules (IndexOf Self.rules root more) (inl n) units.old units.new) }
+        ensures none { IsNone result → units.new ≡ units.old };
+
+    /// Reads how many elements a SEQUENCE OF of the root has, and all else that stands before them, where no others follow
+    /// them. Gives `None` and leaves the cursor where it is if that is not at hand, or not told by these fields.
+    fn try_count(fields: &BitFields, units: &mut BitCursor<'_>) -> Option<u32>
+        requires at_unit { Self.rules.at_unit units.old }
+        ensures at_unit { Self.rules.at_unit units.new }
+        ensures some { IfSome result (λ n. (s : SizeRange) → AreCountFields fields.now s
+            → BeginsList Self.rules s n (Self.rules.to_units units.old) (Self.rules.to_units units.new)) }
+        ensures none { IsNone result → units.new ≡ units.old };
 }
 
 #[tactic(auto, unfolding(asn_per::specs::Walk::per_coding, asn_per::specs::Rules::per_ruling))]
@@ -222,6 +244,22 @@ impl PlanLeaves for Per {
         };
         let offset = try_number(range.bits, offsets, units)?;
         Some(at_offset(range.low, offset))
+    }
+
+    #[inline(always)]
+    fn try_index(fields: &BitFields, units: &mut BitCursor<'_>) -> Option<u32> {
+        let Some(field) = &fields.in_bits else {
+            return None;
+        };
+        take_told(field, units)
+    }
+
+    #[inline(always)]
+    fn try_count(fields: &BitFields, units: &mut BitCursor<'_>) -> Option<u32> {
+        let Some(field) = &fields.in_bits else {
+            return None;
+        };
+        take_told(field, units)
     }
 }
 

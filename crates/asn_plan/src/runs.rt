@@ -24,6 +24,8 @@ enum Unit {
     StringBit,
     /// Octets, of numbers alone.
     Octet,
+    /// Octets, of strings of one length too.
+    StringOctet,
 }
 
 impl Unit {
@@ -31,7 +33,7 @@ impl Unit {
     fn most(self) -> u32 {
         match self {
             Unit::Bit | Unit::StringBit => MOST_BITS,
-            Unit::Octet => MOST_OCTETS,
+            Unit::Octet | Unit::StringOctet => MOST_OCTETS,
         }
     }
 }
@@ -101,15 +103,14 @@ fn preamble_and(unit: Unit, preamble: u32, run: u32) -> u32 {
 /// How many units of these components may be taken at once, as far as each has to be there and is told so, or is a SEQUENCE
 /// of components that all have to be there and are told so, of which the first ones may be taken.
 pub(crate) fn run_of(fields: &[Field]) -> Runs {
-    let octets = run_in(Unit::Octet, fields);
     Runs {
         numbers: Run {
             bits: run_in(Unit::Bit, fields),
-            octets,
+            octets: run_in(Unit::Octet, fields),
         },
         strings: Run {
             bits: run_in(Unit::StringBit, fields),
-            octets,
+            octets: run_in(Unit::StringOctet, fields),
         },
     }
 }
@@ -186,16 +187,18 @@ fn units_of_value(unit: Unit, ty: &AsnType) -> Option<u32> {
         AsnType::Bool => Some(1),
         AsnType::Int(bounds) => units_between(unit, bounds),
         AsnType::Enum { root, ext: None } => units_of_items(unit, root.as_slice()),
-        AsnType::Bits(size) | AsnType::Octets(size) if !size.ext => bits_of_string(unit, ty),
+        AsnType::Bits(_) | AsnType::Octets(_) => units_of_string(unit, ty),
         _ => None,
     }
 }
 
-/// How many bits a string has, if it is one of one length and these are counted.
-fn bits_of_string(unit: Unit, ty: &AsnType) -> Option<u32> {
+/// How many units a string has, if it is one of one length and strings are counted.
+fn units_of_string(unit: Unit, ty: &AsnType) -> Option<u32> {
+    let fixed = fixed_of(ty)?;
     match unit {
-        Unit::StringBit => Some(fixed_of(ty)?.bits),
-        Unit::Bit | Unit::Octet => None,
+        Unit::StringBit => Some(fixed.bits),
+        Unit::StringOctet if fixed.octets > 0 => Some(fixed.octets),
+        Unit::Bit | Unit::Octet | Unit::StringOctet => None,
     }
 }
 
@@ -206,7 +209,7 @@ fn units_of_items(unit: Unit, items: &[Item]) -> Option<u32> {
     }
     match unit {
         Unit::Bit | Unit::StringBit => Some(width(items.len() as u128)),
-        Unit::Octet => first_in_row(items).map(|_| 1),
+        Unit::Octet | Unit::StringOctet => first_in_row(items).map(|_| 1),
     }
 }
 
@@ -223,7 +226,7 @@ fn units_between(unit: Unit, bounds: &Bounds) -> Option<u32> {
             let highest = u32::try_from(high.checked_sub(low)?).ok()?;
             Some(width(u128::from(highest) + 1))
         }
-        Unit::Octet => fixed_size(low, high),
+        Unit::Octet | Unit::StringOctet => fixed_size(low, high),
     }
 }
 

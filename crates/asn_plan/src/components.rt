@@ -1,9 +1,9 @@
 //! The walk of a plan in the components of a SEQUENCE.
-ghost use Rattle.std.specs.Prelude.{◌≡◌, ◌≤◌, ◌++◌, ◌∷◌, [], IfSome, IsSome, List, Option, length};
+ghost use Rattle.std.specs.Prelude.{◌≡◌, ◌≤◌, ◌++◌, ◌∷◌, [], IfSome, IsSome, List, Option, Some, length};
 ghost use Rattle.asn_values.specs.Datum.{Datum};
 ghost use Rattle.asn_values.specs.Parts.{AreOfProfile};
 ghost use Rattle.asn_values.specs.Profile.{InProfile};
-ghost use Rattle.asn_values.specs.View.{shape_of};
+ghost use Rattle.asn_values.specs.View.{shape_of, datum_of};
 ghost use Rattle.asn_values.specs.Shape.{Shape, Fields, MoreFields, demands, sequence, no_fields, more_fields};
 ghost use Rattle.asn_bits.specs.Numbers.{bits};
 ghost use Rattle.asn_rules.specs.Languages.{Row, Spells};
@@ -12,7 +12,7 @@ ghost use Rattle.asn_walk.specs.Coding.{OpenListed, AdditionsOf, PreambleOf, add
 ghost use Rattle.asn_walk.specs.Reading.{ValuesOf};
 ghost use Rattle.asn_walk.specs.Views.{preamble_seen};
 ghost use Rattle.asn_plan.specs.declared.plan.Kind.TheVariants as kind;
-ghost use Rattle.asn_plan.specs.Plans.{IsPlan, ArePlans, ArePlansOfMore, Builds, BuildsNext, BuildsOther, BuildsEntry, BuildsComponents, BuildsRow, BuildsMore, BuildsAddition, absent_value, absents};
+ghost use Rattle.asn_plan.specs.Plans.{IsPlan, ArePlans, ArePlansOfMore, Builds, BuildsNext, BuildsOther, BuildsEntry, BuildsComponents, BuildsRow, BuildsMore, BuildsAddition, absents};
 ghost use Rattle.asn_plan.specs.Words.{before};
 
 use crate::build::Build;
@@ -20,7 +20,8 @@ use crate::copies::copy_default;
 use crate::leaves::read_other;
 use crate::open::build_open;
 use crate::packed::{build_next, build_other_number, fill};
-use crate::plan::{ComponentRows, Node, Presence, WithDefault};
+use crate::plan::{ComponentRows, Node, WithDefault};
+use crate::presence::Told;
 use crate::rules::PlanLeaves;
 use crate::walk::build_at;
 use crate::word::Word;
@@ -250,31 +251,30 @@ fn build_component<R: PlanLeaves, B: Build>(
         nodes.now part.now presence.old.bitmap presence.old.left presence.new.left
         (before R.rules word.old (R.rules.to_units units.old)) (before R.rules word.new (R.rules.to_units units.new)) }
 {
-    let is_there = part.presence.next_in(presence)?;
-    if !is_there {
-        return add_absent::<B>(&part.presence, entries, room);
+    match part.presence.told_by(presence)? {
+        Told::Value => {
+            let value = build_value::<R, B>(alloc, nodes, part, word, units, room)?;
+            B::present(room, entries, value)
+        }
+        Told::Other(with_default) => {
+            let other = build_other::<R, B>(nodes, part, with_default, word, units, room)?;
+            B::present(room, entries, other)
+        }
+        Told::Absent => B::absent(room, entries),
+        Told::Default(with_default) => add_default::<B>(with_default, entries, room),
     }
-    if let Some(with_default) = part.presence.with_default() {
-        let other = build_other::<R, B>(nodes, part, with_default, word, units, room)?;
-        return B::present(room, entries, other);
-    }
-    let value = build_value::<R, B>(alloc, nodes, part, word, units, room)?;
-    B::present(room, entries, value)
 }
 
-/// Adds the entry of a component that is absent: it has its DEFAULT value, if there is one.
+/// Adds the entry of a component that is absent, and so has its DEFAULT value.
 #[inline(always)]
-fn add_absent<B: Build>(
-    presence: &Presence,
+fn add_default<B: Build>(
+    with_default: &WithDefault,
     entries: &mut B::Entries,
     room: &mut B::Room,
 ) -> Option<()>
     ensures { IsSome result → (s : B.Room) (es : List (Option Datum)) → B.listed s room.old entries.old es
-        → B.listed s room.new entries.new (es ++ absent_value presence.now ∷ []) }
+        → B.listed s room.new entries.new (es ++ Some (datum_of with_default.now.default) ∷ []) }
 {
-    let Some(with_default) = presence.with_default() else {
-        return B::absent(room, entries);
-    };
     let default = copy_default(&with_default.default)?;
     let absent = B::value(room, default)?;
     B::present(room, entries, absent)

@@ -1,38 +1,44 @@
-//! Whether a component is there, and how many units may be taken at once from it on.
-ghost use Rattle.std.specs.Prelude.{◌≡◌, ◌≤◌, MatchOption, IfSome};
-ghost use Rattle.asn_plan.specs.declared.plan.Presence.TheVariants as presence;
-ghost use Rattle.asn_plan.specs.Plans.{HasNoDefault, IsTold};
+//! What presence bits tell of a component.
+ghost use Rattle.std.specs.Prelude.{◌≤◌, IfSome};
+ghost use Rattle.asn_plan.specs.Plans.{Tells};
 
 use crate::plan::{Node, Presence, Runs, WithDefault};
 use asn_walk::PresenceBits;
 
+/// What presence bits tell of a component.
+pub enum Told<'a> {
+    /// It has a value.
+    Value,
+    /// It has a DEFAULT, and another value than that.
+    Other(&'a WithDefault),
+    /// It is absent.
+    Absent,
+    /// It is absent, and so has its DEFAULT.
+    Default(&'a WithDefault),
+}
+
 impl Presence {
-    /// Whether the component is there: one that has to be is, and of any other the next presence bit tells it. `None` where
-    /// no bit is left.
+    /// What is told of the component: one that has to be there is, and of any other the next presence bit tells it. `None`
+    /// where no bit is left.
     #[inline(always)]
-    pub(crate) fn next_in(&self, bits: &mut PresenceBits) -> Option<bool>
+    pub(crate) fn told_by(&self, bits: &mut PresenceBits) -> Option<Told<'_>>
         requires few { bits.old.left ≤ 64 }
         ensures bitmap { bits.new.bitmap ≡ bits.old.bitmap }
-        ensures told { IfSome result (λ b. IsTold self.now b bits.old.bitmap bits.old.left bits.new.left) }
+        ensures told { IfSome result (λ e. Tells e self.now bits.old.bitmap bits.old.left bits.new.left) }
     {
         if let Presence::Must = self {
-            return Some(true);
+            return Some(Told::Value);
         }
         if bits.left == 0 {
             return None;
         }
         let is_there = bits.next();
-        Some(is_there)
-    }
-
-    /// Its DEFAULT, if there is one.
-    #[inline(always)]
-    pub(crate) fn with_default(&self) -> Option<&WithDefault>
-        ensures { MatchOption result (HasNoDefault self.now) (λ w. self.now ≡ presence.Default w.now) }
-    {
         match self {
-            Presence::Must | Presence::Optional => None,
-            Presence::Default(with_default) => Some(with_default),
+            Presence::Must => None,
+            Presence::Optional if is_there => Some(Told::Value),
+            Presence::Optional => Some(Told::Absent),
+            Presence::Default(with_default) if is_there => Some(Told::Other(with_default)),
+            Presence::Default(with_default) => Some(Told::Default(with_default)),
         }
     }
 }

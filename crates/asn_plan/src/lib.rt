@@ -20,7 +20,6 @@ mod packed;
 mod place;
 mod plan;
 mod planned;
-mod presence;
 mod ranged;
 mod reused;
 mod rules;

@@ -1,9 +1,9 @@
 //! The walk of a plan in the components of a SEQUENCE.
-ghost use Rattle.std.specs.Prelude.{◌≡◌, ◌≤◌, ◌++◌, ◌∷◌, [], IfSome, IsSome, List, Option, Some, length};
+ghost use Rattle.std.specs.Prelude.{◌≡◌, ◌≤◌, ◌++◌, ◌∷◌, [], IfSome, IsSome, List, Option, length};
 ghost use Rattle.asn_values.specs.Datum.{Datum};
 ghost use Rattle.asn_values.specs.Parts.{AreOfProfile};
 ghost use Rattle.asn_values.specs.Profile.{InProfile};
-ghost use Rattle.asn_values.specs.View.{shape_of, datum_of};
+ghost use Rattle.asn_values.specs.View.{shape_of};
 ghost use Rattle.asn_values.specs.Shape.{Shape, Fields, MoreFields, demands, sequence, no_fields, more_fields};
 ghost use Rattle.asn_bits.specs.Numbers.{bits};
 ghost use Rattle.asn_rules.specs.Languages.{Row, Spells};
@@ -20,8 +20,7 @@ use crate::copies::copy_default;
 use crate::leaves::read_other;
 use crate::open::build_open;
 use crate::packed::{build_next, build_other_number, fill};
-use crate::plan::{ComponentRows, Node, WithDefault};
-use crate::presence::Told;
+use crate::plan::{ComponentRows, Node, Presence, WithDefault};
 use crate::rules::PlanLeaves;
 use crate::walk::build_at;
 use crate::word::Word;
@@ -251,33 +250,66 @@ fn build_component<R: PlanLeaves, B: Build>(
         nodes.now part.now presence.old.bitmap presence.old.left presence.new.left
         (before R.rules word.old (R.rules.to_units units.old)) (before R.rules word.new (R.rules.to_units units.new)) }
 {
-    match part.presence.told_by(presence)? {
-        Told::Value => {
-            let value = build_value::<R, B>(alloc, nodes, part, word, units, room)?;
-            B::present(room, entries, value)
+    match &part.presence {
+        Presence::Must => {}
+        Presence::Optional => {
+            if presence.left == 0 {
+                return None;
+            }
+            if !presence.next() {
+                return B::absent(room, entries);
+            }
         }
-        Told::Other(with_default) => {
-            let other = build_other::<R, B>(nodes, part, with_default, word, units, room)?;
-            B::present(room, entries, other)
+        Presence::Default(with_default) => {
+            return build_with_default::<R, B>(
+                nodes,
+                part,
+                with_default,
+                presence,
+                word,
+                entries,
+                units,
+                room,
+            );
         }
-        Told::Absent => B::absent(room, entries),
-        Told::Default(with_default) => add_default::<B>(with_default, entries, room),
     }
+    let value = build_value::<R, B>(alloc, nodes, part, word, units, room)?;
+    B::present(room, entries, value)
 }
 
-/// Adds the entry of a component that is absent, and so has its DEFAULT value.
+/// Adds the entry of a component with this DEFAULT, which has another value, that is taken, where the presence bits tell
+/// that it is there.
 #[inline(always)]
-fn add_default<B: Build>(
+fn build_with_default<R: PlanLeaves, B: Build>(
+    nodes: &[Node],
+    part: &Node,
     with_default: &WithDefault,
+    presence: &mut PresenceBits,
+    word: &mut Word,
     entries: &mut B::Entries,
+    units: &mut BitCursor<'_>,
     room: &mut B::Room,
 ) -> Option<()>
-    ensures { IsSome result → (s : B.Room) (es : List (Option Datum)) → B.listed s room.old entries.old es
-        → B.listed s room.new entries.new (es ++ Some (datum_of with_default.now.default) ∷ []) }
+    requires at_unit { R.rules.at_unit units.old }
+    requires few { presence.old.left ≤ 64 }
+    requires is { part.now.presence ≡ presence.Default with_default.now }
+    ensures at_unit { IsSome result → R.rules.at_unit units.new }
+    ensures bitmap { IsSome result → presence.new.bitmap ≡ presence.old.bitmap }
+    ensures some { IsSome result → (s : B.Room)
+        → BuildsEntry R.rules (B.listed s room.old entries.old) (B.listed s room.new entries.new)
+        nodes.now part.now presence.old.bitmap presence.old.left presence.new.left
+        (before R.rules word.old (R.rules.to_units units.old)) (before R.rules word.new (R.rules.to_units units.new)) }
 {
-    let default = copy_default(&with_default.default)?;
-    let absent = B::value(room, default)?;
-    B::present(room, entries, absent)
+    if presence.left == 0 {
+        return None;
+    }
+    if !presence.next() {
+        let default = copy_default(&with_default.default)?;
+        let absent = B::value(room, default)?;
+        return B::present(room, entries, absent);
+    }
+    let other = build_other::<R, B>(nodes, part, with_default, word, units, room)?;
+    B::present(room, entries, other)
 }
 
 /// What is built of the value of a component that is there, which is taken from the word, or where it does not stand in

@@ -22,7 +22,6 @@ mod packed;
 mod place;
 mod plan;
 mod planned;
-mod presence;
 mod ranged;
 mod reused;
 mod rules;

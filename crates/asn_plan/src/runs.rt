@@ -5,7 +5,7 @@ use crate::build::Build;
 use crate::items::{are_ordered, first_in_row};
 use crate::leaves::fixed_of;
 use crate::octets::MOST_OCTETS;
-use crate::plan::{Node, Runs};
+use crate::plan::{Node, Presence, Runs};
 use crate::word::Run;
 use asn_bits::internal::width;
 use asn_oer::internal::fixed_size;
@@ -233,4 +233,14 @@ fn units_between(unit: Unit, bounds: &Bounds) -> Option<u32> {
 /// Whether a component has to be there.
 fn is_always_there(field: &Field) -> bool {
     matches!(&field.need, Need::Must)
+}
+
+impl Node {
+    /// The run from this component on, where it has to be there; else none.
+    fn run_if_there(&self) -> Runs {
+        match &self.presence {
+            Presence::Must => self.run,
+            Presence::Optional | Presence::Default(_) => Runs::none(),
+        }
+    }
 }

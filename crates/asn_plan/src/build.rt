@@ -56,6 +56,12 @@ pub trait Build {
         false
     }
 
+    /// Whether it does so little that what the walk keeps stays in registers; else rare components have functions of their own.
+    #[inline(always)]
+    fn is_light() -> bool {
+        false
+    }
+
     /// Of a BIT STRING or OCTET STRING of one length, whose bits are those of the number.
     #[inline(always)]
     fn string(_room: &mut Self::Room, _fixed: &FixedString, _number: u64) -> Option<Self::Part>
@@ -175,6 +181,11 @@ impl Build for Nothing {
 
     #[inline(always)]
     fn takes_strings() -> bool {
+        true
+    }
+
+    #[inline(always)]
+    fn is_light() -> bool {
         true
     }
 

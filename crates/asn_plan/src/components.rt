@@ -3,7 +3,7 @@ ghost use Rattle.std.specs.Prelude.{◌≡◌, ◌≤◌, ◌++◌, ◌∷◌, [
 ghost use Rattle.asn_values.specs.Datum.{Datum};
 ghost use Rattle.asn_values.specs.Parts.{AreOfProfile};
 ghost use Rattle.asn_values.specs.Profile.{InProfile};
-ghost use Rattle.asn_values.specs.View.{shape_of, datum_of};
+ghost use Rattle.asn_values.specs.View.{shape_of};
 ghost use Rattle.asn_values.specs.Shape.{Shape, Fields, MoreFields, demands, sequence, no_fields, more_fields};
 ghost use Rattle.asn_bits.specs.Numbers.{bits};
 ghost use Rattle.asn_rules.specs.Languages.{Row, Spells};
@@ -12,6 +12,7 @@ ghost use Rattle.asn_walk.specs.Coding.{OpenListed, AdditionsOf, PreambleOf, add
 ghost use Rattle.asn_walk.specs.Reading.{ValuesOf};
 ghost use Rattle.asn_walk.specs.Views.{preamble_seen};
 ghost use Rattle.asn_plan.specs.declared.plan.Kind.TheVariants as kind;
+ghost use Rattle.asn_plan.specs.declared.plan.Presence.TheVariants as presence;
 ghost use Rattle.asn_plan.specs.Plans.{IsPlan, ArePlans, ArePlansOfMore, Builds, BuildsNext, BuildsOther, BuildsEntry, BuildsComponents, BuildsRow, BuildsMore, BuildsAddition, absents};
 ghost use Rattle.asn_plan.specs.Words.{before};
 
@@ -261,30 +262,117 @@ fn build_component<R: PlanLeaves, B: Build>(
             }
         }
         Presence::Default(with_default) => {
-            if presence.left == 0 {
-                return None;
-            }
-            if !presence.next() {
-                let absent = build_default::<B>(with_default, room)?;
-                return B::present(room, entries, absent);
-            }
-            let (other, rest) = build_other::<R, B>(nodes, part, with_default, *word, units, room)?;
-            *word = rest;
-            return B::present(room, entries, other);
+            return build_with_default::<R, B>(
+                nodes,
+                part,
+                with_default,
+                presence,
+                word,
+                entries,
+                units,
+                room,
+            );
         }
     }
     let value = build_value::<R, B>(alloc, nodes, part, word, units, room)?;
     B::present(room, entries, value)
 }
 
-/// What is built of the value of a component that is absent, which is its DEFAULT.
-#[inline(never)]
-fn build_default<B: Build>(with_default: &WithDefault, room: &mut B::Room) -> Option<B::Part>
-    ensures { IfSome result (λ p. B.built room.old room.new p (datum_of with_default.now.default)) }
+/// Adds the entry of a component with this DEFAULT: in a function of its own, where the builder leaves no registers.
+#[inline(always)]
+fn build_with_default<R: PlanLeaves, B: Build>(
+    nodes: &[Node],
+    part: &Node,
+    with_default: &WithDefault,
+    presence: &mut PresenceBits,
+    word: &mut Word,
+    entries: &mut B::Entries,
+    units: &mut BitCursor<'_>,
+    room: &mut B::Room,
+) -> Option<()>
+    requires at_unit { R.rules.at_unit units.old }
+    requires few { presence.old.left ≤ 64 }
+    requires is { part.now.presence ≡ presence.Default with_default.now }
+    ensures at_unit { IsSome result → R.rules.at_unit units.new }
+    ensures bitmap { IsSome result → presence.new.bitmap ≡ presence.old.bitmap }
+    ensures some { IsSome result → (s : B.Room)
+        → BuildsEntry R.rules (B.listed s room.old entries.old) (B.listed s room.new entries.new)
+        nodes.now part.now presence.old.bitmap presence.old.left presence.new.left
+        (before R.rules word.old (R.rules.to_units units.old)) (before R.rules word.new (R.rules.to_units units.new)) }
 {
-    let default = copy_default(&with_default.default)?;
-    let absent = B::value(room, default)?;
-    Some(absent)
+    if B::is_light() {
+        return build_default::<R, B>(
+            nodes,
+            part,
+            with_default,
+            presence,
+            word,
+            entries,
+            units,
+            room,
+        );
+    }
+    build_default_apart::<R, B>(nodes, part, with_default, presence, word, entries, units, room)
+}
+
+/// The same, where the builder leaves no registers for it.
+#[inline(never)]
+fn build_default_apart<R: PlanLeaves, B: Build>(
+    nodes: &[Node],
+    part: &Node,
+    with_default: &WithDefault,
+    presence: &mut PresenceBits,
+    word: &mut Word,
+    entries: &mut B::Entries,
+    units: &mut BitCursor<'_>,
+    room: &mut B::Room,
+) -> Option<()>
+    requires at_unit { R.rules.at_unit units.old }
+    requires few { presence.old.left ≤ 64 }
+    requires is { part.now.presence ≡ presence.Default with_default.now }
+    ensures at_unit { IsSome result → R.rules.at_unit units.new }
+    ensures bitmap { IsSome result → presence.new.bitmap ≡ presence.old.bitmap }
+    ensures some { IsSome result → (s : B.Room)
+        → BuildsEntry R.rules (B.listed s room.old entries.old) (B.listed s room.new entries.new)
+        nodes.now part.now presence.old.bitmap presence.old.left presence.new.left
+        (before R.rules word.old (R.rules.to_units units.old)) (before R.rules word.new (R.rules.to_units units.new)) }
+{
+    build_default::<R, B>(nodes, part, with_default, presence, word, entries, units, room)
+}
+
+/// Adds the entry of a component with this DEFAULT, which has another value, that is taken, where the presence bits tell
+/// that it is there.
+#[inline(always)]
+fn build_default<R: PlanLeaves, B: Build>(
+    nodes: &[Node],
+    part: &Node,
+    with_default: &WithDefault,
+    presence: &mut PresenceBits,
+    word: &mut Word,
+    entries: &mut B::Entries,
+    units: &mut BitCursor<'_>,
+    room: &mut B::Room,
+) -> Option<()>
+    requires at_unit { R.rules.at_unit units.old }
+    requires few { presence.old.left ≤ 64 }
+    requires is { part.now.presence ≡ presence.Default with_default.now }
+    ensures at_unit { IsSome result → R.rules.at_unit units.new }
+    ensures bitmap { IsSome result → presence.new.bitmap ≡ presence.old.bitmap }
+    ensures some { IsSome result → (s : B.Room)
+        → BuildsEntry R.rules (B.listed s room.old entries.old) (B.listed s room.new entries.new)
+        nodes.now part.now presence.old.bitmap presence.old.left presence.new.left
+        (before R.rules word.old (R.rules.to_units units.old)) (before R.rules word.new (R.rules.to_units units.new)) }
+{
+    if presence.left == 0 {
+        return None;
+    }
+    if !presence.next() {
+        let default = copy_default(&with_default.default)?;
+        let absent = B::value(room, default)?;
+        return B::present(room, entries, absent);
+    }
+    let other = build_other::<R, B>(nodes, part, with_default, word, units, room)?;
+    B::present(room, entries, other)
 }
 
 /// What is built of the value of a component that is there, which is taken from the word, or where it does not stand in
@@ -312,32 +400,29 @@ fn build_value<R: PlanLeaves, B: Build>(
     build_next::<R, B>(alloc, nodes, &part.kind, word, units, room)
 }
 
-/// What is built of the value of a component that is there though it has this DEFAULT, and is then another one, and what
-/// is left of the word.
-#[inline(never)]
+/// What is built of the value of a component that is there though it has this DEFAULT, and is then another one.
+#[inline(always)]
 fn build_other<R: PlanLeaves, B: Build>(
     nodes: &[Node],
     part: &Node,
     with_default: &WithDefault,
-    word: Word,
+    word: &mut Word,
     units: &mut BitCursor<'_>,
     room: &mut B::Room,
-) -> Option<(B::Part, Word)>
+) -> Option<B::Part>
     requires at_unit { R.rules.at_unit units.old }
     ensures at_unit { IsSome result → R.rules.at_unit units.new }
     ensures some { IfSome result (λ p. IsPlan nodes.now (shape_of with_default.now.ty) part.now.kind
-        → BuildsOther R.rules (B.built room.old room.new) with_default.now p.0
-        (before R.rules word (R.rules.to_units units.old)) (before R.rules p.1 (R.rules.to_units units.new))) }
+        → BuildsOther R.rules (B.built room.old room.new) with_default.now p
+        (before R.rules word.old (R.rules.to_units units.old)) (before R.rules word.new (R.rules.to_units units.new))) }
 {
-    let mut word = word;
-    fill::<R>(part.run.of::<B>(), &mut word, units);
+    fill::<R>(part.run.of::<B>(), word, units);
     if !word.is_empty() {
-        let other = build_other_number::<R, B>(nodes, &part.kind, with_default, &mut word, room)?;
-        return Some((other, word));
+        return build_other_number::<R, B>(nodes, &part.kind, with_default, word, room);
     }
     let value = read_other::<R>(with_default, units)?;
     let other = B::value(room, value)?;
-    Some((other, word))
+    Some(other)
 }
 
 /// Adds the entries of extension additions, of which one at least is present, with whose presence bitmap the units

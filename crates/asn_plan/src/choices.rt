@@ -32,22 +32,20 @@ pub(crate) fn build_choice<R: PlanLeaves, B: Build>(
         → Builds R.rules (B.built room.old room.new) t p units.old units.new) }
 {
     R::keep_laws();
-    if parts.begin > parts.middle || parts.middle > nodes.len() {
+    if parts.begin >= parts.middle || parts.middle > nodes.len() {
         return None;
     }
-    let Some(place) = R::try_index(&parts.indexes, units) else {
+    let Some(told) = R::try_index(&parts.indexes, units) else {
         return build_chosen::<R, B>(alloc, nodes, parts, units, room);
     };
-    let before = &nodes[..parts.begin];
-    let root = &nodes[parts.begin..parts.middle];
-    let place = place as usize;
+    let (before, root) = (&nodes[..parts.begin], &nodes[parts.begin..parts.middle]);
+    let place = told as usize;
     if place >= root.len() {
         return None;
     }
     let chosen = B::choosing(room, place)?;
     let part = build_at::<R, B>(alloc, before, &root[place].kind, units, room)?;
-    let whole = B::choice(alloc, room, chosen, place, part)?;
-    Some(whole)
+    B::choice(alloc, room, chosen, place, part)
 }
 
 /// The same, where the index is read on its own.

@@ -238,18 +238,18 @@ impl PlanLeaves for Per {
 
     #[inline(always)]
     fn try_index(fields: &BitFields, units: &mut BitCursor<'_>) -> Option<u32> {
-        let Some(field) = &fields.in_bits else {
+        let Some(indexes) = &fields.in_bits else {
             return None;
         };
-        take_told(field, units)
+        take_told(indexes, units)
     }
 
     #[inline(always)]
     fn try_count(fields: &BitFields, units: &mut BitCursor<'_>) -> Option<u32> {
-        let Some(field) = &fields.in_bits else {
+        let Some(counts) = &fields.in_bits else {
             return None;
         };
-        take_told(field, units)
+        take_told(counts, units)
     }
 }
 

@@ -1,4 +1,4 @@
-use Rattle.std.proofs.Common.{◌≡◌, ◌/◌, ◌%◌, ◌^◌, refl, sym, ap, ◌∙◌, ℕ, List, [], Some, None, inl, inr, length, arith}
+use Rattle.std.proofs.Common.{◌≡◌, ◌-◌, ◌/◌, ◌%◌, ◌^◌, refl, sym, ap, ◌∙◌, ℕ, List, [], Some, None, inl, inr, length, arith}
 use Rattle.std.proofs.lemmas.List.{drop_all}
 use Rattle.asn_values.specs.Datum.{truth, number, item, alternative}
 use Rattle.asn_values.specs.Profile.{InProfile}
@@ -272,7 +272,7 @@ choices::build_choice-returns-clause-some g t c = if_some c.choice.result _ _ (�
     let k = alternative_at r.ruling.fielding (λ t. Spelt r.code None t) _ _ q.root i x q.plans (root_good q.root q.more inside) (omega (arith, c.if-place-root.false)) in
     let b = c.in_ok-part.ensures.some k.shape k.good k.plan in
     let told = c.in-Some.ensures.some (a.middle - a.begin) a.additions a.are_indexes in
-    let many = root_count c.args.nodes.now a.begin a.middle q.root ? ? (each_count _ _ q.root q.plans) in
+    let many = root_count c.args.nodes.now a.begin a.middle q.root q.order q.inside (each_count _ _ q.root q.plans) in
     rw q.is (record { value = alternative i b.value; of_value = built c.args.room.now c.choosing.new.room b.value c.in_ok-chosen.ensures b.of_value; read = root_read r c.keep_laws.ensures q.root q.more inside (a.middle - a.begin) a.additions many q.additions i (r.to_units c.args.units.now) (r.to_units c.try_index.new.units) (r.to_units c.build_at.new.units) told b.value (k.on b.value _ _ b.read) }))) c.choice.ensures
 
 pub choices::build_choice-returns-in_default-clause-some : goal.choices::build_choice-returns-in_default-clause-some
@@ -312,10 +312,13 @@ open::build_complete-returns g t c s good p =
     let vs = r.to_units c.build_at.new.units in
     let over : us ≡ r.ruling.units o = ap r.to_units c.over-units.ensures ∙ c.keep_laws.ensures.over o c.are_octets.ensures in
     let v = c.in_ok-part.ensures.some s good p in
+    let taken : c.units_left-given.result - c.units_left-left.result ≡ length us - length vs = omega (arith, c.units_left-given.ensures, c.units_left-left.ensures) in
+    let many : c.in-Ok.count ≡ length o = omega (arith, c.in-Ok.ensures) in
+    let ends = rw (taken, many) at (c.if-not-leave_open.ensures.some refl) in
     record {
       value = v.value;
       of_value = v.of_value;
-      encoding = whole_here r c.keep_laws.ensures s good o us vs (r.to_units c.leave_open.new._units) over v.value v.read ? ?;
+      encoding = whole_here r c.keep_laws.ensures s good o us vs (r.to_units c.leave_open.new._units) over v.value v.read ends (omega (arith, c.if-left-given.false, c.units_left-given.ensures, c.units_left-left.ensures));
     }
 
 pub open::build_copied-returns-clause-some : goal.open::build_copied-returns-clause-some

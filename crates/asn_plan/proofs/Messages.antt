@@ -1,5 +1,5 @@
 -- Octets whose units are a value, what fills it up, and nothing more are its encoding.
-use Rattle.std.proofs.Common.{◌≡◌, ◌≤◌, ◌-◌, ℕ, Bool, true, false, not, List, ◌++◌, length, take, Option, None, Some, IfSome, IsSome, Ok, Err, refl, sym, ap, subst, ◌+◌, ◌*◌, ◌∙◌, append-nil, length-append, arith}
+use Rattle.std.proofs.Common.{◌≡◌, ◌≤◌, ◌-◌, ℕ, Bool, true, false, not, List, ◌++◌, length, take, Option, None, Some, IfSome, IsSome, Ok, Err, refl, sym, ap, subst, ◌∙◌, append-nil, length-append, arith}
 use Rattle.std.proofs.lemmas.List.{take_all}
 use Rattle.std.specs.Prelude.{⊤}
 use Rattle.asn_values.specs.Datum.{Datum}

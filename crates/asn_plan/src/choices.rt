@@ -1,12 +1,12 @@
 //! The walk of a plan in the alternatives of a CHOICE.
-ghost use Rattle.std.specs.Prelude.{◌≡◌, IfSome, IsSome};
-ghost use Rattle.asn_values.specs.Profile.{InProfile};
+ghost use Rattle.std.specs.Prelude.{◌≡◌, ◌≤◌, ◌<◌, IfSome, IsSome, true};
+ghost use Rattle.asn_values.specs.Profile.{InProfile, most_alternatives};
 ghost use Rattle.asn_values.specs.Shape.{Shape};
+ghost use Rattle.asn_walk.specs.Coding.{AreFew};
 ghost use Rattle.asn_plan.specs.declared.plan.Kind.TheVariants as kind;
 ghost use Rattle.asn_plan.specs.Plans.{IsPlan, Builds};
 
 use crate::build::Build;
-use crate::leaves::are_few;
 use crate::open::build_open;
 use crate::plan::{AlternativeRows, Node};
 use crate::rules::PlanLeaves;
@@ -100,4 +100,18 @@ fn build_chosen<R: PlanLeaves, B: Build>(
             Some(whole)
         }
     }
+}
+
+/// Whether a CHOICE may have this many alternatives in its root, and this many extension additions.
+#[inline(always)]
+fn are_few(root: usize, additions: Option<usize>) -> bool
+    ensures some { result ≡ true → 0 < root }
+    ensures few { result ≡ true → AreFew root additions }
+    ensures few_in_root { result ≡ true → root ≤ most_alternatives }
+{
+    let added = match additions {
+        Some(count) => count,
+        None => 0,
+    };
+    0 < root && root <= MAX_ALTERNATIVES && added <= MAX_ALTERNATIVES - root
 }

@@ -6,8 +6,7 @@ ghost use Rattle.asn_oer.specs.FixedSizes.{fixed_size};
 ghost use Rattle.asn_values.specs.Fits.{lowest_integer, highest_integer};
 ghost use Rattle.asn_values.specs.Datum.{truth, item};
 ghost use Rattle.asn_walk.specs.AtOnce.{IsOnlyLength};
-ghost use Rattle.asn_walk.specs.Coding.{AreFew};
-ghost use Rattle.asn_values.specs.Profile.{InProfile, most_alternatives};
+ghost use Rattle.asn_values.specs.Profile.{InProfile};
 ghost use Rattle.asn_values.specs.Shape.{Shape, boolean, integer};
 ghost use Rattle.asn_values.specs.View.{shape_of, range_of, size_range_of};
 ghost use Rattle.asn_plan.specs.FixedStrings.{IsFixedString, IsStringOf};
@@ -30,7 +29,6 @@ use asn_bits::BitCursor;
 use asn_bits::internal::{wide_offset_from, width};
 use asn_oer::internal::fixed_size;
 use asn_rules::internal::greatest_of_width;
-use asn_values::profile::MAX_ALTERNATIVES;
 use asn_values::{AsnType, Bounds, Size, Value};
 use asn_walk::ReadLeaves;
 use std::alloc::Global;
@@ -386,18 +384,4 @@ pub(crate) fn read_other<R: ReadLeaves>(
         return None;
     };
     Some(value)
-}
-
-/// Whether a CHOICE may have this many alternatives in its root, and this many extension additions.
-#[inline(always)]
-pub(crate) fn are_few(root: usize, additions: Option<usize>) -> bool
-    ensures some { result ≡ true → 0 < root }
-    ensures few { result ≡ true → AreFew root additions }
-    ensures few_in_root { result ≡ true → root ≤ most_alternatives }
-{
-    let added = match additions {
-        Some(count) => count,
-        None => 0,
-    };
-    0 < root && root <= MAX_ALTERNATIVES && added <= MAX_ALTERNATIVES - root
 }

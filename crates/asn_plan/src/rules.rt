@@ -221,7 +221,11 @@ impl PlanLeaves for Per {
         if taken > all || all - taken != u128::from(zeros) {
             return false;
         }
-        matches!(units.take_number(zeros), Some(0))
+        let Some(0) = units.peek_short_number(zeros) else {
+            return false;
+        };
+        units.pass(zeros);
+        true
     }
 
     /// The extension bit, where there is a mark, is read as the highest bit of the offset: so it is 0.

@@ -1,5 +1,5 @@
 -- The index of a CHOICE and the count of a SEQUENCE OF, by the one field that tells it.
-use Rattle.std.proofs.Common.{◌≡◌, ◌≤◌, ◌<◌, ◌+◌, ◌-◌, ◌/◌, ◌%◌, ◌^◌, ◌++◌, ◌∷◌, [], inl, ℕ, zero, suc, Bool, true, false, ◌||◌, nat_lt, nat_le, is_some, length, List, Option, Some, None, IfSome, IsNone, refl, sym, ap, subst, ◌∙◌, append_assoc, length-append, arith}
+use Rattle.std.proofs.Common.{◌≡◌, ◌≤◌, ◌<◌, ◌+◌, ◌-◌, ◌/◌, ◌%◌, ◌^◌, ◌++◌, ◌∷◌, [], inl, ℕ, suc, Bool, true, false, nat_le, is_some, length, List, Option, Some, None, IfSome, IsNone, refl, sym, ap, subst, ◌∙◌, length-append, arith}
 use Rattle.std.proofs.lemmas.Bool.{lt-ltb, le-leb}
 use Rattle.asn_values.specs.Fits.{FitsLength}
 use Rattle.asn_values.specs.Shape.{SizeRange}
@@ -10,7 +10,6 @@ use Rattle.asn_bits.proofs.Octets.{length-digits, octet_count_some, octet_count_
 use Rattle.asn_bits.proofs.Unions.{set_spelt}
 use Rattle.asn_bits.proofs.Widths.{width_fits}
 use Rattle.asn_rules.specs.Chunks.{ones}
-use Rattle.asn_rules.specs.Components.{extension_bit}
 use Rattle.asn_rules.specs.Fields.{spelled}
 use Rattle.asn_rules.specs.Languages.{Spells}
 use Rattle.asn_rules.proofs.Languages.Parts.{contents-ones, plain_spells, map_spells}
@@ -19,7 +18,6 @@ use Rattle.asn_rules.proofs.Live.Flat.{flat-ones}
 use Rattle.asn_walk.specs.Ahead.{items}
 use Rattle.asn_walk.specs.Coding.{IsIndexWithin, IndexOf}
 use Rattle.asn_per.specs.Indexes.{index_bits}
-use Rattle.asn_per.specs.Kinds.{Below, CountWithin}
 use Rattle.asn_per.specs.ListsAhead.{RootStart, Start}
 use Rattle.asn_per.specs.Per.{per_fields, constrained, spelled as per_spelled}
 use Rattle.asn_per.specs.Rules.{per_ruling}

@@ -1,11 +1,10 @@
 -- An open type field that is read where it stands, by OER.
-use Rattle.std.proofs.Common.{◌≡◌, ◌≤◌, ◌<◌, ◌+◌, ◌-◌, ◌*◌, ◌++◌, ◌∷◌, ℕ, List, length, None, refl, sym, ap, subst, ◌∙◌, length-append, arith}
+use Rattle.std.proofs.Common.{◌≡◌, ◌<◌, ◌-◌, ◌++◌, ◌∷◌, ℕ, List, length, None, refl, sym, ap, subst, ◌∙◌, length-append, arith}
 use Rattle.asn_values.specs.Datum.{Datum}
 use Rattle.asn_values.specs.Fits.{Fits}
 use Rattle.asn_values.specs.Shape.{Shape}
-use Rattle.asn_bits.specs.Numbers.{bits, packed}
 use Rattle.asn_bits.specs.Lengths.{octet_length}
-use Rattle.asn_bits.proofs.LengthsInOctets.{one_is, small_is}
+use Rattle.asn_bits.proofs.LengthsInOctets.{small_is}
 use Rattle.asn_rules.specs.Chunks.{open_field, flat}
 use Rattle.asn_rules.specs.Fields.{spelled}
 use Rattle.asn_rules.specs.Frames.{Frame, IsField}
@@ -20,7 +19,6 @@ use Rattle.asn_oer.specs.Rules.{oer_ruling}
 use Rattle.asn_oer.specs.Walk.{oer_coding}
 use Rattle.asn_plan.specs.Plans.{EndsOpen}
 use Rattle.asn_plan.proofs.Messages.{field_read}
-use Rattle.asn_plan.proofs.OctetsRead.{packed_number}
 
 -- the length, and as many octets of the value
 pub open_octets : (t : Shape) (d : Datum) (n : ℕ) (us vs ws xs : List ℕ) → us ≡ n ∷ vs → n < 128 → AreOctets (flat spelled (oer t d))

@@ -1,5 +1,5 @@
 -- Strings of one length that are told by octets taken at once, by OER.
-use Rattle.std.proofs.Common.{◌≡◌, ◌≤◌, ◌<◌, ◌+◌, ◌-◌, ◌*◌, ◌/◌, ◌%◌, ◌^◌, ◌++◌, ◌∷◌, [], ℕ, Bool, true, false, length, map, replicate, List, Option, Some, None, refl, sym, ap, subst, ◌∙◌, append_assoc, append-nil, length-append, arith}
+use Rattle.std.proofs.Common.{◌≡◌, ◌≤◌, ◌<◌, ◌+◌, ◌-◌, ◌*◌, ◌/◌, ◌%◌, ◌^◌, ◌++◌, ◌∷◌, [], ℕ, Bool, true, false, length, map, replicate, List, None, refl, sym, ap, subst, ◌∙◌, append_assoc, append-nil, length-append, arith}
 use Rattle.std.proofs.lemmas.Bool.{eq-eqb}
 use Rattle.std.proofs.lemmas.List.{length-map, length-replicate}
 use Rattle.asn_values.specs.Datum.{Datum, bit_list, octet_list}
@@ -32,7 +32,7 @@ use Rattle.asn_plan.specs.FixedStrings.{IsFixedString, IsStringOf, IsInOctets}
 use Rattle.asn_plan.specs.Words.{before}
 use Rattle.asn_plan.specs.declared.fixed.FixedString.{FixedString}
 use Rattle.asn_plan.specs.declared.word.Word.{Word}
-use Rattle.asn_plan.proofs.OctetsRead.{packed_number, packed_both, filled_taken, digits_bits}
+use Rattle.asn_plan.proofs.OctetsRead.{packed_number, filled_taken, digits_bits}
 
 -- a size of one length
 fixed_size_is : (s : SizeRange) (n : ℕ) → IsOnlyLength s n → s.extensible ≡ false → is_fixed_size s ≡ true

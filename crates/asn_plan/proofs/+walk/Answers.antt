@@ -15,7 +15,6 @@ use Rattle.asn_rules.specs.Listed.{Spelt}
 use Rattle.asn_walk.specs.Ahead.{Next}
 use Rattle.asn_walk.specs.Coding.{IndexOf, PreambleOf}
 use Rattle.asn_walk.specs.Views.{preamble_seen}
-use Rattle.asn_walk.proofs.Decoding.{units_fill}
 use Rattle.asn_walk.proofs.OpenRead.{content_of}
 use Rattle.asn_walk.proofs.Parts.{root_good}
 use Rattle.asn_plan.proofs.Additions.{present_addition, absent_addition, added_starts, added_further, added_ends, additions_read, extended_read, plans_count}

@@ -1,4 +1,4 @@
-use Rattle.std.proofs.Common.{◌≡◌, ◌+◌, ◌≤◌, ℕ, suc, Some, refl, ap, sym, ◌∙◌, arith}
+use Rattle.std.proofs.Common.{◌≡◌, ◌+◌, suc, Some, refl, ap, ◌∙◌, arith}
 use Rattle.asn_bits.specs.Numbers.{width}
 use Rattle.asn_bits.specs.Sink.{bit_of}
 use Rattle.asn_bits.proofs.Prefixes.{bool_byte-is}

@@ -1,4 +1,4 @@
-use Rattle.std.proofs.Common.{◌≡◌, ◌+◌, ap, ◌∙◌, refl, is_some, arith}
+use Rattle.std.proofs.Common.{◌≡◌, ap, ◌∙◌, refl, is_some, arith}
 use Rattle.asn_bits.specs.Sink.{bit_of}
 use Rattle.asn_bits.proofs.Prefixes.{bool_byte-is}
 use Rattle.asn_per.proofs.Write.IndexBits.{one_mark_bit}

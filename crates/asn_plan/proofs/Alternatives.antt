@@ -1,5 +1,6 @@
 -- What is read of an alternative is read of its CHOICE.
-use Rattle.std.proofs.Common.{◌≡◌, ◌<◌, ◌+◌, inl, inr, ℕ, zero, suc, List, [], ◌∷◌, length, get_or, Option, None, arith}
+use Rattle.std.proofs.Common.{◌≡◌, ◌≤◌, ◌<◌, ◌+◌, ◌-◌, inl, inr, ℕ, zero, suc, List, [], ◌∷◌, length, length-drop, drop, get_or, Option, None, arith}
+use Rattle.std.proofs.lemmas.List.{length-take-le}
 use Rattle.asn_values.specs.Datum.{Datum, alternative}
 use Rattle.asn_values.specs.Parts.{AreAllOfProfile}
 use Rattle.asn_values.specs.Profile.{InProfile}
@@ -13,7 +14,7 @@ use Rattle.asn_walk.specs.Laws.{Laws}
 use Rattle.asn_walk.proofs.ChoicesRead.{value_leads}
 use Rattle.asn_walk.proofs.Parts.{added_good}
 use Rattle.asn_plan.specs.declared.plan.Node.{Node}
-use Rattle.asn_plan.specs.Plans.{IsPlan, ArePlansOfEach, ArePlansOfOthers}
+use Rattle.asn_plan.specs.Plans.{IsPlan, ArePlansOfEach, ArePlansOfOthers, row}
 
 -- the alternative that a node in its place is a plan of
 pub record IsAlternative (R : Fielding) (L : Shape → Datum → List Chunk → Type 0) (ns : List Node) (alts : Alternatives) (i : ℕ) (m : Node)
@@ -61,3 +62,7 @@ added_read c laws root (marked_choice alts) good n listed e f i us vs ws h ns ms
     let a = alternative_at c.ruling.fielding (λ t. OpenOf c t) ns ms alts i m plans (added_good root (marked_choice alts) good) less in
     let r = read a.shape a.good a.plan in
     (r.0, r.1, rw e ((value_leads c laws root (marked_choice alts) good (inr i) us vs (rw (e, f) at h)).done r.0 ws (a.on r.0 vs ws r.2)))
+
+-- how many nodes of the root there are, by their places
+pub root_count : (ns : List Node) (a b : ℕ) (alts : Alternatives) → a ≤ b → b ≤ length ns → length (row a b ns) ≡ count alts → b - a ≡ count alts
+root_count ns a b alts h k e = omega (arith, length-take-le (b - a) (drop a ns) (omega (arith, length-drop a ns, h, k)), h, k, e)

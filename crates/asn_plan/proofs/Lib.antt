@@ -3,6 +3,7 @@ pub mod Alternatives
 pub mod Building
 pub mod Counts
 pub mod Entries
+pub mod FieldsRead
 pub mod Growing
 pub mod LeafTypes
 pub mod Messages
@@ -12,8 +13,10 @@ pub mod Placing
 pub mod RangedRead
 pub mod Rows
 pub mod OpenHere
+pub mod OpenOctets
 pub mod Ordered
 pub mod Others
 pub mod StringsPut
+pub mod StringsHeld
 pub mod StringsRead
 pub mod WordsRead

@@ -1,5 +1,5 @@
 -- Octets whose units are a value, what fills it up, and nothing more are its encoding.
-use Rattle.std.proofs.Common.{◌≡◌, ◌≤◌, ◌-◌, ℕ, Bool, true, false, not, List, ◌++◌, length, take, Option, None, Some, IfSome, IsSome, Ok, Err, refl, sym, ap, ◌∙◌, append-nil, arith}
+use Rattle.std.proofs.Common.{◌≡◌, ◌≤◌, ◌-◌, ℕ, Bool, true, false, not, List, ◌++◌, length, take, Option, None, Some, IfSome, IsSome, Ok, Err, refl, sym, ap, subst, ◌∙◌, append-nil, length-append, arith}
 use Rattle.std.proofs.lemmas.List.{take_all}
 use Rattle.std.specs.Prelude.{⊤}
 use Rattle.asn_values.specs.Datum.{Datum}
@@ -14,10 +14,11 @@ use Rattle.asn_rules.specs.Frames.{Frame}
 use Rattle.asn_rules.specs.Codec.{Decoded}
 use Rattle.asn_rules.specs.Languages.{Spells}
 use Rattle.asn_rules.specs.Listed.{Spelt}
-use Rattle.asn_rules.specs.Padding.{Fixed}
+use Rattle.asn_rules.specs.Padding.{Fixed, AreUnits}
 use Rattle.asn_rules.specs.Reading.{Wholes}
 use Rattle.asn_rules.specs.Laws.{AreOctets, RulesLaws}
 use Rattle.asn_rules.specs.Live.{Fielding}
+use Rattle.asn_rules.proofs.Languages.Parts.{plain_spells}
 use Rattle.asn_rules.proofs.Sealed.Fields.{field_spells}
 use Rattle.asn_walk.specs.Coding.{Coding, OpenOf}
 use Rattle.asn_walk.specs.Laws.{Laws}
@@ -26,7 +27,7 @@ use Rattle.asn_plan.specs.declared.budget.Budget.{Budget}
 use Rattle.asn_plan.specs.declared.budget.Taken.{Taken}
 use Rattle.asn_plan.specs.declared.budget.WithinFault.TheVariants as fault
 use Rattle.asn_plan.specs.declared.plan.Plan.{Plan}
-use Rattle.asn_plan.specs.Plans.{IsPlanOf, BuildsMessage}
+use Rattle.asn_plan.specs.Plans.{IsPlanOf, BuildsMessage, EndsOpen}
 use Rattle.asn_plan.specs.Taken.{Takes, IsNoMore}
 use Rattle.asn_plan.specs.Within.{DecodedWithin, IsTaken}
 
@@ -49,6 +50,16 @@ whole_message c laws t good o us vs ws e d h given g u k z =
     let full : Spells c.ruling.fielding (Fixed (c.padding (length us - length vs))) u vs ws = rw g at k in
     let w : Spells c.ruling.fielding (Wholes c.ruling t) d us ws = (fill_leads c laws t good d us vs h).done u ws full in
     (w.spelt.fits, sym e ∙ w.split ∙ ap (λ (l : List ℕ). flat c.ruling.fielding.spelled w.chunks ++ l) (length_none ws z) ∙ append-nil (flat c.ruling.fielding.spelled w.chunks) ∙ ap (λ (cs : List Chunk). flat c.ruling.fielding.spelled cs) w.spelt.same)
+
+-- the same where what fills up the octets is read as that of an open type field
+pub whole_here : (c : Coding) → Laws c → (t : Shape) → InProfile t → (o us vs ws : List ℕ)
+    → us ≡ c.ruling.units o → (d : Datum) → Spells c.ruling.fielding (Spelt c.code None t) d us vs
+    → EndsOpen c (length o) (length us - length vs) vs ws → length vs ≤ length us → IsEncoding c.ruling t d o
+whole_here c laws t good o us vs ws e d h k more =
+    let zs = c.padding (length us - length vs) in
+    let front : Spells c.ruling.fielding (Fixed zs) tt (zs ++ ws) ws = plain_spells c.ruling.fielding {C = AreUnits zs} tt zs ws (record { same = refl }) in
+    let filled : Spells c.ruling.fielding (Fixed zs) tt vs ws = subst (λ (l : List ℕ). Spells c.ruling.fielding (Fixed zs) tt l ws) (sym k.split) front in
+    whole_message c laws t good o us vs ws e d h (length us) refl tt filled (omega (arith, k.all, more, ap length k.split, length-append zs ws, laws.count o, ap length e))
 
 -- the value that was built of them is what a decoder tells
 pub decoded : (r s : Ruling) → r ≡ s → (t : Shape) (v : Value) (o : List ℕ) → length o ≤ max_octets → (d : Datum)

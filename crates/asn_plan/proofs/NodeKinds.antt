@@ -1,5 +1,5 @@
 -- What a node says of the types that it is a plan of.
-use Rattle.std.proofs.Common.{◌≡◌, ◌<◌, ◌+◌, ◌∷◌, ◌∙◌, sym, List, take, drop, length, get_or, refl, Option, Some, None}
+use Rattle.std.proofs.Common.{◌≡◌, ◌≤◌, ◌<◌, ◌+◌, ◌∷◌, ◌∙◌, sym, arith, List, take, drop, length, get_or, refl, Option, Some, None}
 use Rattle.std.specs.Prelude.{IfSome}
 use Rattle.std.proofs.Math.Seq.{drop-cons}
 use Rattle.std.proofs.Math.Numerals.{add-one}
@@ -96,6 +96,8 @@ pub record IsChoice (ns : List Node) (a : AlternativeRows) (t : Shape) : Type 0 
   pub root : Alternatives
   pub more : MoreAlternatives
   pub is : t ≡ choice root more
+  pub order : a.begin ≤ a.middle
+  pub inside : a.middle ≤ length ns
   pub additions : a.additions ≡ added_alternatives more
   pub plans : ArePlansOfEach (take a.begin ns) (row a.begin a.middle ns) root
   pub others : ArePlansOfOthers (take a.begin ns) (row a.middle a.end ns) more
@@ -105,6 +107,8 @@ choice_is ns (choice root more) a p = record {
   root = root;
   more = more;
   is = refl;
+  order = p.0;
+  inside = omega (arith, p.1, p.2);
   additions = p.3;
   plans = p.4;
   others = p.5;

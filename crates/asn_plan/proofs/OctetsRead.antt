@@ -57,7 +57,7 @@ units_are_octets zero m = refl
 units_are_octets (suc n) m = refl
 
 -- a number in k octets, before other bits
-packed_number : (k n : ℕ) (r : List ℕ) → packed (bits (8 * k) n ++ r) ≡ octets k n ++ packed r
+pub packed_number : (k n : ℕ) (r : List ℕ) → packed (bits (8 * k) n ++ r) ≡ octets k n ++ packed r
 packed_number k n r = ap (λ (l : List ℕ). packed (l ++ r)) (sym (unpacked-octets k n)) ∙ packed_front (octets k n) r (all_octets k n)
 
 -- the number in the first k octets that are left
@@ -68,7 +68,7 @@ octets_taken old new k n us e =
     ap (λ (t : List ℕ). t ++ us) (units_are_octets old.left old.bits ∙ ap packed e ∙ packed_number k n rest) ∙ append_assoc (octets k n) (packed rest) us
     ∙ ap (λ (t : List ℕ). octets k n ++ (t ++ us)) (sym (units_are_octets new.left new.bits))
 
-digits_bits : (k n : ℕ) → AreBits (bits k n)
+pub digits_bits : (k n : ℕ) → AreBits (bits k n)
 digits_bits zero n = tt
 digits_bits (suc k) n = (omega arith, digits_bits k n)
 

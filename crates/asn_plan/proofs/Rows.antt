@@ -1,5 +1,5 @@
 -- Where the walk of a plan stands in the elements of a SEQUENCE OF.
-use Rattle.std.proofs.Common.{◌+◌, ℕ, List, [], ◌∷◌, ◌++◌, None, Some, refl, sym, subst, append_assoc, append-nil}
+use Rattle.std.proofs.Common.{◌≡◌, ◌+◌, ℕ, List, [], ◌∷◌, ◌++◌, None, Some, refl, sym, subst, append_assoc, append-nil}
 use Rattle.asn_values.specs.Datum.{Datum, elements, elements_of}
 use Rattle.asn_values.specs.Profile.{InProfile}
 use Rattle.asn_values.specs.Shape.{Shape, SizeRange, sequence_of}
@@ -9,11 +9,12 @@ use Rattle.asn_rules.specs.Listed.{Spelt}
 use Rattle.asn_rules.proofs.Components.Listed.{spelt_inhabited, spelt_lawful}
 use Rattle.asn_rules.proofs.Languages.Parts.{map_spells}
 use Rattle.asn_rules.proofs.Languages.Rows.{row_starts, row_spells, row_one}
-use Rattle.asn_walk.specs.Ahead.{Ahead, Remaining, Next}
-use Rattle.asn_walk.specs.Coding.{Coding}
+use Rattle.asn_walk.specs.Ahead.{Ahead, end, Remaining, Next}
+use Rattle.asn_walk.specs.Coding.{Coding, ListingOf}
 use Rattle.asn_walk.specs.Laws.{Laws, IsSizeOfProfile}
 use Rattle.asn_walk.proofs.AdditionsRead.{after_nothing}
 use Rattle.asn_walk.proofs.Listing.{FragmentsUpTo, fragments_start, fragments_further, fragments_end, start_leads, list_leads}
+use Rattle.asn_plan.specs.Fields.{BeginsList}
 use Rattle.asn_plan.specs.Plans.{BuildsRow}
 
 -- no element is read
@@ -60,9 +61,27 @@ listed_ends next h = after_nothing (fragments_end next h.read)
 
 -- ---- the type
 
-pub list_read : (c : Coding) → Laws c → (t : Shape) (s : SizeRange) → InProfile (sequence_of t s) → IsSizeOfProfile s
-    → (ahead : Ahead) (us vs ws : List ℕ) → Spells c.ruling.fielding (c.list_start s) ahead us vs → (ds : List Datum)
-    → Spells c.ruling.fielding (Remaining (Spelt c.code None t) ahead) ds vs ws
+pub list_read : (c : Coding) → Laws c → (t : Shape) (s : SizeRange) → InProfile (sequence_of t s) → (us ws : List ℕ) (ds : List Datum)
+    → Spells c.ruling.fielding (ListingOf c s (Spelt c.code None t)) ds us ws
     → Spells c.ruling.fielding (Spelt c.code None (sequence_of t s)) (elements (elements_of ds)) us ws
-list_read c laws t s good size ahead us vs ws h ds k =
-    (list_leads c laws t s us good).done ds ws ((start_leads c laws (Spelt c.code None t) s size h).done ds ws k)
+list_read c laws t s good us ws ds k = (list_leads c laws t s us good).done ds ws k
+
+-- a count, and as many elements
+pub counted_read : (c : Coding) → Laws c → (t : Shape) → InProfile t → (s : SizeRange) → IsSizeOfProfile s → (n : ℕ) (us vs ws : List ℕ)
+    → BeginsList c s n us vs → (ds : List Datum) → Spells c.ruling.fielding (Row (Spelt c.code None t) n) ds vs ws
+    → Spells c.ruling.fielding (ListingOf c s (Spelt c.code None t)) ds us ws
+counted_read c laws t good s size n us vs ws h ds k =
+    let L = Spelt c.code None t in
+    let N = λ (es : List Datum). es ≡ ds in
+    let row : BuildsRow c (λ es. es ≡ []) N (Row L n) vs ws = record { row = λ es p. (ds, rw p refl, k) } in
+    let all = listed_further c laws (λ es. es ≡ []) N t good h.ahead h.ahead end n h.between h.between vs ws h.next row (listed_starts c (λ es. es ≡ []) t h.ahead h.between refl) in
+    let none : Next c.ruling.fielding end None end ws ws = record { advances = refl } in
+    let read = subst (λ (es : List Datum). Spells c.ruling.fielding (Remaining L h.ahead) es h.between ws) all.of_value (listed_ends none all) in
+    (start_leads c laws L s size h.start).done ds ws read
+
+-- what is ahead of a list, and its elements
+pub started_read : (c : Coding) → Laws c → (t : Shape) (s : SizeRange) → IsSizeOfProfile s → (ahead : Ahead) (us vs ws : List ℕ)
+    → Spells c.ruling.fielding (c.list_start s) ahead us vs → (ds : List Datum)
+    → Spells c.ruling.fielding (Remaining (Spelt c.code None t) ahead) ds vs ws
+    → Spells c.ruling.fielding (ListingOf c s (Spelt c.code None t)) ds us ws
+started_read c laws t s size ahead us vs ws h ds k = (start_leads c laws (Spelt c.code None t) s size h).done ds ws k

@@ -1,13 +1,12 @@
 -- Numbers that are told by one field of bits: the index of a CHOICE, and the count of a SEQUENCE OF.
-use Rattle.std.specs.Prelude.{◌≡◌, ◌+◌, ◌≤◌, ◌++◌, ℕ, List, Option, Some, IfSome}
-use mathlib.Core.Logic.{inl}
+use Rattle.std.specs.Prelude.{◌≡◌, ◌+◌, ◌≤◌, ◌<◌, ◌++◌, ℕ, suc, List, Option, Some, IfSome, is_some}
+use Rattle.asn_values.specs.Fits.{FitsLength}
 use Rattle.asn_values.specs.Shape.{SizeRange}
-use Rattle.asn_bits.specs.Numbers.{bits}
+use Rattle.asn_bits.specs.Numbers.{bits, width}
+use Rattle.asn_bits.specs.Sink.{bit_of}
 use Rattle.asn_rules.specs.Languages.{Spells}
-use Rattle.asn_per.specs.Walk.{per_coding}
-use Rattle.asn_oer.specs.Walk.{oer_coding}
 use Rattle.asn_walk.specs.Ahead.{Ahead, end, Next}
-use Rattle.asn_walk.specs.Coding.{Coding, IndexOf}
+use Rattle.asn_walk.specs.Coding.{Coding}
 use Rattle.asn_plan.specs.declared.field.BitField.{BitField}
 use Rattle.asn_plan.specs.declared.field.BitFields.{BitFields}
 
@@ -20,17 +19,47 @@ pub record IsTold (f : BitField) (n : ℕ) (us vs : List ℕ) : Type 0 where
 
 -- ---- CHOICE
 
--- what the field tells is an index of a root of this many, of a CHOICE with this many extension additions
-abbrev pub TellsIndex : Coding → BitField → ℕ → Option ℕ → Type 0
-TellsIndex c f root more = (n : ℕ) (us vs : List ℕ) → IsTold f n us vs
-    → Spells c.ruling.fielding (IndexOf c root more) (inl n) (c.to_units us) (c.to_units vs)
+-- indexes of a root of this many, of a CHOICE with this many extension additions, in as few bits as tell them apart, after
+-- the extension bit 0 ("constrained whole number")
+pub record IsIndexInBits (f : BitField) (root : ℕ) (more : Option ℕ) : Type 0 where
+  pub first : f.first ≡ 0
+  pub low : f.low ≡ 0
+  pub most : f.most < root
+  pub bits : f.bits ≡ bit_of (is_some more) + width root
 
--- both fields do, as far as there are such; that in octets has one octet
+-- those whose tag is one octet ("encoding of tags")
+pub record IsIndexInOctets (f : BitField) (root : ℕ) : Type 0 where
+  pub first : f.first ≡ 128
+  pub low : f.low ≡ 0
+  pub most : f.most < root
+  pub short : f.most < 63
+  pub bits : f.bits ≡ 8
+
+-- so are the fields of which there are any
 pub record AreIndexFields (fs : BitFields) (root : ℕ) (more : Option ℕ) : Type 0 where
-  pub per : IfSome fs.in_bits (λ f. TellsIndex per_coding f root more)
-  pub oer : IfSome fs.in_octets (λ f. (f.bits ≡ 8) × TellsIndex oer_coding f root more)
+  pub in_bits : IfSome fs.in_bits (λ f. IsIndexInBits f root more)
+  pub in_octets : IfSome fs.in_octets (λ f. IsIndexInOctets f root)
 
 -- ---- SEQUENCE OF
+
+-- counts between the two bounds of a size, in as few bits as tell them apart, after the extension bit 0
+pub record IsCountInBits (f : BitField) (s : SizeRange) : Type 0 where
+  pub first : f.first ≡ 0
+  pub low : f.low ≡ s.low
+  pub high : s.high ≡ Some (f.low + f.most)
+  pub bits : f.bits ≡ bit_of s.extensible + width (suc f.most)
+
+-- counts of a size whose quantity is one octet after its length ("encoding of sequence-of types")
+pub record IsCountInOctets (f : BitField) (s : SizeRange) : Type 0 where
+  pub first : f.first ≡ 256 + f.low
+  pub few : f.low + f.most < 256
+  pub fits : (n : ℕ) → f.low ≤ n → n ≤ f.low + f.most → FitsLength s n
+  pub bits : f.bits ≡ 16
+
+-- so are the fields of which there are any
+pub record AreCountFields (fs : BitFields) (s : SizeRange) : Type 0 where
+  pub in_bits : IfSome fs.in_bits (λ f. IsCountInBits f s)
+  pub in_octets : IfSome fs.in_octets (λ f. IsCountInOctets f s)
 
 -- what stands before this many elements of a list under a size, after which no others follow
 pub record BeginsList (c : Coding) (s : SizeRange) (n : ℕ) (us vs : List ℕ) : Type 0 where
@@ -38,12 +67,3 @@ pub record BeginsList (c : Coding) (s : SizeRange) (n : ℕ) (us vs : List ℕ) 
   pub between : List ℕ
   pub start : Spells c.ruling.fielding (c.list_start s) ahead us between
   pub next : Next c.ruling.fielding ahead (Some n) end between vs
-
--- what the field tells is the count of a list under a size
-abbrev pub TellsCount : Coding → BitField → SizeRange → Type 0
-TellsCount c f s = (n : ℕ) (us vs : List ℕ) → IsTold f n us vs → BeginsList c s n (c.to_units us) (c.to_units vs)
-
--- both fields do, as far as there are such; that in octets has two octets
-pub record AreCountFields (fs : BitFields) (s : SizeRange) : Type 0 where
-  pub per : IfSome fs.in_bits (λ f. TellsCount per_coding f s)
-  pub oer : IfSome fs.in_octets (λ f. (f.bits ≡ 16) × TellsCount oer_coding f s)

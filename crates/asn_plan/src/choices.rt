@@ -1,12 +1,12 @@
 //! The walk of a plan in the alternatives of a CHOICE.
-ghost use Rattle.std.specs.Prelude.{◌≡◌, IfSome, IsSome};
-ghost use Rattle.asn_values.specs.Profile.{InProfile};
+ghost use Rattle.std.specs.Prelude.{◌≡◌, ◌≤◌, ◌<◌, IfSome, IsSome, true};
+ghost use Rattle.asn_values.specs.Profile.{InProfile, most_alternatives};
 ghost use Rattle.asn_values.specs.Shape.{Shape};
+ghost use Rattle.asn_walk.specs.Coding.{AreFew};
 ghost use Rattle.asn_plan.specs.declared.plan.Kind.TheVariants as kind;
 ghost use Rattle.asn_plan.specs.Plans.{IsPlan, Builds};
 
 use crate::build::Build;
-use crate::leaves::are_few;
 use crate::open::build_open;
 use crate::plan::{AlternativeRows, Node};
 use crate::rules::PlanLeaves;
@@ -32,22 +32,20 @@ pub(crate) fn build_choice<R: PlanLeaves, B: Build>(
         → Builds R.rules (B.built room.old room.new) t p units.old units.new) }
 {
     R::keep_laws();
-    if parts.begin > parts.middle || parts.middle > nodes.len() {
+    if parts.begin >= parts.middle || parts.middle > nodes.len() {
         return None;
     }
-    let Some(place) = R::try_index(&parts.indexes, units) else {
+    let Some(told) = R::try_index(&parts.indexes, units) else {
         return build_chosen::<R, B>(alloc, nodes, parts, units, room);
     };
-    let before = &nodes[..parts.begin];
-    let root = &nodes[parts.begin..parts.middle];
-    let place = place as usize;
+    let (before, root) = (&nodes[..parts.begin], &nodes[parts.begin..parts.middle]);
+    let place = told as usize;
     if place >= root.len() {
         return None;
     }
     let chosen = B::choosing(room, place)?;
     let part = build_at::<R, B>(alloc, before, &root[place].kind, units, room)?;
-    let whole = B::choice(alloc, room, chosen, place, part)?;
-    Some(whole)
+    B::choice(alloc, room, chosen, place, part)
 }
 
 /// The same, where the index is read on its own.
@@ -102,4 +100,18 @@ fn build_chosen<R: PlanLeaves, B: Build>(
             Some(whole)
         }
     }
+}
+
+/// Whether a CHOICE may have this many alternatives in its root, and this many extension additions.
+#[inline(always)]
+fn are_few(root: usize, additions: Option<usize>) -> bool
+    ensures some { result ≡ true → 0 < root }
+    ensures few { result ≡ true → AreFew root additions }
+    ensures few_in_root { result ≡ true → root ≤ most_alternatives }
+{
+    let added = match additions {
+        Some(count) => count,
+        None => 0,
+    };
+    0 < root && root <= MAX_ALTERNATIVES && added <= MAX_ALTERNATIVES - root
 }

@@ -1,5 +1,6 @@
 //! Numbers in a row that are told by one field of bits, and what is worked out of them once.
-ghost use Rattle.std.specs.Prelude.{◌≤◌, ◌<◌, ◌+◌, ◌^◌};
+ghost use Rattle.std.specs.Prelude.{◌≡◌, ◌≤◌, ◌<◌, ◌+◌, ◌%◌, ◌^◌, IfSome};
+ghost use Rattle.std.proofs.Props.{props};
 
 /// The numbers from `low` on, as far as `most` above it, each of which is told by a number in so many bits: `low` itself by
 /// `first`, and the next ones by the numbers after it.
@@ -19,4 +20,5 @@ pub struct BitField {
 pub struct BitFields {
     pub in_bits: Option<BitField>,
     pub in_octets: Option<BitField>,
+    ghost whole: { IfSome in_octets (λ f. f.bits % 8 ≡ 0) } by { Prim.hlevel props },
 }

@@ -1,8 +1,8 @@
 //! Which indexes of a CHOICE and which counts of a SEQUENCE OF one field of bits tells, and the reading of such a field.
-ghost use Rattle.std.specs.Prelude.{◌≡◌, ◌≤◌, IfSome, IsNone};
+ghost use Rattle.std.specs.Prelude.{◌≡◌, ◌%◌, IfSome, IsNone};
 ghost use Rattle.asn_values.specs.View.{size_range_of};
 ghost use Rattle.asn_walk.specs.Laws.{IsSizeOfProfile};
-ghost use Rattle.asn_plan.specs.Fields.{AreIndexFields, AreCountFields, IsTold};
+ghost use Rattle.asn_plan.specs.Fields.{AreIndexFields, AreCountFields, IsCountInBits, IsCountInOctets, IsTold};
 
 use crate::field::{BitField, BitFields};
 use asn_bits::BitCursor;
@@ -15,7 +15,10 @@ pub(crate) fn index_fields(root: usize, additions: Option<usize>) -> BitFields
     ensures { AreIndexFields result root additions }
 {
     if root == 0 || root > 65536 {
-        return BitFields::none();
+        return BitFields {
+            in_bits: None,
+            in_octets: None,
+        };
     }
     let last = root as u32 - 1;
     BitFields {
@@ -49,6 +52,7 @@ pub(crate) fn count_fields(size: &Size) -> BitFields
 
 /// The bits of a count between two bounds, after the extension bit 0, where there is a mark.
 fn count_in_bits(size: &Size) -> Option<BitField>
+    ensures { IfSome result (λ f. IsCountInBits f (size_range_of size.now)) }
 {
     let most = size.high?.checked_sub(size.low)?;
     Some(BitField {
@@ -61,6 +65,9 @@ fn count_in_bits(size: &Size) -> Option<BitField>
 
 /// The octets of a quantity up to 255: a length of 1, and the count.
 fn count_in_octets(size: &Size) -> Option<BitField>
+    requires of_profile { IsSizeOfProfile (size_range_of size.now) }
+    ensures whole { IfSome result (λ f. f.bits % 8 ≡ 0) }
+    ensures tells { IfSome result (λ f. IsCountInOctets f (size_range_of size.now)) }
 {
     let high = match size.high {
         Some(high) => high.min(255),
@@ -73,16 +80,6 @@ fn count_in_octets(size: &Size) -> Option<BitField>
         low: size.low,
         most,
     })
-}
-
-impl BitFields {
-    /// No fields.
-    fn none() -> BitFields {
-        BitFields {
-            in_bits: None,
-            in_octets: None,
-        }
-    }
 }
 
 /// Takes the number that a field tells; `None`, and nothing is taken, where no number of the field is at hand.

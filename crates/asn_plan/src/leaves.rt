@@ -1,12 +1,12 @@
 //! What the rules read by themselves, for one node of a plan.
-ghost use Rattle.std.specs.Prelude.{◌≡◌, ◌*◌, ◌+◌, ◌≤◌, ◌<◌, ◌^◌, ◌≤ℤ◌, ◌<ℤ◌, pos, Some, IfSome, IsNone, IsSome, true, false};
+ghost use Rattle.std.specs.Prelude.{◌≡◌, ◌*◌, ◌+◌, ◌≤◌, ◌<◌, ◌^◌, ◌≤ℤ◌, ◌<ℤ◌, pos, Some, IfSome, IsNone, IsSome, true, false, ◌-◌, ◌/◌, ◌%◌};
 ghost use Rattle.asn_bits.specs.Numbers.{magnitude};
+ghost use Rattle.asn_bits.specs.Sink.{bit_of};
 ghost use Rattle.asn_oer.specs.FixedSizes.{fixed_size};
 ghost use Rattle.asn_values.specs.Fits.{lowest_integer, highest_integer};
 ghost use Rattle.asn_values.specs.Datum.{truth, item};
 ghost use Rattle.asn_walk.specs.AtOnce.{IsOnlyLength};
-ghost use Rattle.asn_walk.specs.Coding.{AreFew};
-ghost use Rattle.asn_values.specs.Profile.{InProfile, most_alternatives};
+ghost use Rattle.asn_values.specs.Profile.{InProfile};
 ghost use Rattle.asn_values.specs.Shape.{Shape, boolean, integer};
 ghost use Rattle.asn_values.specs.View.{shape_of, range_of, size_range_of};
 ghost use Rattle.asn_plan.specs.FixedStrings.{IsFixedString, IsStringOf};
@@ -20,6 +20,7 @@ ghost use Rattle.asn_plan.specs.Plans.{Builds, IsLeafPlan};
 use crate::build::Build;
 use crate::enumeration::Enumeration;
 use crate::fixed::FixedString;
+use crate::octets::MOST_OCTETS;
 use crate::plan::{Between, Leaf, WithDefault};
 use crate::ranged::Ranged;
 use crate::rules::PlanLeaves;
@@ -28,7 +29,6 @@ use asn_bits::BitCursor;
 use asn_bits::internal::{wide_offset_from, width};
 use asn_oer::internal::fixed_size;
 use asn_rules::internal::greatest_of_width;
-use asn_values::profile::MAX_ALTERNATIVES;
 use asn_values::{AsnType, Bounds, Size, Value};
 use asn_walk::ReadLeaves;
 use std::alloc::Global;
@@ -219,23 +219,18 @@ pub(crate) fn fixed_of(ty: &AsnType) -> Option<FixedString>
             if length > 62 {
                 return None;
             }
-            let octets = (length + 7) / 8;
-            let unused = 8 * octets - length;
-            let (head_bits, head) = if size.ext {
-                (16, u64::from(256 * (octets + 1) + unused))
-            } else {
-                (0, 0)
-            };
+            let (head_bits, head) = octets_before(size.ext, length);
+            let octets = (head_bits + length + 7) / 8;
             Some(FixedString {
                 of_octets: false,
                 length,
                 highest: greatest_of_width(length),
                 bits: u32::from(size.ext) + length,
-                octets: if head_bits / 8 + octets > 7 { 0 } else { head_bits / 8 + octets },
+                octets: if octets <= MOST_OCTETS { octets } else { 0 },
                 head_bits,
                 head,
                 own_bits: length,
-                unused,
+                unused: (8 - length % 8) % 8,
             })
         }
         AsnType::Octets(size) => {
@@ -257,6 +252,20 @@ pub(crate) fn fixed_of(ty: &AsnType) -> Option<FixedString>
         }
         _ => None,
     }
+}
+
+/// What stands by OER before a BIT STRING of at most 62 bits: where there is an extension mark, its length and the count of
+/// its unused bits, in how many bits, and as a number; else nothing.
+fn octets_before(marked: bool, length: u32) -> (u32, u64)
+    requires { length ≤ 62 }
+    ensures bits { result.0 ≡ 16 * bit_of marked }
+    ensures number { marked ≡ true → result.1 ≡ 256 * (1 + (length + 7) / 8) + (8 - length % 8) % 8 }
+{
+    if !marked {
+        return (0, 0);
+    }
+    let octets = 1 + (length + 7) / 8;
+    (16, u64::from(256 * octets + (8 - length % 8) % 8))
 }
 
 /// The only length that a size leaves in its root, if it leaves one.
@@ -396,18 +405,4 @@ pub(crate) fn read_other<R: ReadLeaves>(
         return None;
     };
     Some(value)
-}
-
-/// Whether a CHOICE may have this many alternatives in its root, and this many extension additions.
-#[inline(always)]
-pub(crate) fn are_few(root: usize, additions: Option<usize>) -> bool
-    ensures some { result ≡ true → 0 < root }
-    ensures few { result ≡ true → AreFew root additions }
-    ensures few_in_root { result ≡ true → root ≤ most_alternatives }
-{
-    let added = match additions {
-        Some(count) => count,
-        None => 0,
-    };
-    0 < root && root <= MAX_ALTERNATIVES && added <= MAX_ALTERNATIVES - root
 }

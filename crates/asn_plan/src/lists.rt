@@ -39,12 +39,33 @@ pub(crate) fn build_list<R: PlanLeaves, B: Build>(
     }
     let before = &nodes[..list.element];
     let element = &nodes[list.element];
-    let row = match R::try_count(&list.counts, units) {
-        Some(count) => build_row::<R, B>(alloc, before, &element.kind, count as usize, units, room)?,
-        None => build_counted::<R, B>(alloc, before, &element.kind, list, units, room)?,
-    };
+    let row = build_rows::<R, B>(alloc, before, &element.kind, list, units, room)?;
     let part = B::list(room, row)?;
     Some(part)
+}
+
+/// What is built of the elements of a list, with whose count the units begin, and which are taken.
+#[inline(always)]
+#[cycle(walk)]
+fn build_rows<R: PlanLeaves, B: Build>(
+    alloc: Global,
+    nodes: &[Node],
+    kind: &Kind,
+    list: &ElementRow,
+    units: &mut BitCursor<'_>,
+    room: &mut B::Room,
+) -> Option<B::Elements>
+    requires at_unit { R.rules.at_unit units.old }
+    ensures at_unit { IsSome result → R.rules.at_unit units.new }
+    ensures some { IfSome result (λ p. (t : Shape) → InProfile t → IsPlan nodes.now t kind.now
+        → BuildsList R.rules (B.rowed room.old room.new) (ListingOf R.rules (size_range_of list.now.size)
+        (ValuesOf R.rules t)) p units.old units.new) }
+{
+    R::keep_laws();
+    if let Some(count) = R::try_count(&list.counts, units) {
+        return build_row::<R, B>(alloc, nodes, kind, count as usize, units, room);
+    }
+    build_counted::<R, B>(alloc, nodes, kind, list, units, room)
 }
 
 /// What is built of `count` elements, with which the units begin, and which are taken.
@@ -63,9 +84,9 @@ fn build_row<R: PlanLeaves, B: Build>(
     ensures some { IfSome result (λ p. (t : Shape) → InProfile t → IsPlan nodes.now t kind.now
         → BuildsList R.rules (B.rowed room.old room.new) (Row (ValuesOf R.rules t) count) p units.old units.new) }
 {
-    let mut row = B::elements(alloc, room)?;
-    build_elements::<R, B>(alloc, nodes, kind, count, &mut row, units, room)?;
-    Some(row)
+    let mut elements = B::elements(alloc, room)?;
+    build_elements::<R, B>(alloc, nodes, kind, count, &mut elements, units, room)?;
+    Some(elements)
 }
 
 /// What is built of the elements of a list, with whose count the units begin, and which are taken, where the count is read

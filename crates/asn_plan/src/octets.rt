@@ -147,18 +147,18 @@ impl PlanLeaves for Oer {
 
     #[inline(always)]
     fn try_index(fields: &BitFields, units: &mut BitCursor<'_>) -> Option<u32> {
-        let Some(field) = &fields.in_octets else {
+        let Some(indexes) = &fields.in_octets else {
             return None;
         };
-        take_told(field, units)
+        take_told(indexes, units)
     }
 
     #[inline(always)]
     fn try_count(fields: &BitFields, units: &mut BitCursor<'_>) -> Option<u32> {
-        let Some(field) = &fields.in_octets else {
+        let Some(counts) = &fields.in_octets else {
             return None;
         };
-        take_told(field, units)
+        take_told(counts, units)
     }
 }
 

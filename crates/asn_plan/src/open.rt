@@ -28,16 +28,14 @@ pub(crate) fn build_complete<R: PlanLeaves, B: Build>(
 {
     R::keep_laws();
     are_octets(octets);
+    let Ok(count) = u32::try_from(octets.len()) else {
+        return None;
+    };
     let mut units = BitCursor::over(octets);
     let given = R::units_left(&units);
     let part = build_at::<R, B>(alloc, nodes, kind, &mut units, room)?;
-    if R::units_left(&units) > given {
-        return None;
-    }
-    let Ok(()) = R::read_padding(given, &mut units) else {
-        return None;
-    };
-    if R::units_left(&units) > 0 {
+    let left = R::units_left(&units);
+    if left > given || !R::leave_open(count, given - left, &mut units) {
         return None;
     }
     Some(part)

@@ -1,8 +1,10 @@
 //! The nodes of a plan.
-ghost use Rattle.std.specs.Prelude.{◌≡◌, ◌+◌, ◌^◌, ◌≤◌, true};
+ghost use Rattle.std.specs.Prelude.{◌≡◌, ◌+◌, ◌^◌, ◌≤◌, true, ◌-◌};
+ghost use Rattle.std.proofs.Props.{props};
 ghost use Rattle.asn_values.specs.Profile.{InProfile, good_default};
 ghost use Rattle.asn_values.specs.View.{shape_of, datum_of, size_range_of};
 ghost use Rattle.asn_plan.specs.Enumerations.{IsEnumeration};
+ghost use Rattle.asn_plan.specs.Fields.{AreCountFields, AreIndexFields};
 ghost use Rattle.asn_plan.specs.Ranged.{IsRanged};
 ghost use Rattle.asn_walk.specs.Laws.{IsSizeOfProfile};
 ghost use Rattle.asn_plan.specs.SimpleTypes.{is_simple};
@@ -84,6 +86,7 @@ pub struct ElementRow {
     pub counts: BitFields,
     pub element: usize,
     ghost of_profile: { IsSizeOfProfile (size_range_of size) },
+    ghost are_counts: { AreCountFields counts (size_range_of size) } by { Prim.hlevel props },
 }
 
 /// Where the nodes of the alternatives of a CHOICE stand among those of the plan, counted from 0: those of the root
@@ -98,6 +101,7 @@ pub struct AlternativeRows {
     pub additions: Option<usize>,
     /// Those of the indexes of the root.
     pub indexes: BitFields,
+    ghost are_indexes: { AreIndexFields indexes (middle - begin) additions } by { Prim.hlevel props },
 }
 
 /// What is to be read.

@@ -231,7 +231,11 @@ impl PlanLeaves for Per {
         if taken > all || all - taken != u128::from(zeros) {
             return false;
         }
-        matches!(units.take_number(zeros), Some(0))
+        let Some(0) = units.peek_short_number(zeros) else {
+            return false;
+        };
+        units.pass(zeros);
+        true
     }
 
     /// The extension bit, where there is a mark, is read as the highest bit of the offset: so it is 0.
@@ -248,18 +252,18 @@ impl PlanLeaves for Per {
 
     #[inline(always)]
     fn try_index(fields: &BitFields, units: &mut BitCursor<'_>) -> Option<u32> {
-        let Some(field) = &fields.in_bits else {
+        let Some(indexes) = &fields.in_bits else {
             return None;
         };
-        take_told(field, units)
+        take_told(indexes, units)
     }
 
     #[inline(always)]
     fn try_count(fields: &BitFields, units: &mut BitCursor<'_>) -> Option<u32> {
-        let Some(field) = &fields.in_bits else {
+        let Some(counts) = &fields.in_bits else {
             return None;
         };
-        take_told(field, units)
+        take_told(counts, units)
     }
 }
 

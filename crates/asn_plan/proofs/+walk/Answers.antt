@@ -1,4 +1,4 @@
-use Rattle.std.proofs.Common.{◌≡◌, ◌/◌, ◌%◌, ◌^◌, refl, sym, ap, ◌∙◌, ℕ, List, Some, None, inl, inr, length, arith}
+use Rattle.std.proofs.Common.{◌≡◌, ◌/◌, ◌%◌, ◌^◌, refl, sym, ap, ◌∙◌, ℕ, List, Some, None, inl, inr, length, arith, ◌-◌, []}
 use Rattle.std.proofs.lemmas.List.{drop_all, nil_from_length}
 use Rattle.asn_values.specs.Datum.{truth, number, item, alternative}
 use Rattle.asn_values.specs.Profile.{InProfile}
@@ -15,19 +15,18 @@ use Rattle.asn_rules.specs.Listed.{Spelt}
 use Rattle.asn_walk.specs.Ahead.{Next}
 use Rattle.asn_walk.specs.Coding.{IndexOf, PreambleOf}
 use Rattle.asn_walk.specs.Views.{preamble_seen}
-use Rattle.asn_walk.proofs.Decoding.{units_fill}
 use Rattle.asn_walk.proofs.OpenRead.{content_of}
 use Rattle.asn_walk.proofs.Parts.{root_good}
 use Rattle.asn_plan.proofs.Additions.{present_addition, absent_addition, added_starts, added_further, added_ends, additions_read, extended_read, plans_count}
-use Rattle.asn_plan.proofs.Alternatives.{alternative_at, each_count, root_read, added_read}
+use Rattle.asn_plan.proofs.Alternatives.{alternative_at, each_count, root_count, root_read, added_read}
 use Rattle.asn_plan.proofs.Building.{next_node, built_further, goes_ends, absents_are, no_root, no_additions, sequence_read}
-use Rattle.asn_plan.proofs.Entries.{there_entry, not_there_entry, other_entry}
-use Rattle.asn_plan.proofs.Messages.{whole_message, field_read, turned_true, turned_false}
+use Rattle.asn_plan.proofs.Entries.{there_entry, not_there_entry, other_entry, must_entry, present_entry, absent_entry, default_entry}
+use Rattle.asn_plan.proofs.Messages.{whole_message, field_read, turned_true, turned_false, whole_here}
 use Rattle.asn_plan.proofs.NodeKinds.{if_some, number_is, truth_is, item_is, leaf_is, sequence_is, list_is, choice_is}
-use Rattle.asn_plan.proofs.Rows.{row_begins, row_further, listed_starts, listed_further, listed_ends, list_read}
+use Rattle.asn_plan.proofs.Rows.{row_begins, row_further, listed_starts, listed_further, listed_ends, list_read, counted_read, started_read}
 use Rattle.asn_plan.specs.declared.plan.Kind.TheVariants as kind
 use Rattle.asn_plan.specs.declared.plan.Presence.TheVariants as presence
-use Rattle.asn_plan.specs.Plans.{IsPlan, Builds}
+use Rattle.asn_plan.specs.Plans.{IsPlan, Builds, BuildsEntry}
 use Rattle.asn_plan.specs.Words.{before}
 use Rattle.asn_plan.proofs.WordsRead.{nothing_left}
 use Rattle.asn_plan.proofs.+walk.Goals as goal
@@ -242,6 +241,32 @@ lists::build_fragments-returns-in_default-next-clause-some g t c s good p =
     let h = c.loop-i.invariant.0 s good p in
     record { value = h.value; of_value = h.of_value; read = listed_ends next h }
 
+pub lists::build_row-returns-clause-some : goal.lists::build_row-returns-clause-some
+lists::build_row-returns-clause-some g t c s good p =
+    let h = c.in_ok-build_elements.ensures.some refl c.args.room.now s good p in
+    let r = h.row [] c.in_ok-elements.ensures in
+    record { value = r.0; of_value = r.1; read = r.2 }
+
+pub lists::build_rows-returns-in-Some-clause-some : goal.lists::build_rows-returns-in-Some-clause-some
+lists::build_rows-returns-in-Some-clause-some g t c = if_some c.build_row.result _ _ (λ p built s good plan. (
+    let r = g.R.ReadLeaves.rules in
+    let l = c.args.list.now in
+    let es = built s good plan in
+    let count = c.in-Some.ensures.some (size_range_of l.size) l.are_counts in
+    record { value = es.value; of_value = es.of_value; read = counted_read r c.keep_laws.ensures s good (size_range_of l.size) l.of_profile c.in-Some.count (r.to_units c.args.units.now) (r.to_units c.try_count.new.units) (r.to_units c.build_row.new.units) count es.value es.read })) c.build_row.ensures.some
+
+pub lists::build_rows-returns-clause-some : goal.lists::build_rows-returns-clause-some
+lists::build_rows-returns-clause-some g t c = if_some c.build_counted.result _ _ (λ p built s good plan. (
+    let still : c.try_count.new.units ≡ c.args.units.now = c.in_default.ensures.none refl in
+    rw still at (built s good plan))) c.build_counted.ensures.some
+
+pub lists::build_counted-returns-clause-some : goal.lists::build_counted-returns-clause-some
+lists::build_counted-returns-clause-some g t c s good p =
+    let r = g.R.ReadLeaves.rules in
+    let l = c.args.list.now in
+    let es = c.in_ok-row.ensures.some s good p in
+    record { value = es.value; of_value = es.of_value; read = started_read r c.keep_laws.ensures s (size_range_of l.size) l.of_profile (g.R.ReadLeaves.ahead c.in-Ok.fragments) (r.to_units c.args.units.now) (r.to_units c.start_list.new.units) (r.to_units c.build_fragments.new.units) c.in-Ok.ensures.done es.value es.read }
+
 pub lists::build_list-returns-clause-some : goal.lists::build_list-returns-clause-some
 lists::build_list-returns-clause-some g t c s good p =
     let r = g.R.ReadLeaves.rules in
@@ -249,12 +274,31 @@ lists::build_list-returns-clause-some g t c s good p =
     let q = list_is c.args.nodes.now s l c.index-nodes-list.result (omega (arith, c.if-list-nodes.false)) c.index-nodes-list.is p in
     let inside : InProfile (sequence_of q.element (size_range_of l.size)) = rw q.is at good in
     let es = c.in_ok-row.ensures.some q.element (element_of_profile q.element (size_range_of l.size) inside) q.plan in
-    rw q.is (record { value = _; of_value = c.in_ok-part.ensures c.args.room.now es.value es.of_value; read = list_read r c.keep_laws.ensures q.element (size_range_of l.size) inside l.of_profile (g.R.ReadLeaves.ahead c.in-Ok.fragments) (r.to_units c.args.units.now) (r.to_units c.start_list.new.units) (r.to_units c.build_fragments.new.units) c.in-Ok.ensures.done es.value es.read })
+    rw q.is (record { value = _; of_value = c.in_ok-part.ensures c.args.room.now es.value es.of_value; read = list_read r c.keep_laws.ensures q.element (size_range_of l.size) inside (r.to_units c.args.units.now) (r.to_units c.build_rows.new.units) es.value es.read })
 
 -- ---- CHOICE
 
-pub choices::build_choice-returns-in_ok-whole-in-Root-clause-some : goal.choices::build_choice-returns-in_ok-whole-in-Root-clause-some
-choices::build_choice-returns-in_ok-whole-in-Root-clause-some g t c s good p =
+pub choices::build_choice-returns-clause-some : goal.choices::build_choice-returns-clause-some
+choices::build_choice-returns-clause-some g t c = if_some c.choice.result _ _ (λ whole built s good p. (
+    let r = g.R.ReadLeaves.rules in
+    let a = c.args.parts.now in
+    let q = choice_is c.args.nodes.now s a p in
+    let inside : InProfile (choice q.root q.more) = rw q.is at good in
+    let i = c.in-Some.told in
+    let x = c.index-root-place.result in
+    let k = alternative_at r.ruling.fielding (λ t. Spelt r.code None t) _ _ q.root i x q.plans (root_good q.root q.more inside) (omega (arith, c.if-place-root.false)) in
+    let b = c.in_ok-part.ensures.some k.shape k.good k.plan in
+    let told = c.in-Some.ensures.some (a.middle - a.begin) a.additions a.are_indexes in
+    let many = root_count c.args.nodes.now a.begin a.middle q.root q.order q.inside (each_count _ _ q.root q.plans) in
+    rw q.is (record { value = alternative i b.value; of_value = built c.args.room.now c.choosing.new.room b.value c.in_ok-chosen.ensures b.of_value; read = root_read r c.keep_laws.ensures q.root q.more inside (a.middle - a.begin) a.additions many q.additions i (r.to_units c.args.units.now) (r.to_units c.try_index.new.units) (r.to_units c.build_at.new.units) told b.value (k.on b.value _ _ b.read) }))) c.choice.ensures
+
+pub choices::build_choice-returns-in_default-clause-some : goal.choices::build_choice-returns-in_default-clause-some
+choices::build_choice-returns-in_default-clause-some g t c = if_some c.build_chosen.result _ _ (λ p built s good plan. (
+    let still : c.try_index.new.units ≡ c.args.units.now = c.in_default.ensures.none refl in
+    rw still at (built s good plan))) c.build_chosen.ensures.some
+
+pub choices::build_chosen-returns-in_ok-whole-in-Root-clause-some : goal.choices::build_chosen-returns-in_ok-whole-in-Root-clause-some
+choices::build_chosen-returns-in_ok-whole-in-Root-clause-some g t c s good p =
     let r = g.R.ReadLeaves.rules in
     let q = choice_is c.args.nodes.now s c.args.parts.now p in
     let inside : InProfile (choice q.root q.more) = rw q.is at good in
@@ -265,8 +309,8 @@ choices::build_choice-returns-in_ok-whole-in-Root-clause-some g t c s good p =
     let told : Spells r.ruling.fielding (IndexOf r _ c.args.parts.now.additions) (inl i) (r.to_units c.args.units.now) (r.to_units c.read_index.new.units) = rw c.in-Root.is at c.in-Ok.ensures.done in
     rw q.is (record { value = alternative i b.value; of_value = c.in_ok-whole-in-Root.ensures c.args.room.now c.choosing.new.room b.value c.in_ok-chosen-in-Root.ensures b.of_value; read = root_read r c.keep_laws.ensures q.root q.more inside _ c.args.parts.now.additions (each_count _ _ q.root q.plans) q.additions i (r.to_units c.args.units.now) (r.to_units c.read_index.new.units) (r.to_units c.build_at.new.units) told b.value (a.on b.value _ _ b.read) })
 
-pub choices::build_choice-returns-in_ok-whole-in-Added-clause-some : goal.choices::build_choice-returns-in_ok-whole-in-Added-clause-some
-choices::build_choice-returns-in_ok-whole-in-Added-clause-some g t c s good p =
+pub choices::build_chosen-returns-in_ok-whole-in-Added-clause-some : goal.choices::build_chosen-returns-in_ok-whole-in-Added-clause-some
+choices::build_chosen-returns-in_ok-whole-in-Added-clause-some g t c s good p =
     let r = g.R.ReadLeaves.rules in
     let q = choice_is c.args.nodes.now s c.args.parts.now p in
     let inside : InProfile (choice q.root q.more) = rw q.is at good in
@@ -277,23 +321,21 @@ choices::build_choice-returns-in_ok-whole-in-Added-clause-some g t c s good p =
 
 -- ---- complete encodings and open type fields
 
-pub open::build_complete-read_padding-requires-clause-octets : goal.open::build_complete-read_padding-requires-clause-octets
-open::build_complete-read_padding-requires-clause-octets g t c =
-    let r = g.R.ReadLeaves.rules in
-    let o = c.args.octets.now in
-    let over : r.to_units c.over-units.result ≡ r.ruling.units o = ap r.to_units c.over-units.ensures ∙ c.keep_laws.ensures.over o c.are_octets.ensures in
-    rw (c.units_left-given.ensures, over) (units_fill r c.keep_laws.ensures o)
-
 pub open::build_complete-returns : goal.open::build_complete-returns
 open::build_complete-returns g t c s good p =
     let r = g.R.ReadLeaves.rules in
     let o = c.args.octets.now in
-    let over : r.to_units c.over-units.result ≡ r.ruling.units o = ap r.to_units c.over-units.ensures ∙ c.keep_laws.ensures.over o c.are_octets.ensures in
+    let us = r.to_units c.over-units.result in
+    let vs = r.to_units c.build_at.new.units in
+    let over : us ≡ r.ruling.units o = ap r.to_units c.over-units.ensures ∙ c.keep_laws.ensures.over o c.are_octets.ensures in
     let v = c.in_ok-part.ensures.some s good p in
+    let taken : c.units_left-given.result - c.units_left-left.result ≡ length us - length vs = omega (arith, c.units_left-given.ensures, c.units_left-left.ensures) in
+    let many : c.in-Ok.count ≡ length o = omega (arith, c.in-Ok.ensures) in
+    let ends = rw (taken, many) at (c.if-not-leave_open.ensures.some refl) in
     record {
       value = v.value;
       of_value = v.of_value;
-      encoding = whole_message r c.keep_laws.ensures s good o (r.to_units c.over-units.result) (r.to_units c.build_at.new.units) (r.to_units c.read_padding.new.units) over v.value v.read c.units_left-given.result c.units_left-given.ensures tt c.in-Ok.ensures.done (omega (arith, c.if-units_left-gt0.false, c.units_left-2.ensures));
+      encoding = whole_here r c.keep_laws.ensures s good o us vs (r.to_units c.leave_open.new._units) over v.value v.read ends (omega (arith, c.if-left-given.false, c.units_left-given.ensures, c.units_left-left.ensures));
     }
 
 pub open::build_copied-returns-clause-some : goal.open::build_copied-returns-clause-some

@@ -88,3 +88,15 @@ abbrev pub invariant-components::build_open_fields-loop-part : goal.invariant-co
 invariant-components::build_open_fields-loop-part g l =
     ((s : _) → AddedUpTo g.R.ReadLeaves.rules (g.B.Build.listed s l.fn.room l.fn.entries) (g.B.Build.listed s l.room l.entries) l.nodes l.parts (drop l.part-index l.parts) l.fn.presence.left l.fn.presence.bitmap l.presence.left (g.R.ReadLeaves.rules.to_units l.fn.units) (g.R.ReadLeaves.rules.to_units l.units))
     × (l.presence.bitmap ≡ l.fn.presence.bitmap) × g.R.ReadLeaves.rules.at_unit l.units × (l.presence.left ≤ 64)
+
+abbrev pub decreases-choices::build_chosen : goal.decreases-choices::build_chosen
+decreases-choices::build_chosen g l = 8 * length l.nodes.now - 1
+
+abbrev pub decreases-lists::build_row : goal.decreases-lists::build_row
+decreases-lists::build_row g l = 8 * length l.nodes.now + 3
+
+abbrev pub decreases-lists::build_counted : goal.decreases-lists::build_counted
+decreases-lists::build_counted g l = 8 * length l.nodes.now + 4
+
+abbrev pub decreases-lists::build_rows : goal.decreases-lists::build_rows
+decreases-lists::build_rows g l = 8 * length l.nodes.now + 5

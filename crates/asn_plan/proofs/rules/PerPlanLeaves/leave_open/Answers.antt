@@ -6,11 +6,11 @@ use Rattle.asn_per.specs.Rules.{per_ruling}
 use Rattle.asn_per.specs.Walk.{per_coding}
 use Rattle.asn_plan.proofs.rules.PerPlanLeaves.leave_open.Goals as goal
 
-pub returns-in-Some-eq0-clause-some : goal.returns-in-Some-eq0-clause-some
+pub returns-clause-some : goal.returns-clause-some
 unfolding per_coding per_ruling
-returns-in-Some-eq0-clause-some c same =
+returns-clause-some c same =
     let k = c.zeros_after-zeros.result in
     let count : length (filling c.args.taken) ≡ k = ap length c.zeros_after-zeros.ensures.filled ∙ given_length k 0 in
     let zero : c.in-Some-eq0.field-0 ≡ 0 = omega (arith, c.in-Some-eq0.field-0-test) in
-    let split : c.args.units.now ≡ filling c.args.taken ++ c.take_number.new.self = c.in-Some-eq0.ensures.some ∙ ap (λ n. bits k n ++ c.take_number.new.self) zero ∙ ap (λ l. l ++ c.take_number.new.self) (sym c.zeros_after-zeros.ensures.filled) in
-    record { all = omega (arith, count, c.if-taken-all.false, c.from-all.ensures); split = split }
+    let split : c.args.units.now ≡ filling c.args.taken ++ c.pass.new.self = c.in-Some-eq0.ensures.some ∙ ap (λ l. bits k c.in-Some-eq0.field-0 ++ l) (sym c.pass.ensures) ∙ ap (λ n. bits k n ++ c.pass.new.self) zero ∙ ap (λ l. l ++ c.pass.new.self) (sym c.zeros_after-zeros.ensures.filled) in
+    record { all = omega (arith, count, c.if-all-taken.false, c.if-taken-all.false, c.from-all.ensures, c.from.ensures); split = split }

@@ -1,5 +1,5 @@
 //! The slots of a value.
-ghost use Rattle.std.specs.Prelude.{◌≡◌, ◌≤◌, ◌<◌, ◌++◌, ◌∷◌, [], ℕ, pos, Bool, List, map, length, vec_len, vec_capacity, IfSome, IsSome};
+ghost use Rattle.std.specs.Prelude.{◌≡◌, ◌≤◌, ◌<◌, ◌+◌, ◌^◌, ◌++◌, ◌∷◌, [], ℕ, pos, Bool, List, map, length, vec_len, vec_capacity, IfSome, IsSome};
 ghost use Rattle.asn_message.specs.declared.slots.Content.TheVariants as content;
 ghost use Rattle.asn_message.specs.declared.slots.Slot.{Slot};
 ghost use Rattle.asn_bits.specs.Numbers.{bits, octets};
@@ -94,7 +94,7 @@ impl Room {
     #[inline(always)]
     pub(crate) fn push(&mut self, content: Content) -> Option<()>
         ensures octets { self.new.octets ≡ self.old.octets }
-        ensures absent { self.new.absent ≡ 0 }
+        ensures absent { IsSome result → self.new.absent ≡ 0 }
         ensures slots { IsSome result → self.new.slots.items
             ≡ self.old.slots.items ++ record { content = content; absent_before = self.old.absent; inside = 0 } ∷ [] }
     {
@@ -112,7 +112,7 @@ impl Room {
     #[inline(always)]
     pub(crate) fn begin(&mut self) -> Option<usize>
         ensures octets { self.new.octets ≡ self.old.octets }
-        ensures absent { self.new.absent ≡ 0 }
+        ensures absent { IsSome result → self.new.absent ≡ 0 }
         ensures at { IfSome result (λ at. at ≡ length self.old.slots.items) }
         ensures slots { IsSome result → self.new.slots.items
             ≡ self.old.slots.items ++ record { content = content.Number (pos 0); absent_before = self.old.absent; inside = 0 } ∷ [] }
@@ -142,6 +142,7 @@ impl Room {
     pub(crate) fn close(&mut self, at: usize, content: Content) -> Option<()>
         ensures octets { self.new.octets ≡ self.old.octets }
         ensures absent { self.new.absent ≡ self.old.absent }
+        ensures few { IsSome result → length self.old.slots.items ≤ at + 2 ^ 32 }
         ensures slots { IsSome result → (xs : List Slot) (old : Slot) (ys : List Slot)
             → self.old.slots.items ≡ xs ++ old ∷ ys → at ≡ length xs → self.new.slots.items
             ≡ xs ++ record { content = content; absent_before = old.absent_before; inside = length ys } ∷ ys }

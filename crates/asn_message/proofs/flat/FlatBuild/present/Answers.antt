@@ -4,4 +4,4 @@ use Rattle.asn_message.proofs.flat.FlatBuild.present.Goals as goal
 
 pub returns : goal.returns
 returns c some s m es d h k =
-    present_more s m c.args._room.now c.args.entries.now _ c.args._part es d h k refl (omega (arith, c.in_ok-entries.ensures))
+    present_more s m c.args._room.now c.args.entries.now _ es d h k refl (omega arith)

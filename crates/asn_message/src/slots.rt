@@ -187,11 +187,12 @@ impl Room {
             → octets_at (self.new.octets.items ++ more) s ≡ octets count number) }
     {
         let begin = u32::try_from(self.octets.len()).ok()?;
-        if count > 0 {
-            let eight = (number << (64 - 8 * count)).to_be_bytes();
-            push_eight(&mut self.octets, &eight)?;
-            self.octets.truncate(begin as usize + count as usize);
+        if count == 0 {
+            return Some(Span { begin, length: 0 });
         }
+        let eight = (number << (64 - 8 * count)).to_be_bytes();
+        push_eight(&mut self.octets, &eight)?;
+        self.octets.truncate(begin as usize + count as usize);
         Some(Span {
             begin,
             length: count,
@@ -208,14 +209,15 @@ impl Room {
             → bits_at (self.new.octets.items ++ more) s ≡ bs) }
     {
         let begin = u32::try_from(self.octets.len()).ok()?;
-        if count > 0 {
-            let first = number << (64 - count);
-            for i in 0..count.div_ceil(8) {
-                let eight = spread(low_octet(first >> (56 - 8 * i)));
-                push_eight(&mut self.octets, &eight)?;
-            }
-            self.octets.truncate(begin as usize + count as usize);
+        if count == 0 {
+            return Some(Span { begin, length: 0 });
         }
+        let first = number << (64 - count);
+        for i in 0..count.div_ceil(8) {
+            let eight = spread(low_octet(first >> (56 - 8 * i)));
+            push_eight(&mut self.octets, &eight)?;
+        }
+        self.octets.truncate(begin as usize + count as usize);
         Some(Span {
             begin,
             length: count,

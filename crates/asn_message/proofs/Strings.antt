@@ -1,10 +1,11 @@
 -- Strings that are told by a number in their bits, put eight octets at a time.
-use Rattle.std.proofs.Common.{◌≡◌, ◌≤◌, ◌<◌, ◌+◌, ◌-◌, ◌*◌, ◌/◌, ◌%◌, ◌^◌, ◌++◌, ◌∷◌, [], ◌==◌, ℕ, zero, suc, Bool, true, false, if◌then◌else◌, List, length, take, bit_and, refl, sym, ap, subst, ◌∙◌, append_assoc, arith}
+use Rattle.std.proofs.Common.{◌≡◌, ◌≤◌, ◌<◌, ◌+◌, ◌-◌, ◌*◌, ◌/◌, ◌%◌, ◌^◌, ◌++◌, ◌∷◌, [], ◌==◌, ℕ, zero, suc, Bool, true, false, true≢false, if◌then◌else◌, List, length, map, take, bit_and, rules, refl, sym, ap, subst, ◌∙◌, append_assoc, arith}
 use Rattle.std.proofs.lemmas.List.{take-append-le}
 use Rattle.std.proofs.lemmas.Nat.{div-mul-add, pow_pos, shr-shr}
 use Rattle.std.proofs.Math.Seq.{take-append_seam}
 use Rattle.std.specs.Int.{bytes_low_first}
 use Rattle.asn_bits.specs.Numbers.{bits, octets}
+use Rattle.asn_bits.specs.Sink.{bit_of}
 use Rattle.asn_bits.proofs.Octets.{length-digits}
 use Rattle.asn_bits.proofs.Splits.{digits-add, digits-mod, two_pow_octets}
 
@@ -84,6 +85,13 @@ bits_kept old all begin count i n b few most e =
     ap (λ l. take (begin + count) l) e ∙ ap (λ t. take (t + count) (old ++ row)) b ∙ take_past old row count
     ∙ ap (λ l. old ++ l) (first_bits count i n few most)
 
+-- a string of no bits
+pub no_bits : (bs : List Bool) (count n : ℕ) → count ≡ 0 → map bit_of bs ≡ bits count n → [] ≡ bs
+no_bits [] count n none e = refl
+no_bits (b ∷ bs) count n none e =
+    let longer : suc (length (map bit_of bs)) ≡ count = ap (λ l. length l) e ∙ length-digits 2 count n in
+    absurd (omega (arith, longer, none))
+
 -- ---- the bits of an octet, an octet for each
 
 same : List ℕ → List ℕ → Bool
@@ -97,3 +105,22 @@ are_bits x = same (bytes_low_first 0 8 (bit_and (x * 9241421688590303745 % 2 ^ 6
 all_below : ℕ → Bool
 all_below zero = true
 all_below (suc n) = if are_bits n then all_below n else false
+
+same_is : (xs ys : List ℕ) → same xs ys ≡ true → xs ≡ ys
+same_is [] [] h = refl
+same_is [] (y ∷ ys) h = absurd (true≢false (sym h))
+same_is (x ∷ xs) [] h = absurd (true≢false (sym h))
+same_is (x ∷ xs) (y ∷ ys) h = search (rules, arith)
+
+below_all : (n x : ℕ) → all_below n ≡ true → x < n → are_bits x ≡ true
+below_all zero x h less = absurd (omega (arith, less))
+below_all (suc n) x h less = search (rules, arith)
+
+every_octet : all_below 256 ≡ true
+unfolding all_below are_bits same
+every_octet = refl
+
+pub octet_spread : (x : ℕ) → x < 256
+    → bytes_low_first 0 8 (bit_and (x * 9241421688590303745 % 2 ^ 64 / 2 ^ 7) 72340172838076673) ≡ bits 8 x
+unfolding same are_bits
+octet_spread x less = same_is _ _ (below_all 256 x every_octet less)

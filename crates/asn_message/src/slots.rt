@@ -213,7 +213,7 @@ impl Room {
             return Some(Span { begin, length: 0 });
         }
         let first = number << (64 - count);
-        for i in 0..count.div_ceil(8) {
+        for i in 0..(count + 7) / 8 {
             let eight = spread(low_octet(first >> (56 - 8 * i)));
             push_eight(&mut self.octets, &eight)?;
         }

@@ -1,7 +1,8 @@
 -- Strings that are told by a number in their bits, put eight octets at a time.
-use Rattle.std.proofs.Common.{◌≡◌, ◌≤◌, ◌<◌, ◌+◌, ◌-◌, ◌*◌, ◌/◌, ◌%◌, ◌^◌, ◌++◌, ◌∷◌, [], ◌==◌, ℕ, zero, suc, Bool, true, false, true≢false, if◌then◌else◌, List, length, map, take, bit_and, rules, refl, sym, ap, subst, ◌∙◌, append_assoc, arith}
+use Rattle.std.proofs.Common.{◌≡◌, ◌≤◌, ◌<◌, ◌+◌, ◌-◌, ◌*◌, ◌/◌, ◌%◌, ◌^◌, ◌++◌, ◌∷◌, [], ◌==◌, ℕ, zero, suc, Bool, true, false, true≢false, if◌then◌else◌, List, length, map, take, bit_and, refl, sym, ap, subst, ◌∙◌, append_assoc, arith}
 use Rattle.std.proofs.lemmas.List.{take-append-le}
 use Rattle.std.proofs.lemmas.Nat.{div-mul-add, pow_pos, shr-shr}
+use Rattle.std.proofs.lemmas.Bool.Decides.{nat_tests}
 use Rattle.std.proofs.Math.Seq.{take-append_seam}
 use Rattle.std.specs.Int.{bytes_low_first}
 use Rattle.asn_bits.specs.Numbers.{bits, octets}
@@ -94,33 +95,50 @@ no_bits (b ∷ bs) count n none e =
 
 -- ---- the bits of an octet, an octet for each
 
-same : List ℕ → List ℕ → Bool
+both_true : (b c : Bool) → (if b then c else false) ≡ true → (b ≡ true) × (c ≡ true)
+both_true true c h = (refl, h)
+both_true false c h = absurd (true≢false (sym h))
+
+same_number : (x y : ℕ) → (x == y) ≡ true → x ≡ y
+same_number x y h = grind (arith, nat_tests)
+
+other_number : (x y : ℕ) → (x == y) ≡ false → x < suc y → x < y
+other_number x y h less = grind (arith, nat_tests)
+
+abbrev same : List ℕ → List ℕ → Bool
 same [] [] = true
+same [] (y ∷ ys) = false
+same (x ∷ xs) [] = false
 same (x ∷ xs) (y ∷ ys) = if x == y then same xs ys else false
-same _ _ = false
-
-are_bits : ℕ → Bool
-are_bits x = same (bytes_low_first 0 8 (bit_and (x * 9241421688590303745 % 2 ^ 64 / 2 ^ 7) 72340172838076673)) (bits 8 x)
-
-all_below : ℕ → Bool
-all_below zero = true
-all_below (suc n) = if are_bits n then all_below n else false
 
 same_is : (xs ys : List ℕ) → same xs ys ≡ true → xs ≡ ys
 same_is [] [] h = refl
 same_is [] (y ∷ ys) h = absurd (true≢false (sym h))
 same_is (x ∷ xs) [] h = absurd (true≢false (sym h))
-same_is (x ∷ xs) (y ∷ ys) h = search (rules, arith)
+same_is (x ∷ xs) (y ∷ ys) h =
+    let both = both_true (x == y) (same xs ys) h in
+    ap (λ n. n ∷ xs) (same_number x y both.0) ∙ ap (λ l. y ∷ l) (same_is xs ys both.1)
 
-below_all : (n x : ℕ) → all_below n ≡ true → x < n → are_bits x ≡ true
+abbrev spread : ℕ → List ℕ
+spread x = bytes_low_first 0 8 (bit_and (x * 9241421688590303745 % 2 ^ 64 / 2 ^ 7) 72340172838076673)
+
+abbrev all_below : ℕ → Bool
+all_below zero = true
+all_below (suc n) = if same (spread n) (bits 8 n) then all_below n else false
+
+below_all : (n x : ℕ) → all_below n ≡ true → x < n → spread x ≡ bits 8 x
 below_all zero x h less = absurd (omega (arith, less))
-below_all (suc n) x h less = search (rules, arith)
+below_all (suc n) x h less = by_test (x == n) refl (λ under. below_all n x both.1 under)
+  where
+    both : (same (spread n) (bits 8 n) ≡ true) × (all_below n ≡ true)
+    both = both_true (same (spread n) (bits 8 n)) (all_below n) h
+    by_test : (b : Bool) → (x == n) ≡ b → (x < n → spread x ≡ bits 8 x) → spread x ≡ bits 8 x
+    by_test true e before = subst (λ k. spread k ≡ bits 8 k) (sym (same_number x n e)) (same_is (spread n) (bits 8 n) both.0)
+    by_test false e before = before (other_number x n e less)
 
 every_octet : all_below 256 ≡ true
-unfolding all_below are_bits same
 every_octet = refl
 
 pub octet_spread : (x : ℕ) → x < 256
     → bytes_low_first 0 8 (bit_and (x * 9241421688590303745 % 2 ^ 64 / 2 ^ 7) 72340172838076673) ≡ bits 8 x
-unfolding same are_bits
-octet_spread x less = same_is _ _ (below_all 256 x every_octet less)
+octet_spread x less = below_all 256 x every_octet less

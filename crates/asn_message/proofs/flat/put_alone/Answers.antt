@@ -1,6 +1,6 @@
-use Rattle.std.proofs.Common.{◌≡◌, ℤ, ◌≤ℤ◌, sym, ap, subst, ◌∙◌, arith, rules}
+use Rattle.std.proofs.Common.{◌≡◌, ℤ, ◌≤ℤ◌, sym, ap, ◌∙◌, arith, rules}
 use Rattle.std.proofs.lemmas.Int.{ints}
-use Rattle.asn_values.specs.Datum.{Datum, number}
+use Rattle.asn_values.specs.Datum.{number}
 use Rattle.asn_values.specs.Fits.{lowest_integer, highest_integer}
 use Rattle.asn_values.specs.View.{datum_of}
 use Rattle.asn_walk.specs.Integers.{IsOfProfile}
@@ -8,7 +8,7 @@ use Rattle.asn_values.specs.declared.value.Value as values
 use mir.Syntax.{w128}
 use mir.Val.{to_z, of_z}
 use Rattle.asn_values.specs.declared.value.Value.TheVariants as value
-use Rattle.asn_message.specs.Building.{IsPut}
+use Rattle.asn_message.proofs.Filled.{of_same}
 use Rattle.asn_message.proofs.flat.put_alone.Goals as goal
 
 datum_of-Int : (z : ℤ) → datum_of (value.Int z) ≡ number z
@@ -23,4 +23,7 @@ kept n z h =
     same ∙ h.0
 
 pub returns-in_ok-number-in-Int : goal.returns-in_ok-number-in-Int
-returns-in_ok-number-in-Int c some = ?
+returns-in_ok-number-in-Int c some =
+    let whole = kept c.in_ok-number-in-Int.number c.in-Int.number c.in_ok-number-in-Int.ensures in
+    let is = ap datum_of c.in-Int.is ∙ datum_of-Int c.in-Int.number ∙ ap number (sym whole) in
+    of_same _ _ _ _ is (c.put_number.ensures some)

@@ -107,7 +107,7 @@ begun r s c at os slots here = record {
 }
 
 -- a value more, and the components that are absent before it
-put_inside : (r s t : Room) (at : ℕ) (es : List (Option Datum)) (d : Datum) → AreInside r s at es → IsPut s t d
+abbrev put_inside : (r s t : Room) (at : ℕ) (es : List (Option Datum)) (d : Datum) → AreInside r s at es → IsPut s t d
     → AreInside r t at (es ++ (absents s.absent ++ Some d ∷ []))
 put_inside r s t at es d h k = record {
   grows = grows_both r s t h.grows k.grows;
@@ -121,7 +121,7 @@ put_inside r s t at es d h k = record {
 }
 
 -- they are inside it whatever is absent after them
-with_absent : (r s t : Room) (at : ℕ) (es : List (Option Datum)) → t.slots ≡ s.slots → t.octets ≡ s.octets
+abbrev with_absent : (r s t : Room) (at : ℕ) (es : List (Option Datum)) → t.slots ≡ s.slots → t.octets ≡ s.octets
     → AreInside r s at es → AreInside r t at es
 with_absent r s t at es slots os h =
     let g : Grows s t = grows_nothing s t os in
@@ -161,7 +161,7 @@ closed r s t at c es d h os over slots value rest counted =
 few_inside : (r s : Room) (at : ℕ) (es : List (Option Datum)) (h : AreInside r s at es) → length s.slots.items ≤ at + 2 ^ 32
     → length h.inside < 2 ^ 32
 few_inside r s at es h few =
-    let all : length s.slots.items ≡ length r.slots.items + (1 + length h.inside) = ap (λ (l : List Slot). length l) h.slots ∙ length-append r.slots.items (h.first ∷ h.inside) in
+    let all : length s.slots.items ≡ length r.slots.items + suc (length h.inside) = ap (λ (l : List Slot). length l) h.slots ∙ length-append r.slots.items (h.first ∷ h.inside) in
     omega (arith, few, all, h.here)
 
 -- ---- SEQUENCE
@@ -182,37 +182,37 @@ no_entries r s e c os over slots here n = record {
 counted_on : (n c d : ℕ) → c ≡ n % 2 ^ 64 → d ≡ (c + 1) % 2 ^ 64 → d ≡ (n + 1) % 2 ^ 64
 counted_on n c d h k = omega (arith, h, k)
 
-pub absent_more : (r s t : Room) (e f : Entries) (es : List (Option Datum)) → AreEntries r s e es → t.slots ≡ s.slots
-    → t.octets ≡ s.octets → t.absent ≡ s.absent + 1 → t.absent < 2 ^ 32 → f.at ≡ e.at → f.count ≡ (e.count + 1) % 2 ^ 64
-    → AreEntries r t f (es ++ None ∷ [])
-absent_more r s t e f es h slots os absent few at count =
+pub absent_more : (r s t : Room) (e : Entries) (n : ℕ) (es : List (Option Datum)) → AreEntries r s e es → t.slots ≡ s.slots
+    → t.octets ≡ s.octets → t.absent ≡ s.absent + 1 → t.absent < 2 ^ 32 → n ≡ (e.count + 1) % 2 ^ 64
+    → AreEntries r t (record { at = e.at; count = n }) (es ++ None ∷ [])
+absent_more r s t e n es h slots os absent few count =
     let one : length (es ++ None ∷ []) ≡ length es + 1 = length-append es (None ∷ []) in
     record {
       first = h.first;
-      within = rw at (with_absent r s t e.at h.first slots os h.within);
+      within = with_absent r s t e.at h.first slots os h.within;
       all = ap (λ (l : List (Option Datum)). l ++ None ∷ []) h.all ∙ append_assoc h.first (absents s.absent) (None ∷ []) ∙ ap (λ (l : List (Option Datum)). h.first ++ l) (sym (rw (absent, add-one) (absents_more s.absent)));
       few_absent = few;
-      few = rw at (omega (arith, one, h.few, absent));
-      count = rw one (counted_on (length es) e.count f.count h.count count);
+      few = omega (arith, one, h.few, absent);
+      count = rw one (counted_on (length es) e.count n h.count count);
     }
 
 length-absents : (n : ℕ) → length (absents n) ≡ n
 length-absents zero = refl
 length-absents (suc n) = ap suc (length-absents n)
 
-pub present_more : (r s t : Room) (e f : Entries) (es : List (Option Datum)) (d : Datum) → AreEntries r s e es
-    → IsPut s t d → f.at ≡ e.at → f.count ≡ (e.count + 1) % 2 ^ 64 → AreEntries r t f (es ++ Some d ∷ [])
-present_more r s t e f es d h k at count =
+pub present_more : (r s t : Room) (e : Entries) (n : ℕ) (es : List (Option Datum)) (d : Datum) → AreEntries r s e es
+    → IsPut s t d → n ≡ (e.count + 1) % 2 ^ 64 → AreEntries r t (record { at = e.at; count = n }) (es ++ Some d ∷ [])
+present_more r s t e n es d h k count =
     let more = absents s.absent ++ Some d ∷ [] in
     let one : length (es ++ Some d ∷ []) ≡ length es + 1 = length-append es (Some d ∷ []) in
-    let slots : length (h.within.inside ++ k.first ∷ k.inside) ≡ length h.within.inside + (1 + length k.inside) = length-append h.within.inside (k.first ∷ k.inside) in
+    let slots : length (h.within.inside ++ k.first ∷ k.inside) ≡ length h.within.inside + suc (length k.inside) = length-append h.within.inside (k.first ∷ k.inside) in
     record {
       first = h.first ++ more;
-      within = rw at (put_inside r s t e.at h.first d h.within k);
+      within = put_inside r s t e.at h.first d h.within k;
       all = ap (λ (l : List (Option Datum)). l ++ Some d ∷ []) h.all ∙ append_assoc h.first (absents s.absent) (Some d ∷ []) ∙ sym (append-nil (h.first ++ more)) ∙ ap (λ (n : ℕ). (h.first ++ more) ++ absents n) (sym k.over);
       few_absent = omega (arith, k.over);
-      few = rw at (omega (arith, one, slots, h.few, h.few_absent, k.over));
-      count = rw one (counted_on (length es) e.count f.count h.count count);
+      few = omega (arith, one, slots, h.few, h.few_absent, k.over);
+      count = rw one (counted_on (length es) e.count n h.count count);
     }
 
 pub sequence_put : (r s t : Room) (e : Entries) (taken : ℕ) (es : List (Option Datum)) → AreEntries r s e es
@@ -240,7 +240,7 @@ no_elements r s e c os over slots here n = record {
 }
 
 -- a value more, where no component is absent before it
-next_inside : (r s t : Room) (at : ℕ) (es : List (Option Datum)) (d : Datum) → AreInside r s at es
+abbrev next_inside : (r s t : Room) (at : ℕ) (es : List (Option Datum)) (d : Datum) → AreInside r s at es
     → s.absent ≡ 0 → IsPut s t d → AreInside r t at (es ++ Some d ∷ [])
 next_inside r s t at es d h none k = record {
   grows = grows_both r s t h.grows k.grows;
@@ -249,19 +249,29 @@ next_inside r s t at es d h none k = record {
   slots = k.slots ∙ ap (λ (l : List Slot). l ++ k.first ∷ k.inside) h.slots ∙ append_assoc r.slots.items (h.first ∷ h.inside) (k.first ∷ k.inside);
   here = h.here;
   before = h.before;
-  stand = (put_inside r s t at es d h k).stand;
+  stand = subst (λ (n : ℕ). Stand t.octets.items (h.inside ++ k.first ∷ k.inside) (es ++ (absents n ++ Some d ∷ []))) none (put_inside r s t at es d h k).stand;
   nest = both_nest t.octets.items h.inside (k.first ∷ k.inside) (nest_stays s t h.inside k.grows h.nest) k.nest;
 }
 
-pub element_more : (r s t : Room) (e f : Elements) (ds : List Datum) (d : Datum) → AreElements r s e ds
-    → IsPut s t d → f.at ≡ e.at → f.count ≡ (e.count + 1) % 2 ^ 32 → AreElements r t f (ds ++ d ∷ [])
-element_more r s t e f ds d h k at count =
+pub element_more : (r s t : Room) (e : Elements) (n : ℕ) (ds : List Datum) (d : Datum) → AreElements r s e ds
+    → IsPut s t d → n ≡ (e.count + 1) % 2 ^ 32 → AreElements r t (record { at = e.at; count = n }) (ds ++ d ∷ [])
+element_more r s t e n ds d h k count =
     let one : length (ds ++ d ∷ []) ≡ length ds + 1 = length-append ds (d ∷ []) in
-    let slots : length (h.within.inside ++ k.first ∷ k.inside) ≡ length h.within.inside + (1 + length k.inside) = length-append h.within.inside (k.first ∷ k.inside) in
+    let slots : length (h.within.inside ++ k.first ∷ k.inside) ≡ length h.within.inside + suc (length k.inside) = length-append h.within.inside (k.first ∷ k.inside) in
+    let inside : AreInside r t e.at (map (λ d. Some d) ds ++ Some d ∷ []) = next_inside r s t e.at (map (λ d. Some d) ds) d h.within h.over k in
     record {
-      within = rw (at, map_push (λ d. Some d) ds d) (next_inside r s t e.at (map (λ d. Some d) ds) d h.within h.over k);
+      within = record {
+        grows = inside.grows;
+        first = h.within.first;
+        inside = h.within.inside ++ k.first ∷ k.inside;
+        slots = inside.slots;
+        here = h.within.here;
+        before = h.within.before;
+        stand = rw (map_push (λ d. Some d) ds d) inside.stand;
+        nest = inside.nest;
+      };
       over = k.over;
-      few = rw (at, map_push (λ d. Some d) ds d) (omega (arith, one, slots, h.few));
+      few = omega (arith, one, slots, h.few);
       count = omega (arith, one, h.count, count);
     }
 

@@ -79,10 +79,11 @@ impl Build for Flat {
     #[inline(always)]
     fn string(room: &mut Room, fixed: &FixedString, number: u64) -> Option<()> {
         if fixed.of_octets {
-            put_low_octets(room, fixed.length, number)
-        } else {
-            put_low_bits(room, fixed.length, number)
+            put_low_octets(room, fixed.length, number)?;
+            return Some(());
         }
+        put_low_bits(room, fixed.length, number)?;
+        Some(())
     }
 
     #[inline(always)]
@@ -120,7 +121,8 @@ impl Build for Flat {
         let absent = room.absent;
         let taken = u32::try_from(entries.count.wrapping_sub(u64::from(absent))).ok()?;
         room.absent = 0;
-        room.close(entries.at, Content::Sequence { taken, absent })
+        room.close(entries.at, Content::Sequence { taken, absent })?;
+        Some(())
     }
 
     #[inline(always)]
@@ -137,12 +139,14 @@ impl Build for Flat {
 
     #[inline(always)]
     fn list(room: &mut Room, row: Elements) -> Option<()> {
-        room.close(row.at, Content::List(row.count))
+        room.close(row.at, Content::List(row.count))?;
+        Some(())
     }
 
     #[inline(always)]
     fn choosing(room: &mut Room, _place: usize) -> Option<usize> {
-        room.begin()
+        let chosen = room.begin()?;
+        Some(chosen)
     }
 
     #[inline(always)]
@@ -153,7 +157,8 @@ impl Build for Flat {
         place: usize,
         _part: (),
     ) -> Option<()> {
-        room.close(chosen, Content::Choice(place as u32))
+        room.close(chosen, Content::Choice(place as u32))?;
+        Some(())
     }
 }
 

@@ -1,5 +1,5 @@
 //! The slots of a value.
-ghost use Rattle.std.specs.Prelude.{◌≡◌, ◌≤◌, ◌<◌, ◌++◌, ◌∷◌, [], ℕ, pos, Bool, List, map, length, vec_len, vec_capacity, IfSome, IsSome};
+ghost use Rattle.std.specs.Prelude.{◌≡◌, ◌≤◌, ◌<◌, ◌+◌, ◌^◌, ◌++◌, ◌∷◌, [], ℕ, pos, Bool, List, map, length, vec_len, vec_capacity, IfSome, IsSome};
 ghost use Rattle.asn_message.specs.declared.slots.Content.TheVariants as content;
 ghost use Rattle.asn_message.specs.declared.slots.Slot.{Slot};
 ghost use Rattle.asn_bits.specs.Numbers.{bits, octets};
@@ -94,7 +94,7 @@ impl Room {
     #[inline(always)]
     pub(crate) fn push(&mut self, content: Content) -> Option<()>
         ensures octets { self.new.octets ≡ self.old.octets }
-        ensures absent { self.new.absent ≡ 0 }
+        ensures absent { IsSome result → self.new.absent ≡ 0 }
         ensures slots { IsSome result → self.new.slots.items
             ≡ self.old.slots.items ++ record { content = content; absent_before = self.old.absent; inside = 0 } ∷ [] }
     {
@@ -112,7 +112,7 @@ impl Room {
     #[inline(always)]
     pub(crate) fn begin(&mut self) -> Option<usize>
         ensures octets { self.new.octets ≡ self.old.octets }
-        ensures absent { self.new.absent ≡ 0 }
+        ensures absent { IsSome result → self.new.absent ≡ 0 }
         ensures at { IfSome result (λ at. at ≡ length self.old.slots.items) }
         ensures slots { IsSome result → self.new.slots.items
             ≡ self.old.slots.items ++ record { content = content.Number (pos 0); absent_before = self.old.absent; inside = 0 } ∷ [] }
@@ -142,6 +142,7 @@ impl Room {
     pub(crate) fn close(&mut self, at: usize, content: Content) -> Option<()>
         ensures octets { self.new.octets ≡ self.old.octets }
         ensures absent { self.new.absent ≡ self.old.absent }
+        ensures few { IsSome result → length self.old.slots.items ≤ at + 2 ^ 32 }
         ensures slots { IsSome result → (xs : List Slot) (old : Slot) (ys : List Slot)
             → self.old.slots.items ≡ xs ++ old ∷ ys → at ≡ length xs → self.new.slots.items
             ≡ xs ++ record { content = content; absent_before = old.absent_before; inside = length ys } ∷ ys }
@@ -186,11 +187,12 @@ impl Room {
             → octets_at (self.new.octets.items ++ more) s ≡ octets count number) }
     {
         let begin = u32::try_from(self.octets.len()).ok()?;
-        if count > 0 {
-            let eight = (number << (64 - 8 * count)).to_be_bytes();
-            push_eight(&mut self.octets, &eight)?;
-            self.octets.truncate(begin as usize + count as usize);
+        if count == 0 {
+            return Some(Span { begin, length: 0 });
         }
+        let eight = (number << (64 - 8 * count)).to_be_bytes();
+        push_eight(&mut self.octets, &eight)?;
+        self.octets.truncate(begin as usize + count as usize);
         Some(Span {
             begin,
             length: count,
@@ -207,14 +209,15 @@ impl Room {
             → bits_at (self.new.octets.items ++ more) s ≡ bs) }
     {
         let begin = u32::try_from(self.octets.len()).ok()?;
-        if count > 0 {
-            let first = number << (64 - count);
-            for i in 0..count.div_ceil(8) {
-                let eight = spread(low_octet(first >> (56 - 8 * i)));
-                push_eight(&mut self.octets, &eight)?;
-            }
-            self.octets.truncate(begin as usize + count as usize);
+        if count == 0 {
+            return Some(Span { begin, length: 0 });
         }
+        let first = number << (64 - count);
+        for i in 0..(count + 7) / 8 {
+            let eight = spread(low_octet(first >> (56 - 8 * i)));
+            push_eight(&mut self.octets, &eight)?;
+        }
+        self.octets.truncate(begin as usize + count as usize);
         Some(Span {
             begin,
             length: count,

@@ -1,7 +1,7 @@
 -- Values that are put over those of a value before.
 use Rattle.std.proofs.Common.{◌≡◌, ◌≤◌, ◌<◌, ◌+◌, ◌∙◌, ◌∷◌, [], ◌++◌, ℕ, zero, suc, List, Option, Some, None, map, take, get_or, slice_set, slice_get, length, refl, sym, ap, subst, arith, rules, ◌%◌}
 use Rattle.std.specs.Option.{option_map}
-use Rattle.std.proofs.lemmas.List.{take_more_set, take_all, take-append-le, take-set, map_push, map_more, length-map}
+use Rattle.std.proofs.lemmas.List.{take_more_set, take_all, take-append-le, take-set, take-set-le, length-set, map_push, map_more, length-map}
 use Rattle.std.proofs.lemmas.Option.{slice_get-map, slice_get-get_or, slice_get_within, same_Some}
 use Rattle.asn_values.specs.Datum.{Datum}
 use Rattle.asn_values.specs.declared.value.Value.{Value}
@@ -70,6 +70,13 @@ pub element_over : (es : List Value) (i : ℕ) (v : Value) (d : Datum) → i < l
     → map datum_of (take (i + 1) (slice_set es i v)) ≡ map datum_of (take i es) ++ d ∷ []
 element_over es i v d h e =
     ap (map datum_of) (take_more_set es i v h) ∙ map_push datum_of (take i es) v ∙ ap (λ x. map datum_of (take i es) ++ x ∷ []) e
+
+-- and so where the one after it was taken away
+pub element_before : (es : List Value) (i : ℕ) (w v : Value) (d : Datum) → i + 1 < length es → datum_of v ≡ d
+    → map datum_of (take (i + 1) (slice_set (slice_set es (i + 1) w) i v)) ≡ map datum_of (take i es) ++ d ∷ []
+element_before es i w v d h e =
+    element_over (slice_set es (i + 1) w) i v d (omega (arith, h, length-set es (i + 1) w)) e
+    ∙ ap (λ xs. map datum_of xs ++ d ∷ []) (take-set-le i es (i + 1) w (omega arith))
 
 -- an element that is added behind all others is one more
 pub element_added : (es rs : List Value) (n k : ℕ) (v : Value) → length es ≤ n → rs ≡ es ++ v ∷ [] → length rs ≡ k

@@ -1,5 +1,5 @@
 -- Strings that are told by a number in their bits, put one bit or octet after the other.
-use Rattle.std.proofs.Common.{◌≡◌, ◌+◌, ◌-◌, ◌*◌, ◌/◌, ◌%◌, ◌^◌, ◌++◌, ◌∷◌, [], ◌<◌, ◌≤◌, ℕ, suc, Bool, true, false, ◌==◌, List, length, map, take, slice_set, refl, sym, ap, subst, ◌∙◌, append_assoc, arith}
+use Rattle.std.proofs.Common.{◌≡◌, ◌+◌, ◌-◌, ◌*◌, ◌/◌, ◌%◌, ◌^◌, ◌++◌, ◌∷◌, [], ◌<◌, ◌≤◌, ℕ, zero, suc, Bool, true, false, ◌==◌, List, length, map, take, slice_set, refl, sym, ap, subst, ◌∙◌, append_assoc, arith}
 use Rattle.std.proofs.lemmas.Bool.{true≢false}
 use Rattle.std.proofs.lemmas.List.{take_more_set, take_all, map_push}
 use Rattle.std.proofs.Math.Nat.{div-one}
@@ -33,9 +33,9 @@ truths_back (true ∷ bs) = ap (λ (l : List Bool). true ∷ l) (truths_back bs)
 truths_back (false ∷ bs) = ap (λ (l : List Bool). false ∷ l) (truths_back bs)
 
 -- so truth values of the same bits are the same
-pub same_truths : (as bs : List Bool) (ns : List ℕ) → map bit_of as ≡ ns → map bit_of bs ≡ ns → as ≡ bs
-same_truths as bs ns a b =
-    sym (truths_back as) ∙ ap (λ (l : List ℕ). map (λ (n : ℕ). n == 1) l) (a ∙ sym b) ∙ truths_back bs
+pub same_truths : (xs bs : List Bool) (ns : List ℕ) → map bit_of xs ≡ ns → map bit_of bs ≡ ns → xs ≡ bs
+same_truths xs bs ns a b =
+    sym (truths_back xs) ∙ ap (λ (l : List ℕ). map (λ (n : ℕ). n == 1) l) (a ∙ sym b) ∙ truths_back bs
 
 -- one bit more of the number
 pub bit_more : (row : List ℕ) (count i n o : ℕ) → i < count → row ≡ bits i (n / 2 ^ (count - i))
@@ -81,8 +81,8 @@ truth_of_bit : (m : ℕ) → bit_of (m % 2 == 1) ≡ m % 2
 truth_of_bit m = cases (m % 2) (omega arith)
   where
     cases : (r : ℕ) → r < 2 → bit_of (r == 1) ≡ r
-    cases 0 h = refl
-    cases 1 h = refl
+    cases zero h = refl
+    cases (suc zero) h = refl
     cases (suc (suc r)) h = absurd (omega (arith, h))
 
 -- a bit that is set at its place among those of the number

@@ -297,10 +297,11 @@ impl Build for Reused {
     #[inline(always)]
     fn string(room: &mut Spare, fixed: &FixedString, number: u64) -> Option<()> {
         if fixed.of_octets {
-            room.here.put_low_octets(fixed.length, number)
-        } else {
-            room.here.put_low_bits(fixed.length, number)
+            room.here.put_low_octets(fixed.length, number)?;
+            return Some(());
         }
+        room.here.put_low_bits(fixed.length, number)?;
+        Some(())
     }
 
     #[inline(always)]
@@ -350,7 +351,8 @@ impl Build for Reused {
 
     #[inline(always)]
     fn sequence(room: &mut Spare, _entries: ()) -> Option<()> {
-        room.leave()
+        room.leave()?;
+        Some(())
     }
 
     #[inline(always)]
@@ -366,7 +368,8 @@ impl Build for Reused {
 
     #[inline(always)]
     fn element(room: &mut Spare, row: &mut ElementsOver, _part: ()) -> Option<()> {
-        row.go_on(room)
+        row.go_on(room)?;
+        Some(())
     }
 
     #[inline(always)]

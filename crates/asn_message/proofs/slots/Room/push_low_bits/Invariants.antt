@@ -1,4 +1,4 @@
-use Rattle.std.proofs.Common.{◌≡◌, ◌++◌, ◌-◌, ◌/◌, ◌^◌}
+use Rattle.std.proofs.Common.{◌≡◌, ◌++◌, ◌-◌, ◌*◌, ◌/◌, ◌^◌}
 use Rattle.asn_bits.specs.Numbers.{bits}
 use Rattle.asn_message.proofs.slots.Room.push_low_bits.Given as goal
 
@@ -6,4 +6,4 @@ abbrev pub invariant-loop-i : goal.invariant-loop-i
 invariant-loop-i l =
     (l.self.slots ≡ l.fn.self.slots)
     × (l.self.absent ≡ l.fn.self.absent)
-    × (l.self.octets.items ≡ l.fn.self.octets.items ++ bits l.i (l.number / 2 ^ (l.count - l.i)))
+    × (l.self.octets.items ≡ l.fn.self.octets.items ++ bits (8 * l.i) (l.first / 2 ^ (64 - 8 * l.i)))

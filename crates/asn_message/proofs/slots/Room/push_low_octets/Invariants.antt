@@ -1,9 +1,0 @@
-use Rattle.std.proofs.Common.{◌≡◌, ◌++◌, ◌-◌, ◌*◌, ◌/◌, ◌^◌}
-use Rattle.asn_bits.specs.Numbers.{octets}
-use Rattle.asn_message.proofs.slots.Room.push_low_octets.Given as goal
-
-abbrev pub invariant-loop-i : goal.invariant-loop-i
-invariant-loop-i l =
-    (l.self.slots ≡ l.fn.self.slots)
-    × (l.self.absent ≡ l.fn.self.absent)
-    × (l.self.octets.items ≡ l.fn.self.octets.items ++ octets l.i (l.number / 2 ^ (8 * (l.count - l.i))))

@@ -1,6 +1,5 @@
 -- What is read of one component, in front of those after it.
-use Rattle.std.proofs.Common.{◌≡◌, ◌+◌, ◌/◌, ◌%◌, ◌^◌, ℕ, suc, List, [], ◌∷◌, ◌++◌, Option, Some, None, true, false, refl, sym, ap, subst, ◌∙◌, arith}
-use Rattle.std.proofs.lemmas.Bool.{true≢false}
+use Rattle.std.proofs.Common.{◌≡◌, ◌+◌, ◌/◌, ◌%◌, ◌^◌, ℕ, suc, List, [], ◌∷◌, ◌++◌, Option, Some, None, sym, ap, subst, ◌∙◌, arith}
 use Rattle.asn_values.specs.Datum.{Datum}
 use Rattle.asn_values.specs.Profile.{InProfile}
 use Rattle.asn_values.specs.Shape.{Shape, Demand, Fields, field, must, optional, default}
@@ -14,10 +13,9 @@ use Rattle.asn_rules.proofs.Languages.Parts.{map_spells}
 use Rattle.asn_rules.proofs.Languages.Then.{then_spells}
 use Rattle.asn_walk.specs.Coding.{Coding}
 use Rattle.asn_plan.specs.declared.plan.Node.{Node}
-use Rattle.asn_plan.specs.declared.plan.Presence.{Presence}
 use Rattle.asn_plan.specs.declared.plan.Presence.TheVariants as presence
 use Rattle.asn_plan.specs.declared.plan.WithDefault.{WithDefault}
-use Rattle.asn_plan.specs.Plans.{IsPlan, IsTold, HasNoDefault, absent_value, BuildsEntry}
+use Rattle.asn_plan.specs.Plans.{IsPlan, BuildsEntry}
 
 -- a component that is spelt, and those after it
 pub before_spells : {R : Fielding} {L : Datum → List Chunk → Type 0} {M : List (Option Datum) → List Chunk → Type 0}
@@ -123,18 +121,6 @@ module _ (c : Coding) (P N : List (Option Datum) → Type 0) (ns : List Node) (n
           go name must t others is width es l = absurd (let e : must ≡ default (datum_of w.default) = is.0 in cc)
           go name optional t others is width es l = absurd (let e : optional ≡ default (datum_of w.default) = is.0 in cc)
 
-    -- it is there, and has no DEFAULT
-    pub there_entry : (after : ℕ) → IsTold n.presence true bitmap left after → HasNoDefault n.presence
-        → ((t : Shape) → InProfile t → IsPlan ns t n.kind → (d : Datum) × Q d × Spells c.ruling.fielding (Spelt c.code None t) d us vs)
-        → BuildsEntry c P N ns n bitmap left after us vs
-    there_entry after told none read = go n.presence refl told none
-      where
-        go : (p : Presence) → n.presence ≡ p → IsTold p true bitmap left after → HasNoDefault p
-            → BuildsEntry c P N ns n bitmap left after us vs
-        go presence.Must e t h = rw t.1 (must_entry e read)
-        go presence.Optional e t h = present_entry after t.0 e t.1 read
-        go (presence.Default w) e t h = absurd h
-
   -- it is OPTIONAL, and absent
   pub absent_entry : ((es : List (Option Datum)) → P es → N (es ++ None ∷ [])) → (after : ℕ) → after + 1 ≡ left
       → n.presence ≡ presence.Optional → 0 ≡ bitmap / 2 ^ after % 2 → us ≡ vs
@@ -151,15 +137,3 @@ module _ (c : Coding) (P N : List (Option Datum) → Type 0) (ns : List Node) (n
           (None, add es l, omega (arith, width, less), λ gs ws k. rw (still, bits_from left after bitmap 0 less b) (map_spells {f = λ es. None ∷ es} k))
       go name must t others is width es l = absurd (let e : must ≡ optional = is in cc)
       go name (default v) t others is width es l = absurd (let e : default v ≡ optional = is in cc)
-
-  -- it is absent, and has its DEFAULT, where there is one
-  pub not_there_entry : ((es : List (Option Datum)) → P es → N (es ++ absent_value n.presence ∷ [])) → (after : ℕ)
-      → IsTold n.presence false bitmap left after → us ≡ vs → BuildsEntry c P N ns n bitmap left after us vs
-  not_there_entry add after told still = go n.presence refl add told
-    where
-      go : (p : Presence) → n.presence ≡ p → ((es : List (Option Datum)) → P es → N (es ++ absent_value p ∷ []))
-          → IsTold p false bitmap left after → BuildsEntry c P N ns n bitmap left after us vs
-      go presence.Must e more t = absurd (true≢false (sym t.0))
-      go presence.Optional e more t = absent_entry more after t.0 e t.1 still
-      go (presence.Default w) e more t =
-          default_entry (λ d. d ≡ datum_of w.default) (λ es d l q. rw q (more es l)) after t.0 w e t.1 (datum_of w.default) refl refl still

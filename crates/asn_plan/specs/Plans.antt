@@ -1,12 +1,11 @@
 -- Which types the nodes of a plan stand for, and what the walk of a plan says of units.
-use Rattle.std.specs.Prelude.{◌≡◌, ◌+◌, ◌-◌, ◌*◌, ◌/◌, ◌%◌, ◌^◌, ◌≤◌, ◌<◌, ℕ, Bool, true, zero, suc, List, [], ◌∷◌, ◌++◌, length, take, drop, Option, Some, None, IfSome, Result, Ok, Err, ⊤}
+use Rattle.std.specs.Prelude.{◌≡◌, ◌+◌, ◌-◌, ◌*◌, ◌≤◌, ◌<◌, ℕ, zero, suc, List, [], ◌∷◌, ◌++◌, length, take, drop, Option, Some, None, IfSome, Result, Ok, Err, ⊤}
 use Rattle.asn_values.specs.Datum.{Datum}
 use Rattle.asn_values.specs.Parts.{AreOfProfile}
 use Rattle.asn_values.specs.Profile.{InProfile}
 use Rattle.asn_values.specs.Shape.{Shape, boolean, null, integer, enumerated, bit_string, octet_string, restricted, utf8_string, sequence, sequence_of, choice, Fields, no_fields, field, MoreFields, closed, marked, Demand, must, optional, default, Alternatives, no_alternatives, one_of, MoreAlternatives, closed_choice, marked_choice}
 use Rattle.asn_values.specs.View.{shape_of, datum_of, size_range_of}
 use Rattle.asn_bits.specs.Numbers.{bits}
-use Rattle.asn_bits.specs.Sink.{bit_of}
 use Rattle.asn_rules.specs.Answer.{Ruling, IsEncoding, max_octets}
 use Rattle.asn_rules.specs.Chunks.{Chunk}
 use Rattle.asn_rules.specs.Codec.{Decoded}
@@ -45,24 +44,6 @@ abbrev pub IsPresence : Presence → Demand → Shape → Type 0
 IsPresence presence.Must d t = d ≡ must
 IsPresence presence.Optional d t = d ≡ optional
 IsPresence (presence.Default w) d t = (d ≡ default (datum_of w.default)) × (t ≡ shape_of w.ty)
-
--- whether a component is there, by the presence bits that are left of a bitmap: one that has to be is, and of any other
--- the next bit tells it
-abbrev pub IsTold : Presence → Bool → (bitmap left after : ℕ) → Type 0
-IsTold presence.Must b m left after = (b ≡ true) × (after ≡ left)
-IsTold presence.Optional b m left after = (after + 1 ≡ left) × (bit_of b ≡ m / 2 ^ after % 2)
-IsTold (presence.Default w) b m left after = (after + 1 ≡ left) × (bit_of b ≡ m / 2 ^ after % 2)
-
-abbrev pub HasNoDefault : Presence → Type 0
-HasNoDefault presence.Must = ⊤
-HasNoDefault presence.Optional = ⊤
-HasNoDefault (presence.Default w) = ⊥
-
--- the entry of a component that is absent
-abbrev pub absent_value : Presence → Option Datum
-absent_value presence.Must = None
-absent_value presence.Optional = None
-absent_value (presence.Default w) = Some (datum_of w.default)
 
 -- the nodes from one place up to another
 abbrev pub row : ℕ → ℕ → List Node → List Node

@@ -4,10 +4,12 @@
 mod budget;
 mod build;
 mod choices;
+mod component;
 mod components;
 mod copies;
 mod counting;
 mod enumeration;
+mod extensions;
 mod field;
 mod fields;
 mod fixed;

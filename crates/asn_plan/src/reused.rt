@@ -164,12 +164,7 @@ impl Spare {
 
     /// The same with entries for it in the memory of one of another length, where it serves, or new ones.
     #[inline(never)]
-    fn enter_other(
-        &mut self,
-        alloc: Global,
-        memory: Vec<Option<Value>>,
-        count: usize,
-    ) -> Option<()>
+    fn enter_other(&mut self, alloc: Global, memory: Vec<Option<Value>>, count: usize) -> Option<()>
         ensures { IsSome result → AreEntries self.old self.new [] }
     {
         let items = if memory.capacity() < count {

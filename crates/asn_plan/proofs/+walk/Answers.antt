@@ -20,7 +20,7 @@ use Rattle.asn_walk.proofs.Parts.{root_good}
 use Rattle.asn_plan.proofs.Additions.{present_addition, absent_addition, added_starts, added_further, added_ends, additions_read, extended_read, plans_count}
 use Rattle.asn_plan.proofs.Alternatives.{alternative_at, each_count, root_count, root_read, added_read}
 use Rattle.asn_plan.proofs.Building.{next_node, built_further, goes_ends, absents_are, no_root, no_additions, sequence_read}
-use Rattle.asn_plan.proofs.Entries.{there_entry, not_there_entry, other_entry, must_entry, present_entry, absent_entry, default_entry}
+use Rattle.asn_plan.proofs.Entries.{must_entry, present_entry, absent_entry}
 use Rattle.asn_plan.proofs.Messages.{whole_message, field_read, turned_true, turned_false, whole_here}
 use Rattle.asn_plan.proofs.NodeKinds.{if_some, number_is, truth_is, item_is, leaf_is, sequence_is, list_is, choice_is}
 use Rattle.asn_plan.proofs.Rows.{row_begins, row_further, listed_starts, listed_further, listed_ends, list_read, counted_read, started_read}
@@ -97,36 +97,27 @@ components::build_components-returns-clause-some g t c root good p width =
     let none = nothing_left r c.loop-part.word (r.to_units c.loop-part.units) (c.is_empty.ensures c.if-not-is_empty.false) in
     record { entries = e.0; of_entries = e.1; read = rw none at all }
 
-pub components::build_component-returns-then-not-is_there-clause-some : goal.components::build_component-returns-then-not-is_there-clause-some
-components::build_component-returns-then-not-is_there-clause-some g t c some s =
+pub component::build_component-returns-then-not-next-clause-some : goal.component::build_component-returns-then-not-next-clause-some
+component::build_component-returns-then-not-next-clause-some g t c some s =
     let r = g.R.ReadLeaves.rules in
     let us = before r c.args.word.now (r.to_units c.args.units.now) in
-    let told = rw c.if-not-is_there.true at c.in_ok-is_there.ensures.told in
-    not_there_entry r (g.B.Build.listed s c.args.room.now c.args.entries.now) (g.B.Build.listed s c.add_absent.new.room c.add_absent.new.entries) c.args.nodes.now c.args.part.now c.args.presence.now.bitmap c.args.presence.now.left us us (λ es l. c.add_absent.ensures some s es l) c.next_in.new.bits.left told refl
+    let bit : 0 ≡ c.args.presence.now.bitmap / 2 ^ c.next.new.self.left % 2 = ap bit_of (sym c.if-not-next.true) ∙ c.next.ensures.bit.1 in
+    absent_entry r (g.B.Build.listed s c.args.room.now c.args.entries.now) (g.B.Build.listed s c.absent.new.room c.absent.new.entries) c.args.nodes.now c.args.part.now c.args.presence.now.bitmap c.args.presence.now.left us us (λ es l. c.absent.ensures some s es l) c.next.new.self.left c.next.ensures.bit.0 c.in-Optional.is bit refl
 
-pub components::build_component-returns-in-Some-clause-some : goal.components::build_component-returns-in-Some-clause-some
-components::build_component-returns-in-Some-clause-some g t c some s =
-    let r = g.R.ReadLeaves.rules in
-    let w = c.in-Some.with_default.now in
-    let is : c.args.part.now.presence ≡ presence.Default w = rw c.in-Some.is at c.with_default.ensures in
-    let told = rw (c.if-not-is_there.false, is) at c.in_ok-is_there.ensures.told in
-    other_entry r (g.B.Build.listed s c.args.room.now c.args.entries.now) (g.B.Build.listed s c.present.new.room c.present.new.entries) c.args.nodes.now c.args.part.now c.args.presence.now.bitmap c.args.presence.now.left (before r c.args.word.now (r.to_units c.args.units.now)) (before r c.build_other.new.word (r.to_units c.build_other.new.units)) (g.B.Build.built c.args.room.now c.build_other.new.room c.in_ok-other.other) (λ es d l q. c.present.ensures some s c.args.room.now es d l q) c.next_in.new.bits.left told.0 w is told.1 (λ plan. (let b = c.in_ok-other.ensures.some plan in (b.value, b.of_value, b.read)))
+pub component::build_component-returns-in-Default-clause-some : goal.component::build_component-returns-in-Default-clause-some
+component::build_component-returns-in-Default-clause-some g t c some s = c.build_with_default.ensures.some some s
 
-pub components::build_component-returns-clause-some : goal.components::build_component-returns-clause-some
-components::build_component-returns-clause-some g t c some s =
-    let r = g.R.ReadLeaves.rules in
-    let told = rw c.if-not-is_there.false at c.in_ok-is_there.ensures.told in
-    let none = rw c.in_default.is at c.with_default.ensures in
-    there_entry r (g.B.Build.listed s c.args.room.now c.args.entries.now) (g.B.Build.listed s c.present-2.new.room c.present-2.new.entries) c.args.nodes.now c.args.part.now c.args.presence.now.bitmap c.args.presence.now.left (before r c.args.word.now (r.to_units c.args.units.now)) (before r c.build_value.new.word (r.to_units c.build_value.new.units)) (g.B.Build.built c.args.room.now c.build_value.new.room c.in_ok-value.value) (λ es d l q. c.present-2.ensures some s c.args.room.now es d l q) c.next_in.new.bits.left told none (λ s good p. (let b = c.in_ok-value.ensures.some s good p in (b.value, b.of_value, b.read)))
+pub component::build_component-returns-clause-some : goal.component::build_component-returns-clause-some
+component::build_component-returns-clause-some g t c some s = ?
 
-pub components::build_value-returns-then-is_empty-clause-some : goal.components::build_value-returns-then-is_empty-clause-some
-components::build_value-returns-then-is_empty-clause-some g t c =
+pub component::build_value-returns-then-is_empty-clause-some : goal.component::build_value-returns-then-is_empty-clause-some
+component::build_value-returns-then-is_empty-clause-some g t c =
     let r = g.R.ReadLeaves.rules in
     let none = λ (us : List ℕ). nothing_left r c.fill.new.word us (c.is_empty.ensures c.if-is_empty.true) in
     if_some c.build_at.result _ _ (λ p built s good plan. (let b = built s good plan in record { value = b.value; of_value = b.of_value; read = rw (c.fill.ensures.same, none (r.to_units c.fill.new.units), none (r.to_units c.build_at.new.units)) b.read })) c.build_at.ensures.some
 
-pub components::build_value-returns-clause-some : goal.components::build_value-returns-clause-some
-components::build_value-returns-clause-some g t c =
+pub component::build_value-returns-clause-some : goal.component::build_value-returns-clause-some
+component::build_value-returns-clause-some g t c =
     if_some c.build_next.result _ _ (λ p built s good plan. rw c.fill.ensures.same (built s good plan)) c.build_next.ensures.some
 
 pub components::build_parts-returns-then-not-preamble-clause-some : goal.components::build_parts-returns-then-not-preamble-clause-some
@@ -168,34 +159,34 @@ components::build_sequences-returns-clause-some g t c some s x good p =
     let all : c.loop-i.i ≡ c.args.count = omega (arith, c.loop-i-test.false, c.loop-i.auto.i-end) in
     rw all at (c.loop-i.invariant.0 s x good p)
 
-pub components::build_additions-returns-clause-some : goal.components::build_additions-returns-clause-some
-components::build_additions-returns-clause-some g t c some s fs good plans =
+pub extensions::build_additions-returns-clause-some : goal.extensions::build_additions-returns-clause-some
+extensions::build_additions-returns-clause-some g t c some s fs good plans =
     let r = g.R.ReadLeaves.rules in
     let n : length c.args.parts.now ≡ length (demands fs) = plans_count c.args.nodes.now c.args.parts.now fs plans in
     additions_read r (g.B.Build.listed s c.args.room.now c.args.entries.now) (g.B.Build.listed s c.build_open_fields.new.room c.build_open_fields.new.entries) fs (length c.args.parts.now) c.in-Ok.bitmap (r.to_units c.args.units.now) (r.to_units c.read_addition_bitmap.new.units) (r.to_units c.build_open_fields.new.units) n c.in-Ok.ensures.done (c.build_open_fields.ensures.some some s fs good plans n)
 
-pub components::build_open_fields-loop-part-init : goal.components::build_open_fields-loop-part-init
-components::build_open_fields-loop-part-init g t c =
+pub extensions::build_open_fields-loop-part-init : goal.extensions::build_open_fields-loop-part-init
+extensions::build_open_fields-loop-part-init g t c =
     (λ s. added_starts g.R.ReadLeaves.rules (g.B.Build.listed s c.args.room.now c.args.entries.now) c.args.nodes.now c.args.parts.now c.args.presence.left c.args.presence.bitmap (g.R.ReadLeaves.rules.to_units c.args.units.now) c.requires.few, refl, c.requires.at_unit, c.requires.few)
 
-pub components::build_open_fields-loop-part-preserved : goal.components::build_open_fields-loop-part-preserved
-components::build_open_fields-loop-part-preserved g t c =
+pub extensions::build_open_fields-loop-part-preserved : goal.extensions::build_open_fields-loop-part-preserved
+extensions::build_open_fields-loop-part-preserved g t c =
     let h = rw (next_node c.args.parts.now c.loop-part.part-index c.part-item.result c.loop-part-test.true c.part-item.is) at c.loop-part.invariant.0 in
     let b = c.in_ok-build_addition.ensures in
     (λ s. added_further (g.B.Build.listed s c.build_addition.new.room c.build_addition.new.entries) c.build_addition.new.presence.left (g.R.ReadLeaves.rules.to_units c.build_addition.new.units) (h s) (rw c.loop-part.invariant.1 at b.some refl s), b.bitmap refl ∙ c.loop-part.invariant.1, b.at_unit refl, omega (arith, c.loop-part.invariant.3, (b.some refl c.args.room.now).less))
 
-pub components::build_open_fields-returns-clause-some : goal.components::build_open_fields-returns-clause-some
-components::build_open_fields-returns-clause-some g t c some s fs good plans width =
+pub extensions::build_open_fields-returns-clause-some : goal.extensions::build_open_fields-returns-clause-some
+extensions::build_open_fields-returns-clause-some g t c some s fs good plans width =
     added_ends (c.loop-part.invariant.0 s) (drop_all c.loop-part.part-index c.args.parts.now c.loop-part-test.false) fs good plans
 
-pub components::build_addition-returns-then-not-next-clause-some : goal.components::build_addition-returns-then-not-next-clause-some
-components::build_addition-returns-then-not-next-clause-some g t c some s =
+pub extensions::build_addition-returns-then-not-next-clause-some : goal.extensions::build_addition-returns-then-not-next-clause-some
+extensions::build_addition-returns-then-not-next-clause-some g t c some s =
     let r = g.R.ReadLeaves.rules in
     let bit : 0 ≡ c.args.presence.now.bitmap / 2 ^ c.next.new.self.left % 2 = ap bit_of (sym c.if-not-next.true) ∙ c.next.ensures.bit.1 in
     absent_addition r (g.B.Build.listed s c.args.room.now c.args.entries.now) (g.B.Build.listed s c.absent.new.room c.absent.new.entries) c.args.nodes.now c.args.part.now c.args.presence.now.bitmap c.args.presence.now.left c.next.new.self.left (r.to_units c.args.units.now) (r.to_units c.args.units.now) c.next.ensures.bit.0 (λ es l. c.absent.ensures some s es l) bit refl
 
-pub components::build_addition-returns-clause-some : goal.components::build_addition-returns-clause-some
-components::build_addition-returns-clause-some g t c some s =
+pub extensions::build_addition-returns-clause-some : goal.extensions::build_addition-returns-clause-some
+extensions::build_addition-returns-clause-some g t c some s =
     let r = g.R.ReadLeaves.rules in
     let bit : 1 ≡ c.args.presence.now.bitmap / 2 ^ c.next.new.self.left % 2 = ap bit_of (sym c.if-not-next.false) ∙ c.next.ensures.bit.1 in
     present_addition r (g.B.Build.listed s c.args.room.now c.args.entries.now) (g.B.Build.listed s c.present.new.room c.present.new.entries) c.args.nodes.now c.args.part.now c.args.presence.now.bitmap c.args.presence.now.left c.next.new.self.left (r.to_units c.args.units.now) (r.to_units c.build_open.new.units) c.next.ensures.bit.0 (g.B.Build.built c.args.room.now c.build_open.new.room c.in_ok-value.value) (λ es d l q. c.present.ensures some s c.args.room.now es d l q) bit (λ s good p. (let b = c.in_ok-value.ensures.some s good p in (b.value, b.of_value, b.read)))

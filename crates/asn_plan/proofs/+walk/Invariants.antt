@@ -13,11 +13,11 @@ use Rattle.asn_plan.proofs.+walk.Given as goal
 abbrev pub decreases-walk::build_at : goal.decreases-walk::build_at
 decreases-walk::build_at g l = 10 * length l.nodes.now + 1
 
-abbrev pub decreases-components::build_value : goal.decreases-components::build_value
-decreases-components::build_value g l = 10 * length l.nodes.now + 2
+abbrev pub decreases-component::build_value : goal.decreases-component::build_value
+decreases-component::build_value g l = 10 * length l.nodes.now + 2
 
-abbrev pub decreases-components::build_component : goal.decreases-components::build_component
-decreases-components::build_component g l = 10 * length l.nodes.now + 3
+abbrev pub decreases-component::build_component : goal.decreases-component::build_component
+decreases-component::build_component g l = 10 * length l.nodes.now + 3
 
 abbrev pub decreases-components::build_components : goal.decreases-components::build_components
 decreases-components::build_components g l = 10 * length l.nodes.now + 4
@@ -75,28 +75,28 @@ decreases-open::build_copied g l = 10 * length l.nodes.now + 3
 abbrev pub decreases-open::build_open : goal.decreases-open::build_open
 decreases-open::build_open g l = 10 * length l.nodes.now + 4
 
-abbrev pub decreases-components::build_addition : goal.decreases-components::build_addition
-decreases-components::build_addition g l = 10 * length l.nodes.now + 5
+abbrev pub decreases-extensions::build_addition : goal.decreases-extensions::build_addition
+decreases-extensions::build_addition g l = 10 * length l.nodes.now + 5
 
-abbrev pub decreases-components::build_open_fields : goal.decreases-components::build_open_fields
-decreases-components::build_open_fields g l = 10 * length l.nodes.now + 6
+abbrev pub decreases-extensions::build_open_fields : goal.decreases-extensions::build_open_fields
+decreases-extensions::build_open_fields g l = 10 * length l.nodes.now + 6
 
-abbrev pub decreases-components::build_additions : goal.decreases-components::build_additions
-decreases-components::build_additions g l = 10 * length l.nodes.now + 7
+abbrev pub decreases-extensions::build_additions : goal.decreases-extensions::build_additions
+decreases-extensions::build_additions g l = 10 * length l.nodes.now + 7
 
-abbrev pub invariant-components::build_open_fields-loop-part : goal.invariant-components::build_open_fields-loop-part
-invariant-components::build_open_fields-loop-part g l =
+abbrev pub invariant-extensions::build_open_fields-loop-part : goal.invariant-extensions::build_open_fields-loop-part
+invariant-extensions::build_open_fields-loop-part g l =
     ((s : _) → AddedUpTo g.R.ReadLeaves.rules (g.B.Build.listed s l.fn.room l.fn.entries) (g.B.Build.listed s l.room l.entries) l.nodes l.parts (drop l.part-index l.parts) l.fn.presence.left l.fn.presence.bitmap l.presence.left (g.R.ReadLeaves.rules.to_units l.fn.units) (g.R.ReadLeaves.rules.to_units l.units))
     × (l.presence.bitmap ≡ l.fn.presence.bitmap) × g.R.ReadLeaves.rules.at_unit l.units × (l.presence.left ≤ 64)
 
 abbrev pub decreases-choices::build_chosen : goal.decreases-choices::build_chosen
-decreases-choices::build_chosen g l = 8 * length l.nodes.now - 1
+decreases-choices::build_chosen g l = 10 * length l.nodes.now - 1
 
 abbrev pub decreases-lists::build_row : goal.decreases-lists::build_row
-decreases-lists::build_row g l = 8 * length l.nodes.now + 3
+decreases-lists::build_row g l = 10 * length l.nodes.now + 3
 
 abbrev pub decreases-lists::build_counted : goal.decreases-lists::build_counted
-decreases-lists::build_counted g l = 8 * length l.nodes.now + 4
+decreases-lists::build_counted g l = 10 * length l.nodes.now + 4
 
 abbrev pub decreases-lists::build_rows : goal.decreases-lists::build_rows
-decreases-lists::build_rows g l = 8 * length l.nodes.now + 5
+decreases-lists::build_rows g l = 10 * length l.nodes.now + 5

@@ -1,6 +1,6 @@
 use Rattle.std.proofs.Common.{refl}
 use Rattle.asn_plan.proofs.Building.{absent_further}
-use Rattle.asn_plan.proofs.components.add_absents.Goals as goal
+use Rattle.asn_plan.proofs.extensions.add_absents.Goals as goal
 
 pub loop-preserved : goal.loop-preserved
 loop-preserved g c s es l =

@@ -3,9 +3,7 @@ ghost use Rattle.std.specs.Prelude.{◌≡◌, IfSome, IsSome};
 ghost use Rattle.asn_values.specs.Profile.{InProfile};
 ghost use Rattle.asn_values.specs.Shape.{Shape};
 ghost use Rattle.asn_rules.specs.Languages.{Row};
-ghost use Rattle.asn_values.specs.View.{size_range_of};
 ghost use Rattle.asn_walk.specs.Ahead.{Remaining};
-ghost use Rattle.asn_walk.specs.Coding.{ListingOf};
 ghost use Rattle.asn_walk.specs.Reading.{ValuesOf};
 ghost use Rattle.asn_plan.specs.declared.plan.Kind.TheVariants as kind;
 ghost use Rattle.asn_plan.specs.Plans.{IsPlan, Builds, BuildsList, BuildsRow};
@@ -37,82 +35,43 @@ pub(crate) fn build_list<R: PlanLeaves, B: Build>(
     if list.element >= nodes.len() {
         return None;
     }
-    let before = &nodes[..list.element];
-    let element = &nodes[list.element];
-    let row = build_rows::<R, B>(alloc, before, &element.kind, list, units, room)?;
-    let part = B::list(room, row)?;
-    Some(part)
+    let Some(count) = R::try_count(&list.counts, units) else {
+        return build_counted::<R, B>(alloc, nodes, list, units, room);
+    };
+    let (before, element) = (&nodes[..list.element], &nodes[list.element]);
+    let mut row = B::elements(alloc, room)?;
+    let count = count as usize;
+    build_elements::<R, B>(alloc, before, &element.kind, count, &mut row, units, room)?;
+    B::list(room, row)
 }
 
-/// What is built of the elements of a list, with whose count the units begin, and which are taken.
-#[inline(always)]
-#[cycle(walk)]
-fn build_rows<R: PlanLeaves, B: Build>(
-    alloc: Global,
-    nodes: &[Node],
-    kind: &Kind,
-    list: &ElementRow,
-    units: &mut BitCursor<'_>,
-    room: &mut B::Room,
-) -> Option<B::Elements>
-    requires at_unit { R.rules.at_unit units.old }
-    ensures at_unit { IsSome result → R.rules.at_unit units.new }
-    ensures some { IfSome result (λ p. (t : Shape) → InProfile t → IsPlan nodes.now t kind.now
-        → BuildsList R.rules (B.rowed room.old room.new) (ListingOf R.rules (size_range_of list.now.size)
-        (ValuesOf R.rules t)) p units.old units.new) }
-{
-    R::keep_laws();
-    if let Some(count) = R::try_count(&list.counts, units) {
-        return build_row::<R, B>(alloc, nodes, kind, count as usize, units, room);
-    }
-    build_counted::<R, B>(alloc, nodes, kind, list, units, room)
-}
-
-/// What is built of `count` elements, with which the units begin, and which are taken.
-#[inline(always)]
-#[cycle(walk)]
-fn build_row<R: PlanLeaves, B: Build>(
-    alloc: Global,
-    nodes: &[Node],
-    kind: &Kind,
-    count: usize,
-    units: &mut BitCursor<'_>,
-    room: &mut B::Room,
-) -> Option<B::Elements>
-    requires at_unit { R.rules.at_unit units.old }
-    ensures at_unit { IsSome result → R.rules.at_unit units.new }
-    ensures some { IfSome result (λ p. (t : Shape) → InProfile t → IsPlan nodes.now t kind.now
-        → BuildsList R.rules (B.rowed room.old room.new) (Row (ValuesOf R.rules t) count) p units.old units.new) }
-{
-    let mut elements = B::elements(alloc, room)?;
-    build_elements::<R, B>(alloc, nodes, kind, count, &mut elements, units, room)?;
-    Some(elements)
-}
-
-/// What is built of the elements of a list, with whose count the units begin, and which are taken, where the count is read
-/// on its own.
+/// The same, where the count is read on its own.
 #[inline(never)]
 #[cycle(walk)]
 fn build_counted<R: PlanLeaves, B: Build>(
     alloc: Global,
     nodes: &[Node],
-    kind: &Kind,
     list: &ElementRow,
     units: &mut BitCursor<'_>,
     room: &mut B::Room,
-) -> Option<B::Elements>
+) -> Option<B::Part>
     requires at_unit { R.rules.at_unit units.old }
     ensures at_unit { IsSome result → R.rules.at_unit units.new }
-    ensures some { IfSome result (λ p. (t : Shape) → InProfile t → IsPlan nodes.now t kind.now
-        → BuildsList R.rules (B.rowed room.old room.new) (ListingOf R.rules (size_range_of list.now.size)
-        (ValuesOf R.rules t)) p units.old units.new) }
+    ensures some { IfSome result (λ p. (t : Shape) → InProfile t → IsPlan nodes.now t (kind.List list.now)
+        → Builds R.rules (B.built room.old room.new) t p units.old units.new) }
 {
     R::keep_laws();
+    if list.element >= nodes.len() {
+        return None;
+    }
+    let before = &nodes[..list.element];
+    let element = &nodes[list.element];
     let Ok(fragments) = R::start_list(&list.size, units) else {
         return None;
     };
-    let row = build_fragments::<R, B>(alloc, nodes, kind, fragments, units, room)?;
-    Some(row)
+    let row = build_fragments::<R, B>(alloc, before, &element.kind, fragments, units, room)?;
+    let part = B::list(room, row)?;
+    Some(part)
 }
 
 /// What is built of the elements of the fragments that are ahead, with which the units begin, and which are taken.

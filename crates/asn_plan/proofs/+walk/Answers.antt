@@ -232,40 +232,33 @@ lists::build_fragments-returns-in_default-next-clause-some g t c s good p =
     let h = c.loop-i.invariant.0 s good p in
     record { value = h.value; of_value = h.of_value; read = listed_ends next h }
 
-pub lists::build_row-returns-clause-some : goal.lists::build_row-returns-clause-some
-lists::build_row-returns-clause-some g t c s good p =
-    let h = c.in_ok-build_elements.ensures.some refl c.args.room.now s good p in
-    let r = h.row [] c.in_ok-elements.ensures in
-    record { value = r.0; of_value = r.1; read = r.2 }
-
-pub lists::build_rows-returns-in-Some-clause-some : goal.lists::build_rows-returns-in-Some-clause-some
-lists::build_rows-returns-in-Some-clause-some g t c = if_some c.build_row.result _ _ (λ p built s good plan. (
-    let r = g.R.ReadLeaves.rules in
-    let l = c.args.list.now in
-    let es = built s good plan in
-    let count = c.in-Some.ensures.some (size_range_of l.size) l.are_counts in
-    record { value = es.value; of_value = es.of_value; read = counted_read r c.keep_laws.ensures s good (size_range_of l.size) l.of_profile c.in-Some.count (r.to_units c.args.units.now) (r.to_units c.try_count.new.units) (r.to_units c.build_row.new.units) count es.value es.read })) c.build_row.ensures.some
-
-pub lists::build_rows-returns-clause-some : goal.lists::build_rows-returns-clause-some
-lists::build_rows-returns-clause-some g t c = if_some c.build_counted.result _ _ (λ p built s good plan. (
-    let still : c.try_count.new.units ≡ c.args.units.now = c.in_default.ensures.none refl in
-    rw still at (built s good plan))) c.build_counted.ensures.some
-
 pub lists::build_counted-returns-clause-some : goal.lists::build_counted-returns-clause-some
 lists::build_counted-returns-clause-some g t c s good p =
-    let r = g.R.ReadLeaves.rules in
-    let l = c.args.list.now in
-    let es = c.in_ok-row.ensures.some s good p in
-    record { value = es.value; of_value = es.of_value; read = started_read r c.keep_laws.ensures s (size_range_of l.size) l.of_profile (g.R.ReadLeaves.ahead c.in-Ok.fragments) (r.to_units c.args.units.now) (r.to_units c.start_list.new.units) (r.to_units c.build_fragments.new.units) c.in-Ok.ensures.done es.value es.read }
-
-pub lists::build_list-returns-clause-some : goal.lists::build_list-returns-clause-some
-lists::build_list-returns-clause-some g t c s good p =
     let r = g.R.ReadLeaves.rules in
     let l = c.args.list.now in
     let q = list_is c.args.nodes.now s l c.index-nodes-list.result (omega (arith, c.if-list-nodes.false)) c.index-nodes-list.is p in
     let inside : InProfile (sequence_of q.element (size_range_of l.size)) = rw q.is at good in
     let es = c.in_ok-row.ensures.some q.element (element_of_profile q.element (size_range_of l.size) inside) q.plan in
-    rw q.is (record { value = _; of_value = c.in_ok-part.ensures c.args.room.now es.value es.of_value; read = list_read r c.keep_laws.ensures q.element (size_range_of l.size) inside (r.to_units c.args.units.now) (r.to_units c.build_rows.new.units) es.value es.read })
+    let all = started_read r c.keep_laws.ensures q.element (size_range_of l.size) l.of_profile (g.R.ReadLeaves.ahead c.in-Ok.fragments) (r.to_units c.args.units.now) (r.to_units c.start_list.new.units) (r.to_units c.build_fragments.new.units) c.in-Ok.ensures.done es.value es.read in
+    rw q.is (record { value = _; of_value = c.in_ok-part.ensures c.args.room.now es.value es.of_value; read = list_read r c.keep_laws.ensures q.element (size_range_of l.size) inside (r.to_units c.args.units.now) (r.to_units c.build_fragments.new.units) es.value all })
+
+pub lists::build_list-returns-in_default-clause-some : goal.lists::build_list-returns-in_default-clause-some
+lists::build_list-returns-in_default-clause-some g t c = if_some c.build_counted.result _ _ (λ p built s good plan. (
+    let still : c.try_count.new.units ≡ c.args.units.now = c.in_default.ensures.none refl in
+    rw still at (built s good plan))) c.build_counted.ensures.some
+
+pub lists::build_list-returns-clause-some : goal.lists::build_list-returns-clause-some
+lists::build_list-returns-clause-some g t c = if_some c.list.result _ _ (λ part built s good p. (
+    let r = g.R.ReadLeaves.rules in
+    let l = c.args.list.now in
+    let size = size_range_of l.size in
+    let q = list_is c.args.nodes.now s l c.index-nodes-list.result (omega (arith, c.if-list-nodes.false)) c.index-nodes-list.is p in
+    let inside : InProfile (sequence_of q.element size) = rw q.is at good in
+    let element = element_of_profile q.element size inside in
+    let h = c.in_ok-build_elements.ensures.some refl c.args.room.now q.element element q.plan in
+    let es = h.row [] c.in_ok-row.ensures in
+    let all = counted_read r c.keep_laws.ensures q.element element size l.of_profile c.in-Some.count (r.to_units c.args.units.now) (r.to_units c.try_count.new.units) (r.to_units c.build_elements.new.units) (c.in-Some.ensures.some size l.are_counts) es.0 es.2 in
+    rw q.is (record { value = _; of_value = built c.args.room.now es.0 es.1; read = list_read r c.keep_laws.ensures q.element size inside (r.to_units c.args.units.now) (r.to_units c.build_elements.new.units) es.0 all }))) c.list.ensures
 
 -- ---- CHOICE
 

@@ -92,11 +92,5 @@ invariant-extensions::build_open_fields-loop-part g l =
 abbrev pub decreases-choices::build_chosen : goal.decreases-choices::build_chosen
 decreases-choices::build_chosen g l = 10 * length l.nodes.now - 1
 
-abbrev pub decreases-lists::build_row : goal.decreases-lists::build_row
-decreases-lists::build_row g l = 10 * length l.nodes.now + 3
-
 abbrev pub decreases-lists::build_counted : goal.decreases-lists::build_counted
-decreases-lists::build_counted g l = 10 * length l.nodes.now + 4
-
-abbrev pub decreases-lists::build_rows : goal.decreases-lists::build_rows
-decreases-lists::build_rows g l = 10 * length l.nodes.now + 5
+decreases-lists::build_counted g l = 10 * length l.nodes.now - 1

@@ -132,6 +132,7 @@ below_all (suc n) x h less = by_test (x == n) refl (λ under. below_all n x both
   where
     both : (same (spread n) (bits 8 n) ≡ true) × (all_below n ≡ true)
     both = both_true (same (spread n) (bits 8 n)) (all_below n) h
+
     by_test : (b : Bool) → (x == n) ≡ b → (x < n → spread x ≡ bits 8 x) → spread x ≡ bits 8 x
     by_test true e before = subst (λ k. spread k ≡ bits 8 k) (sym (same_number x n e)) (same_is (spread n) (bits 8 n) both.0)
     by_test false e before = before (other_number x n e less)

@@ -23,8 +23,8 @@ pub struct Flat;
 pub struct Entries {
     /// Where its slot is.
     pub(crate) at: usize,
-    /// How many entries there are, modulo 2^64: each present one has a slot, before which fewer than 2^32 are absent, and a
-    /// value has no more than 2^32 slots.
+    /// How many entries there are, modulo 2^64: each present one has a slot, before which fewer than 2^32 are absent, and
+    /// a value has no more than 2^32 slots.
     pub(crate) count: u64,
 }
 

@@ -114,8 +114,8 @@ impl Room {
         ensures octets { self.new.octets ≡ self.old.octets }
         ensures absent { IsSome result → self.new.absent ≡ 0 }
         ensures at { IfSome result (λ at. at ≡ length self.old.slots.items) }
-        ensures slots { IsSome result → self.new.slots.items
-            ≡ self.old.slots.items ++ record { content = content.Number (pos 0); absent_before = self.old.absent; inside = 0 } ∷ [] }
+        ensures slots { IsSome result → self.new.slots.items ≡ self.old.slots.items
+            ++ record { content = content.Number (pos 0); absent_before = self.old.absent; inside = 0 } ∷ [] }
     {
         let at = self.slots.len();
         self.push(Content::Number(0))?;
@@ -275,8 +275,8 @@ fn push_eight(to: &mut Vec<u8>, eight: &[u8; 8]) -> Option<()>
     to.extend_from_slice(eight).ok()
 }
 
-/// The bits of an octet, an octet for each: of the eight products, each nine bits above the one before, none reaches into
-/// another, and bit 7 of each octet of the sum is one of them.
+/// The bits of an octet, an octet for each. Each power of 2^9 puts them higher by nine, so that none of the sums reaches
+/// into another, and bit 7 of each octet of the sum is one of them.
 #[inline(always)]
 fn spread(octet: u8) -> [u8; 8]
     ensures { result ≡ bits 8 octet }

@@ -1,12 +1,9 @@
 //! Where values are put over those of a value before.
-ghost use Rattle.std.specs.Prelude.{◌≡◌, ◌≤◌, ◌++◌, ◌∷◌, [], Bool, List, length, map, Some, None, IsSome, true};
-ghost use Rattle.asn_bits.specs.Numbers.{bits, octets};
-ghost use Rattle.asn_bits.specs.Sink.{bit_of};
-ghost use Rattle.asn_values.specs.Datum.{Datum, truth, number, item, bit_list, octet_list, components, components_of};
+ghost use Rattle.std.specs.Prelude.{◌≡◌, ◌++◌, ◌∷◌, [], Some, None, IsSome, true};
+ghost use Rattle.asn_values.specs.Datum.{Datum, truth, number, item, components, components_of};
 ghost use Rattle.asn_values.specs.View.{datum_of, entries_seen};
 ghost use Rattle.asn_plan.specs.Placed.{IsAbsent, IsPut, IsThere, taken};
 
-use asn_bits::internal::low_octet;
 use asn_values::Value;
 use std::alloc::Global;
 use std::mem;
@@ -84,58 +81,6 @@ impl Place {
         ensures { IsSome result → IsPut self.old self.new (item position) }
     {
         self.put(Value::Enum(position))
-    }
-
-    /// Puts a BIT STRING of the last `count` bits of a number here.
-    #[inline(never)]
-    pub(crate) fn put_low_bits(&mut self, count: u32, number: u64) -> Option<()>
-        ensures { IsSome result → (bs : List Bool) → map bit_of bs ≡ bits count number
-            → IsPut self.old self.new (bit_list bs) }
-    {
-        if self.at < self.items.len() {
-            if let Some(place) = &mut self.items[self.at]
-                && set_low_bits(count, number, place)
-            {
-                return Some(());
-            }
-        }
-        self.put_new_bits(count, number)
-    }
-
-    /// Puts a BIT STRING of the last `count` bits of a number here, where none of this length is.
-    fn put_new_bits(&mut self, count: u32, number: u64) -> Option<()>
-        ensures { IsSome result → (bs : List Bool) → map bit_of bs ≡ bits count number
-            → IsPut self.old self.new (bit_list bs) }
-    {
-        let mut made = Vec::new(*self.items.allocator());
-        made.resize(count as usize, false).ok()?;
-        fill_bits(&mut made, number)?;
-        self.put_back(Value::Bits(made))
-    }
-
-    /// Puts an OCTET STRING of the last `count` octets of a number here.
-    #[inline(never)]
-    pub(crate) fn put_low_octets(&mut self, count: u32, number: u64) -> Option<()>
-        ensures { IsSome result → IsPut self.old self.new (octet_list (octets count number)) }
-    {
-        if self.at < self.items.len() {
-            if let Some(place) = &mut self.items[self.at]
-                && set_low_octets(count, number, place)
-            {
-                return Some(());
-            }
-        }
-        self.put_new_octets(count, number)
-    }
-
-    /// Puts an OCTET STRING of the last `count` octets of a number here, where none of this length is.
-    fn put_new_octets(&mut self, count: u32, number: u64) -> Option<()>
-        ensures { IsSome result → IsPut self.old self.new (octet_list (octets count number)) }
-    {
-        let mut made = Vec::new(*self.items.allocator());
-        made.resize(count as usize, 0).ok()?;
-        fill_octets(&mut made, number)?;
-        self.put_back(Value::Octets(made))
     }
 
     /// Puts a value here.
@@ -287,62 +232,6 @@ impl Place {
         self.at = self.items.len();
         Some(())
     }
-}
-
-/// Whether the value is a BIT STRING of this many bits, which then become the last ones of a number.
-#[inline(always)]
-fn set_low_bits(count: u32, number: u64, place: &mut Value) -> bool
-    ensures { result ≡ true → (bs : List Bool) → map bit_of bs ≡ bits count number → datum_of place.new ≡ bit_list bs }
-{
-    if let Value::Bits(there) = place
-        && there.len() == count as usize
-    {
-        return fill_bits(there, number).is_some();
-    }
-    false
-}
-
-/// Whether the value is an OCTET STRING of this many octets, which then become the last ones of a number.
-#[inline(always)]
-fn set_low_octets(count: u32, number: u64, place: &mut Value) -> bool
-    ensures { result ≡ true → datum_of place.new ≡ octet_list (octets count number) }
-{
-    if let Value::Octets(there) = place
-        && there.len() == count as usize
-    {
-        return fill_octets(there, number).is_some();
-    }
-    false
-}
-
-/// Each bit becomes that of a number at its place from the last one, if there are no more than 64.
-#[inline(always)]
-fn fill_bits(into: &mut [bool], number: u64) -> Option<()>
-    ensures { IsSome result → (bs : List Bool) → map bit_of bs ≡ bits (length into.old) number → into.new ≡ bs }
-{
-    let count = into.len();
-    if count > 64 {
-        return None;
-    }
-    for i in 0..count {
-        into[i] = number >> (count - 1 - i) & 1 == 1;
-    }
-    Some(())
-}
-
-/// Each octet becomes that of a number at its place from the last one, if there are no more than 8.
-#[inline(always)]
-fn fill_octets(into: &mut [u8], number: u64) -> Option<()>
-    ensures { IsSome result → into.new ≡ octets (length into.old) number }
-{
-    let count = into.len();
-    if count > 8 {
-        return None;
-    }
-    for i in 0..count {
-        into[i] = low_octet(number >> (8 * (count - 1 - i)));
-    }
-    Some(())
 }
 
 /// Puts a value in the place of another.

@@ -1,8 +1,8 @@
 //! A builder that puts values into the memory of one that is there.
-ghost use Rattle.std.specs.Prelude.{◌≡◌, ◌≤◌, ◌<◌, ◌++◌, ◌∷◌, [], List, Option, Some, None, IsSome, take, vec_len, vec_capacity};
+ghost use Rattle.std.specs.Prelude.{◌≡◌, ◌<◌, ◌++◌, ◌∷◌, [], List, Option, Some, None, IsSome, take, vec_len, vec_capacity};
 ghost use Rattle.asn_values.specs.Datum.{Datum, components, components_of};
 ghost use Rattle.asn_values.specs.View.{datum_of};
-ghost use Rattle.asn_plan.specs.Placed.{taken, made, IsThere, IsPutIn, AreEntries, AreElements, IsBegun};
+ghost use Rattle.asn_plan.specs.Placed.{taken, IsPutIn, AreEntries, AreElements, IsBegun};
 
 use crate::build::Build;
 use crate::fixed::FixedString;
@@ -21,7 +21,7 @@ pub struct Reused;
 pub struct Spare {
     pub(crate) here: Place,
     pub(crate) around: Vec<Place>,
-    kept: Vec<Value>,
+    pub(crate) kept: Vec<Value>,
 }
 
 /// The elements of a SEQUENCE OF, put over those of a value before.
@@ -36,84 +36,6 @@ pub struct ElementsOver {
 #[derive(Drop)]
 pub struct ChoiceOver {
     inner: Option<Box<Value>>,
-}
-
-impl ElementsOver {
-    /// Lays the element that stood at this place into the room, for its memory, and after the last one one that is kept.
-    #[inline(always)]
-    fn lay_next(&mut self, room: &mut Spare)
-        ensures same { taken room.new.here ≡ taken room.old.here }
-        ensures around { room.new.around ≡ room.old.around }
-        ensures made { made self.new ≡ made self.old }
-    {
-        if self.count < self.items.len() {
-            room.here.exchange(&mut self.items[self.count]);
-            return;
-        }
-        if !room.kept.is_empty() {
-            room.lay_kept();
-        }
-    }
-
-    /// Adds the element that is in the room, and lays the next one there.
-    #[inline(always)]
-    fn go_on(&mut self, room: &mut Spare) -> Option<()>
-        ensures same { IsSome result → taken room.new.here ≡ taken room.old.here }
-        ensures around { room.new.around ≡ room.old.around }
-        ensures made { IsSome result → (d : Datum) → IsThere room.old.here d → made self.new ≡ made self.old ++ d ∷ [] }
-    {
-        let at = self.count;
-        if at < self.items.len() && at + 1 < self.items.len() {
-            let here = &mut room.here;
-            if here.at < here.items.len() {
-                if let Some(place) = &mut here.items[here.at] {
-                    let next = mem::replace(&mut self.items[at + 1], Value::Null);
-                    let element = mem::replace(place, next);
-                    put_over(element, &mut self.items[at]);
-                    self.count = at + 1;
-                    return Some(());
-                }
-            }
-        }
-        self.add_last(room)
-    }
-
-    /// Adds the element that is in the room, where it is the last one of the value before or stands behind it.
-    #[inline(never)]
-    fn add_last(&mut self, room: &mut Spare) -> Option<()>
-        ensures same { IsSome result → taken room.new.here ≡ taken room.old.here }
-        ensures around { room.new.around ≡ room.old.around }
-        ensures made { IsSome result → (d : Datum) → IsThere room.old.here d → made self.new ≡ made self.old ++ d ∷ [] }
-    {
-        self.add(&mut room.here)?;
-        self.lay_next(room);
-        Some(())
-    }
-
-    /// Adds the element that is in the room.
-    fn add(&mut self, room: &mut Place) -> Option<()>
-        ensures same { IsSome result → taken room.new ≡ taken room.old }
-        ensures made { IsSome result → (d : Datum) → IsThere room.old d → made self.new ≡ made self.old ++ d ∷ [] }
-    {
-        let at = self.count;
-        if at < self.items.len() {
-            room.exchange(&mut self.items[at]);
-            self.count = at + 1;
-            return Some(());
-        }
-        self.push(room.take())?;
-        Some(())
-    }
-
-    /// Adds an element behind all others, which are new.
-    fn push(&mut self, element: Value) -> Option<()>
-        ensures { IsSome result → vec_len self.old.items ≤ self.old.count
-            → made self.new ≡ made self.old ++ datum_of element ∷ [] }
-    {
-        self.items.push(element).ok()?;
-        self.count = self.items.len();
-        Some(())
-    }
 }
 
 impl Spare {
@@ -216,7 +138,7 @@ impl Spare {
 
     /// Lays a SEQUENCE that is kept here, for its memory.
     #[inline(never)]
-    fn lay_kept(&mut self)
+    pub(crate) fn lay_kept(&mut self)
         ensures here { taken self.new.here ≡ taken self.old.here }
         ensures around { self.new.around ≡ self.old.around }
     {

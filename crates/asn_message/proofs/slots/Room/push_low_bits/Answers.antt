@@ -15,9 +15,12 @@ loop-i-preserved c =
     let inv = c.loop-i.invariant in
     let old = c.loop-i.self.octets.items in
     let less : c.loop-i.i < 8 = omega (arith, c.loop-i-test.true, c.requires.few) in
-    let first = c.args.number * 2 ^ (64 - c.args.count) % 2 ^ 64 in
-    (inv.0, inv.1, c.in_ok-push_eight.ensures refl ∙ ap (λ t. old ++ t) c.spread-eight.ensures
-    ∙ eight_added c.args.self.now.octets.items old c.loop-i.i first c.low_octet.result less inv.2 c.low_octet.ensures)
+    let first = c.args.number * 2 ^ (64 - c.args.count) % 2 ^ 64 in (
+      inv.0,
+      inv.1,
+      c.in_ok-push_eight.ensures refl ∙ ap (λ t. old ++ t) c.spread-eight.ensures
+          ∙ eight_added c.args.self.now.octets.items old c.loop-i.i first c.low_octet.result less inv.2 c.low_octet.ensures,
+    )
 
 added : (c : goal.After-truncate) → c.truncate.new.self.items ≡ c.args.self.now.octets.items ++ bits c.args.count c.args.number
 added c =

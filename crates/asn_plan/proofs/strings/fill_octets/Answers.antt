@@ -1,7 +1,7 @@
 use Rattle.std.proofs.Common.{◌≡◌, length, take, ◌∙◌, sym, arith}
 use Rattle.std.proofs.lemmas.List.{take_all}
 use Rattle.asn_plan.proofs.StringsPut.{octet_set, octets_whole}
-use Rattle.asn_plan.proofs.place.fill_octets.Goals as goal
+use Rattle.asn_plan.proofs.strings.fill_octets.Goals as goal
 
 pub loop-i-preserved : goal.loop-i-preserved
 loop-i-preserved c =

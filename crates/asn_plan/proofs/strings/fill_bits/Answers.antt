@@ -4,7 +4,7 @@ use Rattle.std.proofs.lemmas.Nat.{and_mask}
 use Rattle.asn_bits.specs.Numbers.{bits}
 use Rattle.asn_bits.specs.Sink.{bit_of}
 use Rattle.asn_plan.proofs.StringsPut.{bit_set, bits_whole, same_truths}
-use Rattle.asn_plan.proofs.place.fill_bits.Goals as goal
+use Rattle.asn_plan.proofs.strings.fill_bits.Goals as goal
 
 pub loop-i-preserved : goal.loop-i-preserved
 loop-i-preserved c =

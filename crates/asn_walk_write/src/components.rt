@@ -155,52 +155,12 @@ fn write_components<R: WriteLeaves, S: FieldLengths, V: Source>(
             R::write_number(bounds, *number, sink)?;
         } else if let AsnType::Seq { .. } = &field.ty {
             // a SEQUENCE has no DEFAULT
-            write_inner::<R, S, V>(&field.ty, value, level, sink)?;
+            write::<R, S, V>(&field.ty, value, level, sink)?;
         } else if is_encoded(field, Some(value)) {
             write::<R, S, V>(&field.ty, value, level, sink)?;
         }
     }
     Ok(())
-}
-
-/// Writes a value of a SEQUENCE that is a component, where it is one.
-#[inline(always)]
-#[cycle(writer)]
-fn write_inner<R: WriteLeaves, S: FieldLengths, V: Source>(
-    ty: &AsnType,
-    value: V,
-    level: usize,
-    sink: &mut S,
-) -> Result<(), Unwritten<S::Fault>>
-    requires of_profile { InProfile (shape_of ty.now) }
-    requires deep { level + depth (shape_of ty.now) ≤ 32 }
-    ensures of_type { TellsWhether result (Fits (shape_of ty.now) (V.datum value)) }
-    ensures written { OnOk result (WritesDatum (TakesAt S.stands S.wants_lengths level) R.rules
-        sink.old sink.new ty.now (V.datum value)) }
-{
-    if let AsnType::Seq { ext: None, .. } = ty {
-        return write::<R, S, V>(ty, value, level, sink);
-    }
-    write_apart::<R, S, V>(ty, value, level, sink)
-}
-
-/// Writes a value, where it is one of the type, in a function of its own: what takes many words at once, and is seldom,
-/// then takes no registers of its caller.
-#[inline(never)]
-#[cycle(writer)]
-fn write_apart<R: WriteLeaves, S: FieldLengths, V: Source>(
-    ty: &AsnType,
-    value: V,
-    level: usize,
-    sink: &mut S,
-) -> Result<(), Unwritten<S::Fault>>
-    requires of_profile { InProfile (shape_of ty.now) }
-    requires deep { level + depth (shape_of ty.now) ≤ 32 }
-    ensures of_type { TellsWhether result (Fits (shape_of ty.now) (V.datum value)) }
-    ensures written { OnOk result (WritesDatum (TakesAt S.stands S.wants_lengths level) R.rules
-        sink.old sink.new ty.now (V.datum value)) }
-{
-    write::<R, S, V>(ty, value, level, sink)
 }
 
 /// Writes extension additions, where each entry is one of its addition: nothing where none is present, and else a

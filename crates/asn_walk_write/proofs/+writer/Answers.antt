@@ -290,8 +290,8 @@ components::write_components-loop-field-preserved-in-loop-field g t c =
     (pushed_at g.S.Sink.stands g.S.Sink.wants_lengths c.args.level g.met.S.Sink.pushes_stand
     (subst (λ (x : Shape). g.S.Sink.pushes c.loop-field.sink c.write_number.new.sink (written g.R.WriteLeaves.rules (g.R.WriteLeaves.rules.code x (number n)))) (sym shape) (rw same at c.in_ok-write_number.ensures.written)))
 
-pub components::write_components-loop-field-preserved-in_ok-write_inner : goal.components::write_components-loop-field-preserved-in_ok-write_inner
-components::write_components-loop-field-preserved-in_ok-write_inner g t c =
+pub components::write_components-loop-field-preserved-in_ok-write : goal.components::write_components-loop-field-preserved-in_ok-write
+components::write_components-loop-field-preserved-in_ok-write g t c =
     let e : c.loop-field.field-iterator.a.rest.now ≡ c.in-Some.field.now ∷ c.next.new.self.a.rest.now = c.in-Some.ensures.steps.0 in
     let f = g.met.V.Source.each_gives c.loop-field.field-iterator.b (Some c.in-Some.entry) c.next.new.self.b c.in-Some.ensures.steps.1 in
     let d = g.V.Source.datum c.in-Some-entry.value in
@@ -301,18 +301,18 @@ components::write_components-loop-field-preserved-in_ok-write_inner g t c =
     let fs = c.in-Seq.root.items in
     let seen : (part_of_field c.in-Some.field.now).shape ≡ sequence (fields_of (map part_of_field fs)) (more_fields_of c.in-Seq.ext) = shape ∙ sequence_of_fields c.in-Some.field.now.ty c.in-Seq.root c.in-Seq.ext fs c.in-Seq.is refl in
     let spelt = spelt_sequence (part_of_field c.in-Some.field.now).demand (part_of_field c.in-Some.field.now).shape (fields_of (map part_of_field fs)) (more_fields_of c.in-Seq.ext) d seen h.components.of_profile.1 in
-    written_more c.keep_write_laws.ensures h spelt (subst (λ (x : Shape). Fits x d) (sym shape) c.in_ok-write_inner.ensures.of_type)
-    (subst (λ (x : Shape). Writes (TakesAt g.S.Sink.stands g.S.Sink.wants_lengths c.args.level) g.R.WriteLeaves.rules c.loop-field.sink c.write_inner.new.sink (g.R.WriteLeaves.rules.code x d)) (sym shape) c.in_ok-write_inner.ensures.written)
+    written_more c.keep_write_laws.ensures h spelt (subst (λ (x : Shape). Fits x d) (sym shape) c.in_ok-write.ensures.of_type)
+    (subst (λ (x : Shape). Writes (TakesAt g.S.Sink.stands g.S.Sink.wants_lengths c.args.level) g.R.WriteLeaves.rules c.loop-field.sink c.write.new.sink (g.R.WriteLeaves.rules.code x d)) (sym shape) c.in_ok-write.ensures.written)
 
-pub components::write_components-loop-field-preserved-in_ok-write : goal.components::write_components-loop-field-preserved-in_ok-write
-components::write_components-loop-field-preserved-in_ok-write g t c =
+pub components::write_components-loop-field-preserved-in_ok-write-2 : goal.components::write_components-loop-field-preserved-in_ok-write-2
+components::write_components-loop-field-preserved-in_ok-write-2 g t c =
     let e : c.loop-field.field-iterator.a.rest.now ≡ c.in-Some.field.now ∷ c.next.new.self.a.rest.now = c.in-Some.ensures.steps.0 in
     let f = g.met.V.Source.each_gives c.loop-field.field-iterator.b (Some c.in-Some.entry) c.next.new.self.b c.in-Some.ensures.steps.1 in
     let d = g.V.Source.datum c.in-Some-entry.value in
     let some : option_map g.V.Source.datum c.in-Some.entry ≡ Some d = ap (option_map g.V.Source.datum) c.in-Some-entry.is in
     let shape = shape_of_part c.in-Some.field.now in
-    written_more c.keep_write_laws.ensures (rw (e, f, some) at c.loop-field.invariant) (sym c.is_encoded.ensures ∙ c.if-is_encoded.true) (subst (λ (x : Shape). Fits x d) (sym shape) c.in_ok-write.ensures.of_type)
-    (subst (λ (x : Shape). Writes (TakesAt g.S.Sink.stands g.S.Sink.wants_lengths c.args.level) g.R.WriteLeaves.rules c.loop-field.sink c.write.new.sink (g.R.WriteLeaves.rules.code x d)) (sym shape) c.in_ok-write.ensures.written)
+    written_more c.keep_write_laws.ensures (rw (e, f, some) at c.loop-field.invariant) (sym c.is_encoded.ensures ∙ c.if-is_encoded.true) (subst (λ (x : Shape). Fits x d) (sym shape) c.in_ok-write-2.ensures.of_type)
+    (subst (λ (x : Shape). Writes (TakesAt g.S.Sink.stands g.S.Sink.wants_lengths c.args.level) g.R.WriteLeaves.rules c.loop-field.sink c.write-then-is_encoded.new.sink (g.R.WriteLeaves.rules.code x d)) (sym shape) c.in_ok-write-2.ensures.written)
 
 -- ---- its additions
 

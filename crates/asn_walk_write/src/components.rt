@@ -7,7 +7,7 @@ ghost use Rattle.asn_values.specs.Profile.{InProfile};
 ghost use Rattle.asn_values.specs.View.{shape_of, fields_seen};
 ghost use Rattle.asn_walk.specs.Composites.{each_code, open_code};
 ghost use Rattle.asn_walk.specs.Writing.{TellsWhether, Writes, TakesAt, AreOptional};
-ghost use Rattle.asn_walk_write.specs.Sources.{EachFits, WritesDatum, IsSequence, WritesRootOf, WritesAdditionsOf};
+ghost use Rattle.asn_walk_write.specs.Sources.{EachFits, WritesDatum, IsSequence, sequence_of, WritesRootOf, WritesAdditionsOf};
 
 use crate::encoded::{is_encoded, presence_bitmap};
 use crate::lengths::FieldLengths;
@@ -34,12 +34,31 @@ pub(crate) fn write_sequence<R: WriteLeaves, S: FieldLengths, V: Source>(
     ensures written { OnOk result (WritesDatum (TakesAt S.stands S.wants_lengths level) R.rules
         sink.old sink.new ty.now (V.datum value)) }
 {
+    let Some(entries) = value.entries() else {
+        return Err(Unwritten::NotOfType);
+    };
+    write_entries::<R, S, V>(ty, entries, level, sink)
+}
+
+/// The same of a value that has these entries.
+#[inline(always)]
+#[cycle(writer)]
+fn write_entries<R: WriteLeaves, S: FieldLengths, V: Source>(
+    ty: &AsnType,
+    entries: V::Entries,
+    level: usize,
+    sink: &mut S,
+) -> Result<(), Unwritten<S::Fault>>
+    requires sequence { IsSequence ty.now }
+    requires of_profile { InProfile (shape_of ty.now) }
+    requires deep { level + depth (shape_of ty.now) ≤ 32 }
+    ensures of_type { TellsWhether result (Fits (shape_of ty.now) (sequence_of (V.entries_left entries))) }
+    ensures written { OnOk result (WritesDatum (TakesAt S.stands S.wants_lengths level) R.rules
+        sink.old sink.new ty.now (sequence_of (V.entries_left entries))) }
+{
     R::keep_write_laws();
     let AsnType::Seq { root, ext } = ty else {
         unreachable!()
-    };
-    let Some(entries) = value.entries() else {
-        return Err(Unwritten::NotOfType);
     };
     let Some(additions) = ext else {
         return write_plain::<R, S, V>(root, entries, level, sink);
@@ -54,6 +73,55 @@ pub(crate) fn write_sequence<R: WriteLeaves, S: FieldLengths, V: Source>(
         return Err(Unwritten::NotOfType);
     }
     Ok(())
+}
+
+/// The same in a function of its own: what has extension additions takes many words at once, and these then take no
+/// registers of a caller that writes a SEQUENCE without an extension mark.
+#[inline(never)]
+#[cycle(writer)]
+fn write_entries_apart<R: WriteLeaves, S: FieldLengths, V: Source>(
+    ty: &AsnType,
+    entries: V::Entries,
+    level: usize,
+    sink: &mut S,
+) -> Result<(), Unwritten<S::Fault>>
+    requires sequence { IsSequence ty.now }
+    requires of_profile { InProfile (shape_of ty.now) }
+    requires deep { level + depth (shape_of ty.now) ≤ 32 }
+    ensures of_type { TellsWhether result (Fits (shape_of ty.now) (sequence_of (V.entries_left entries))) }
+    ensures written { OnOk result (WritesDatum (TakesAt S.stands S.wants_lengths level) R.rules
+        sink.old sink.new ty.now (sequence_of (V.entries_left entries))) }
+{
+    write_entries::<R, S, V>(ty, entries, level, sink)
+}
+
+/// Writes a component that is a SEQUENCE, where the value is one of the type; `apart` is so where it has an extension
+/// mark and the SEQUENCE around it has none.
+#[inline(always)]
+#[cycle(writer)]
+fn write_inner<R: WriteLeaves, S: FieldLengths, V: Source>(
+    ty: &AsnType,
+    apart: bool,
+    value: V,
+    level: usize,
+    sink: &mut S,
+) -> Result<(), Unwritten<S::Fault>>
+    requires of_profile { InProfile (shape_of ty.now) }
+    requires deep { level + depth (shape_of ty.now) ≤ 32 }
+    ensures of_type { TellsWhether result (Fits (shape_of ty.now) (V.datum value)) }
+    ensures written { OnOk result (WritesDatum (TakesAt S.stands S.wants_lengths level) R.rules
+        sink.old sink.new ty.now (V.datum value)) }
+{
+    if let AsnType::Seq { ext, .. } = ty
+        && apart
+        && ext.is_some()
+    {
+        let Some(entries) = value.entries() else {
+            return Err(Unwritten::NotOfType);
+        };
+        return write_entries_apart::<R, S, V>(ty, entries, level, sink);
+    }
+    write::<R, S, V>(ty, value, level, sink)
 }
 
 /// Writes the components of a SEQUENCE without an extension mark, where each entry is one of its component.
@@ -117,7 +185,7 @@ fn write_root<R: WriteLeaves, S: FieldLengths, V: Source>(
     }
     let (count, bitmap) = presence_bitmap::<V>(fields, entries);
     R::write_preamble(extended, count, bitmap, sink)?;
-    write_components::<R, S, V>(fields, entries, level, sink)
+    write_components::<R, S, V>(fields, extended.is_none(), entries, level, sink)
 }
 
 /// Writes the components that are encoded, in order, where each entry is one of its component.
@@ -126,6 +194,7 @@ fn write_root<R: WriteLeaves, S: FieldLengths, V: Source>(
 #[cycle(writer)]
 fn write_components<R: WriteLeaves, S: FieldLengths, V: Source>(
     fields: &[Field],
+    apart: bool,
     entries: V::Entries,
     level: usize,
     sink: &mut S,
@@ -155,7 +224,7 @@ fn write_components<R: WriteLeaves, S: FieldLengths, V: Source>(
             R::write_number(bounds, *number, sink)?;
         } else if let AsnType::Seq { .. } = &field.ty {
             // a SEQUENCE has no DEFAULT
-            write::<R, S, V>(&field.ty, value, level, sink)?;
+            write_inner::<R, S, V>(&field.ty, apart, value, level, sink)?;
         } else if is_encoded(field, Some(value)) {
             write::<R, S, V>(&field.ty, value, level, sink)?;
         }

@@ -6,7 +6,7 @@ use Rattle.std.proofs.lemmas.List.{length-map}
 use Rattle.std.proofs.lemmas.Result.{on_ok_weaker}
 use Rattle.asn_values.specs.declared.types.AsnType.{the_lemmas}
 use Rattle.asn_values.specs.Shape.{Shape, integer, MoreFields, sequence, marked, optional}
-use Rattle.asn_values.specs.Datum.{number}
+use Rattle.asn_values.specs.Datum.{number, components, components_of}
 use Rattle.asn_values.specs.Fits.{Fits, FitsLength, FitsNumber}
 use Rattle.asn_values.specs.View.{shape_of, datum_of, range_of, fields_of, part_of_field, demand_of, more_fields_of, size_range_of}
 use Rattle.asn_values.proofs.Views.{shape_of-Int, sequence_of_fields}
@@ -69,81 +69,93 @@ pub writer::write-write_sequence-requires : goal.writer::write-write_sequence-re
 writer::write-write_sequence-requires g t c κs within =
     (search (rules, the_lemmas), (within.0, (within.1.0, (within.1.1.0, (within.1.1.1.0, (within.1.1.1.1.0, (within.1.1.1.1.1.0, (within.1.1.1.1.1.1.0, (within.1.1.1.1.1.1.1.0, (within.1.1.1.1.1.1.1.1, (record { root = c.in-Seq.root; ext = c.in-Seq.ext; is = c.in-Seq.is }, (c.requires.of_profile, c.requires.deep))))))))))))
 
-pub components::write_sequence-unreachable-unreachable : goal.components::write_sequence-unreachable-unreachable
-components::write_sequence-unreachable-unreachable g t c = absurd (c.in_default.not-Seq c.requires.sequence.root c.requires.sequence.ext c.requires.sequence.is)
+pub components::write_sequence-write_entries-requires : goal.components::write_sequence-write_entries-requires
+components::write_sequence-write_entries-requires g t c κs within =
+    (search (rules, the_lemmas), (within.0, (within.1.0, (within.1.1.0, (within.1.1.1.0, (within.1.1.1.1.0, (within.1.1.1.1.1.0, (within.1.1.1.1.1.1.0, (within.1.1.1.1.1.1.1.0, (within.1.1.1.1.1.1.1.1, (c.requires.sequence, (c.requires.of_profile, c.requires.deep))))))))))))
 
-pub components::write_sequence-write_plain-requires : goal.components::write_sequence-write_plain-requires
-components::write_sequence-write_plain-requires g t c κs within =
+pub components::write_entries_apart-write_entries-requires : goal.components::write_entries_apart-write_entries-requires
+components::write_entries_apart-write_entries-requires g t c κs within =
+    (search (rules, the_lemmas), (within.0, (within.1.0, (within.1.1.0, (within.1.1.1.0, (within.1.1.1.1.0, (within.1.1.1.1.1.0, (within.1.1.1.1.1.1.0, (within.1.1.1.1.1.1.1.0, (within.1.1.1.1.1.1.1.1, (c.requires.sequence, (c.requires.of_profile, c.requires.deep))))))))))))
+
+pub components::write_inner-write_entries_apart-requires : goal.components::write_inner-write_entries_apart-requires
+components::write_inner-write_entries_apart-requires g t c κs within =
+    (search (rules, the_lemmas), (within.0, (within.1.0, (within.1.1.0, (within.1.1.1.0, (within.1.1.1.1.0, (within.1.1.1.1.1.0, (within.1.1.1.1.1.1.0, (within.1.1.1.1.1.1.1.0, (within.1.1.1.1.1.1.1.1, (record { root = c.in-Seq.root; ext = c.in-Seq.ext; is = c.in-Seq.is }, (c.requires.of_profile, c.requires.deep))))))))))))
+
+pub components::write_entries-unreachable-unreachable : goal.components::write_entries-unreachable-unreachable
+components::write_entries-unreachable-unreachable g t c = absurd (c.in_default.not-Seq c.requires.sequence.root c.requires.sequence.ext c.requires.sequence.is)
+
+pub components::write_entries-write_plain-requires : goal.components::write_entries-write_plain-requires
+components::write_entries-write_plain-requires g t c κs within =
     let fs = c.deref.result.now in
-    let vs = g.V.Source.entries_left c.in-Some.entries in
-    let s = of_sequence c.args.ty.now (g.V.Source.datum c.args.value) c.in-Seq.root c.in-Seq.ext fs vs c.in-Seq.is (rw c.in-Some.is at c.entries.ensures.some) c.deref.ensures.value in
+    let vs = g.V.Source.entries_left c.args.entries in
+    let s = of_sequence c.args.ty.now (components (components_of vs)) c.in-Seq.root c.in-Seq.ext fs vs c.in-Seq.is refl c.deref.ensures.value in
     (search (rules, the_lemmas), (within.0, (within.1.0, (within.1.1.0, (within.1.1.1.0, (within.1.1.1.1.0, (within.1.1.1.1.1.0, (within.1.1.1.1.1.1.0, (within.1.1.1.1.1.1.1.0, (within.1.1.1.1.1.1.1.1, (parts_of_profile s c.requires.of_profile, (few_components fs s.shape c.requires.of_profile, root_deep c.args.level s.shape c.requires.deep))))))))))))
 
-pub components::write_sequence-write_marked-requires : goal.components::write_sequence-write_marked-requires
-components::write_sequence-write_marked-requires g t c κs within =
+pub components::write_entries-write_marked-requires : goal.components::write_entries-write_marked-requires
+components::write_entries-write_marked-requires g t c κs within =
     let fs = c.deref-2.result.now in
-    let vs = g.V.Source.entries_left c.in-Some.entries in
-    let s = of_sequence c.args.ty.now (g.V.Source.datum c.args.value) c.in-Seq.root c.in-Seq.ext fs vs c.in-Seq.is (rw c.in-Some.is at c.entries.ensures.some) c.deref-2.ensures.value in
+    let vs = g.V.Source.entries_left c.args.entries in
+    let s = of_sequence c.args.ty.now (components (components_of vs)) c.in-Seq.root c.in-Seq.ext fs vs c.in-Seq.is refl c.deref-2.ensures.value in
     (search (rules, the_lemmas), (within.0, (within.1.0, (within.1.1.0, (within.1.1.1.0, (within.1.1.1.1.0, (within.1.1.1.1.1.0, (within.1.1.1.1.1.1.0, (within.1.1.1.1.1.1.1.0, (within.1.1.1.1.1.1.1.1, (parts_of_profile s c.requires.of_profile, (few_components fs s.shape c.requires.of_profile, root_deep c.args.level s.shape c.requires.deep))))))))))))
 
-pub components::write_sequence-write_additions-requires : goal.components::write_sequence-write_additions-requires
-components::write_sequence-write_additions-requires g t c κs within =
+pub components::write_entries-write_additions-requires : goal.components::write_entries-write_additions-requires
+components::write_entries-write_additions-requires g t c κs within =
     let fs = c.deref-2.result.now in
-    let vs = g.V.Source.entries_left c.in-Some.entries in
-    let s = of_sequence c.args.ty.now (g.V.Source.datum c.args.value) c.in-Seq.root c.in-Seq.ext fs vs c.in-Seq.is (rw c.in-Some.is at c.entries.ensures.some) c.deref-2.ensures.value in
+    let vs = g.V.Source.entries_left c.args.entries in
+    let s = of_sequence c.args.ty.now (components (components_of vs)) c.in-Seq.root c.in-Seq.ext fs vs c.in-Seq.is refl c.deref-2.ensures.value in
     let gs = c.deref-then-extended.result.now in
-    let more : more_fields_of c.in-Seq.ext ≡ marked (fields_of (map part_of_field gs)) = marked_fields c.in-Seq.ext c.in-Some-ext.additions gs c.in-Some-ext.is c.deref-then-extended.ensures.value in
+    let more : more_fields_of c.in-Seq.ext ≡ marked (fields_of (map part_of_field gs)) = marked_fields c.in-Seq.ext c.in-Some.additions gs c.in-Some.is c.deref-then-extended.ensures.value in
     let type : shape_of c.args.ty.now ≡ sequence (fields_of (map part_of_field fs)) (marked (fields_of (map part_of_field gs))) = s.shape ∙ ap (λ (m : MoreFields). sequence (fields_of (map part_of_field fs)) m) more in
     (search (rules, the_lemmas), (within.0, (within.1.0, (within.1.1.0, (within.1.1.1.0, (within.1.1.1.1.0, (within.1.1.1.1.1.0, (within.1.1.1.1.1.1.0, (within.1.1.1.1.1.1.1.0, (within.1.1.1.1.1.1.1.1, (added_of_profile gs type c.requires.of_profile, (added_optional gs type c.requires.of_profile, (few_added gs type c.requires.of_profile, additions_deep c.args.level type c.requires.deep)))))))))))))
 
-pub components::write_sequence-returns-in_default-ext-clause-of_type : goal.components::write_sequence-returns-in_default-ext-clause-of_type
-components::write_sequence-returns-in_default-ext-clause-of_type g t c =
+pub components::write_entries-returns-in_default-ext-clause-of_type : goal.components::write_entries-returns-in_default-ext-clause-of_type
+components::write_entries-returns-in_default-ext-clause-of_type g t c =
     let fs = c.deref.result.now in
-    let vs = g.V.Source.entries_left c.in-Some.entries in
-    let s = of_sequence c.args.ty.now (g.V.Source.datum c.args.value) c.in-Seq.root c.in-Seq.ext fs vs c.in-Seq.is (rw c.in-Some.is at c.entries.ensures.some) c.deref.ensures.value in
+    let vs = g.V.Source.entries_left c.args.entries in
+    let s = of_sequence c.args.ty.now (components (components_of vs)) c.in-Seq.root c.in-Seq.ext fs vs c.in-Seq.is refl c.deref.ensures.value in
     tells_by c.write_plain.result (unmarked_fits s (ap more_fields_of c.in_default-ext.is)) c.write_plain.ensures.of_type
 
-pub components::write_sequence-returns-in_default-ext-clause-written : goal.components::write_sequence-returns-in_default-ext-clause-written
-components::write_sequence-returns-in_default-ext-clause-written g t c =
+pub components::write_entries-returns-in_default-ext-clause-written : goal.components::write_entries-returns-in_default-ext-clause-written
+components::write_entries-returns-in_default-ext-clause-written g t c =
     let fs = c.deref.result.now in
-    let vs = g.V.Source.entries_left c.in-Some.entries in
-    let s = of_sequence c.args.ty.now (g.V.Source.datum c.args.value) c.in-Seq.root c.in-Seq.ext fs vs c.in-Seq.is (rw c.in-Some.is at c.entries.ensures.some) c.deref.ensures.value in
+    let vs = g.V.Source.entries_left c.args.entries in
+    let s = of_sequence c.args.ty.now (components (components_of vs)) c.in-Seq.root c.in-Seq.ext fs vs c.in-Seq.is refl c.deref.ensures.value in
     let none = ap more_fields_of c.in_default-ext.is in
     written_by c.write_plain.result c.write_plain.ensures.of_type
     (λ each e. unmarked_written (takes_laws g.S.Sink.stands g.S.Sink.wants_lengths c.args.level) c.keep_write_laws.ensures c.args.sink.now c.write_plain.new.sink fs (more_fields_of c.in-Seq.ext) vs s c.requires.of_profile ((unmarked_fits s none).0 each) none each e)
     c.write_plain.ensures.written
 
-pub components::write_sequence-returns-in_err-write_marked-clause-of_type : goal.components::write_sequence-returns-in_err-write_marked-clause-of_type
-components::write_sequence-returns-in_err-write_marked-clause-of_type g t c =
+pub components::write_entries-returns-in_err-write_marked-clause-of_type : goal.components::write_entries-returns-in_err-write_marked-clause-of_type
+components::write_entries-returns-in_err-write_marked-clause-of_type g t c =
     let fs = c.deref-2.result.now in
-    let vs = g.V.Source.entries_left c.in-Some.entries in
-    let s = of_sequence c.args.ty.now (g.V.Source.datum c.args.value) c.in-Seq.root c.in-Seq.ext fs vs c.in-Seq.is (rw c.in-Some.is at c.entries.ensures.some) c.deref-2.ensures.value in
-    let gs = c.in-Some-ext.additions.items in
-    let more : more_fields_of c.in-Seq.ext ≡ marked (fields_of (map part_of_field gs)) = marked_fields c.in-Seq.ext c.in-Some-ext.additions gs c.in-Some-ext.is refl in
+    let vs = g.V.Source.entries_left c.args.entries in
+    let s = of_sequence c.args.ty.now (components (components_of vs)) c.in-Seq.root c.in-Seq.ext fs vs c.in-Seq.is refl c.deref-2.ensures.value in
+    let gs = c.in-Some.additions.items in
+    let more : more_fields_of c.in-Seq.ext ≡ marked (fields_of (map part_of_field gs)) = marked_fields c.in-Seq.ext c.in-Some.additions gs c.in-Some.is refl in
     let front : g.V.Source.entries_left c.split_entries-root_entries.result.0 ≡ take (length fs) vs = c.split_entries-root_entries.ensures.first ∙ ap (λ (n : ℕ). take n vs) (omega (arith, c.len.ensures, c.deref-2.ensures.len)) in
     let back : g.V.Source.entries_left c.split_entries-root_entries.result.1 ≡ drop (length fs) vs = c.split_entries-root_entries.ensures.others ∙ ap (λ (n : ℕ). drop n vs) (omega (arith, c.len.ensures, c.deref-2.ensures.len)) in
     let both = fits_marked fs vs gs s more (g.V.Source.entries_left c.split_entries-root_entries.result.0) (g.V.Source.entries_left c.split_entries-root_entries.result.1) front back in
     tells_err c.from_residual.result c.in_err-write_marked.field-0.0 c.from_residual.ensures.1 (λ f. (both.1 f).0) c.in_err-write_marked.ensures.of_type
 
-pub components::write_sequence-returns-then-extended-clause-of_type : goal.components::write_sequence-returns-then-extended-clause-of_type
-components::write_sequence-returns-then-extended-clause-of_type g t c =
+pub components::write_entries-returns-then-extended-clause-of_type : goal.components::write_entries-returns-then-extended-clause-of_type
+components::write_entries-returns-then-extended-clause-of_type g t c =
     let fs = c.deref-2.result.now in
-    let vs = g.V.Source.entries_left c.in-Some.entries in
-    let s = of_sequence c.args.ty.now (g.V.Source.datum c.args.value) c.in-Seq.root c.in-Seq.ext fs vs c.in-Seq.is (rw c.in-Some.is at c.entries.ensures.some) c.deref-2.ensures.value in
+    let vs = g.V.Source.entries_left c.args.entries in
+    let s = of_sequence c.args.ty.now (components (components_of vs)) c.in-Seq.root c.in-Seq.ext fs vs c.in-Seq.is refl c.deref-2.ensures.value in
     let gs = c.deref-then-extended.result.now in
-    let more : more_fields_of c.in-Seq.ext ≡ marked (fields_of (map part_of_field gs)) = marked_fields c.in-Seq.ext c.in-Some-ext.additions gs c.in-Some-ext.is c.deref-then-extended.ensures.value in
+    let more : more_fields_of c.in-Seq.ext ≡ marked (fields_of (map part_of_field gs)) = marked_fields c.in-Seq.ext c.in-Some.additions gs c.in-Some.is c.deref-then-extended.ensures.value in
     let front : g.V.Source.entries_left c.split_entries-root_entries.result.0 ≡ take (length fs) vs = c.split_entries-root_entries.ensures.first ∙ ap (λ (n : ℕ). take n vs) (omega (arith, c.len.ensures, c.deref-2.ensures.len)) in
     let back : g.V.Source.entries_left c.split_entries-root_entries.result.1 ≡ drop (length fs) vs = c.split_entries-root_entries.ensures.others ∙ ap (λ (n : ℕ). drop n vs) (omega (arith, c.len.ensures, c.deref-2.ensures.len)) in
     let both = fits_marked fs vs gs s more (g.V.Source.entries_left c.split_entries-root_entries.result.0) (g.V.Source.entries_left c.split_entries-root_entries.result.1) front back in
     tells_by c.write_additions.result (λ f. both.0 (c.in_ok-write_marked.ensures.of_type, f), λ f. (both.1 f).1) c.write_additions.ensures.of_type
 
-pub components::write_sequence-returns-then-extended-clause-written : goal.components::write_sequence-returns-then-extended-clause-written
-components::write_sequence-returns-then-extended-clause-written g t c =
+pub components::write_entries-returns-then-extended-clause-written : goal.components::write_entries-returns-then-extended-clause-written
+components::write_entries-returns-then-extended-clause-written g t c =
     let fs = c.deref-2.result.now in
-    let vs = g.V.Source.entries_left c.in-Some.entries in
-    let s = of_sequence c.args.ty.now (g.V.Source.datum c.args.value) c.in-Seq.root c.in-Seq.ext fs vs c.in-Seq.is (rw c.in-Some.is at c.entries.ensures.some) c.deref-2.ensures.value in
+    let vs = g.V.Source.entries_left c.args.entries in
+    let s = of_sequence c.args.ty.now (components (components_of vs)) c.in-Seq.root c.in-Seq.ext fs vs c.in-Seq.is refl c.deref-2.ensures.value in
     let gs = c.deref-then-extended.result.now in
-    let more : more_fields_of c.in-Seq.ext ≡ marked (fields_of (map part_of_field gs)) = marked_fields c.in-Seq.ext c.in-Some-ext.additions gs c.in-Some-ext.is c.deref-then-extended.ensures.value in
+    let more : more_fields_of c.in-Seq.ext ≡ marked (fields_of (map part_of_field gs)) = marked_fields c.in-Seq.ext c.in-Some.additions gs c.in-Some.is c.deref-then-extended.ensures.value in
     let front : g.V.Source.entries_left c.split_entries-root_entries.result.0 ≡ take (length fs) vs = c.split_entries-root_entries.ensures.first ∙ ap (λ (n : ℕ). take n vs) (omega (arith, c.len.ensures, c.deref-2.ensures.len)) in
     let back : g.V.Source.entries_left c.split_entries-root_entries.result.1 ≡ drop (length fs) vs = c.split_entries-root_entries.ensures.others ∙ ap (λ (n : ℕ). drop n vs) (omega (arith, c.len.ensures, c.deref-2.ensures.len)) in
     let both = fits_marked fs vs gs s more (g.V.Source.entries_left c.split_entries-root_entries.result.0) (g.V.Source.entries_left c.split_entries-root_entries.result.1) front back in
@@ -152,45 +164,45 @@ components::write_sequence-returns-then-extended-clause-written g t c =
     c.is_any_present-extended.result s c.requires.of_profile (both.0 (c.in_ok-write_marked.ensures.of_type, each)) more front back c.is_any_present-extended.ensures c.in_ok-write_marked.ensures.written e)
     c.write_additions.ensures.written
 
-pub components::write_sequence-returns-then-len-count_entries-clause-of_type : goal.components::write_sequence-returns-then-len-count_entries-clause-of_type
-components::write_sequence-returns-then-len-count_entries-clause-of_type g t c =
+pub components::write_entries-returns-then-len-count_entries-clause-of_type : goal.components::write_entries-returns-then-len-count_entries-clause-of_type
+components::write_entries-returns-then-len-count_entries-clause-of_type g t c =
     let fs = c.deref-2.result.now in
-    let vs = g.V.Source.entries_left c.in-Some.entries in
-    let s = of_sequence c.args.ty.now (g.V.Source.datum c.args.value) c.in-Seq.root c.in-Seq.ext fs vs c.in-Seq.is (rw c.in-Some.is at c.entries.ensures.some) c.deref-2.ensures.value in
-    let gs = c.in-Some-ext.additions.items in
-    let more : more_fields_of c.in-Seq.ext ≡ marked (fields_of (map part_of_field gs)) = marked_fields c.in-Seq.ext c.in-Some-ext.additions gs c.in-Some-ext.is refl in
+    let vs = g.V.Source.entries_left c.args.entries in
+    let s = of_sequence c.args.ty.now (components (components_of vs)) c.in-Seq.root c.in-Seq.ext fs vs c.in-Seq.is refl c.deref-2.ensures.value in
+    let gs = c.in-Some.additions.items in
+    let more : more_fields_of c.in-Seq.ext ≡ marked (fields_of (map part_of_field gs)) = marked_fields c.in-Seq.ext c.in-Some.additions gs c.in-Some.is refl in
     let front : g.V.Source.entries_left c.split_entries-root_entries.result.0 ≡ take (length fs) vs = c.split_entries-root_entries.ensures.first ∙ ap (λ (n : ℕ). take n vs) (omega (arith, c.len.ensures, c.deref-2.ensures.len)) in
     let back : g.V.Source.entries_left c.split_entries-root_entries.result.1 ≡ drop (length fs) vs = c.split_entries-root_entries.ensures.others ∙ ap (λ (n : ℕ). drop n vs) (omega (arith, c.len.ensures, c.deref-2.ensures.len)) in
     let both = fits_marked fs vs gs s more (g.V.Source.entries_left c.split_entries-root_entries.result.0) (g.V.Source.entries_left c.split_entries-root_entries.result.1) front back in
-    λ f. other_number gs (g.V.Source.entries_left c.split_entries-root_entries.result.1) (λ e. c.if-len-count_entries.true (omega (arith, e, c.len-2.ensures, c.count_entries.ensures, c.in-Some-ext.additions.ok))) (both.1 f).1
+    λ f. other_number gs (g.V.Source.entries_left c.split_entries-root_entries.result.1) (λ e. c.if-len-count_entries.true (omega (arith, e, c.len-2.ensures, c.count_entries.ensures, c.in-Some.additions.ok))) (both.1 f).1
 
-pub components::write_sequence-returns-clause-of_type : goal.components::write_sequence-returns-clause-of_type
-components::write_sequence-returns-clause-of_type g t c =
+pub components::write_entries-returns-clause-of_type : goal.components::write_entries-returns-clause-of_type
+components::write_entries-returns-clause-of_type g t c =
     let fs = c.deref-2.result.now in
-    let vs = g.V.Source.entries_left c.in-Some.entries in
-    let s = of_sequence c.args.ty.now (g.V.Source.datum c.args.value) c.in-Seq.root c.in-Seq.ext fs vs c.in-Seq.is (rw c.in-Some.is at c.entries.ensures.some) c.deref-2.ensures.value in
-    let gs = c.in-Some-ext.additions.items in
-    let more : more_fields_of c.in-Seq.ext ≡ marked (fields_of (map part_of_field gs)) = marked_fields c.in-Seq.ext c.in-Some-ext.additions gs c.in-Some-ext.is refl in
+    let vs = g.V.Source.entries_left c.args.entries in
+    let s = of_sequence c.args.ty.now (components (components_of vs)) c.in-Seq.root c.in-Seq.ext fs vs c.in-Seq.is refl c.deref-2.ensures.value in
+    let gs = c.in-Some.additions.items in
+    let more : more_fields_of c.in-Seq.ext ≡ marked (fields_of (map part_of_field gs)) = marked_fields c.in-Seq.ext c.in-Some.additions gs c.in-Some.is refl in
     let front : g.V.Source.entries_left c.split_entries-root_entries.result.0 ≡ take (length fs) vs = c.split_entries-root_entries.ensures.first ∙ ap (λ (n : ℕ). take n vs) (omega (arith, c.len.ensures, c.deref-2.ensures.len)) in
     let back : g.V.Source.entries_left c.split_entries-root_entries.result.1 ≡ drop (length fs) vs = c.split_entries-root_entries.ensures.others ∙ ap (λ (n : ℕ). drop n vs) (omega (arith, c.len.ensures, c.deref-2.ensures.len)) in
     let both = fits_marked fs vs gs s more (g.V.Source.entries_left c.split_entries-root_entries.result.0) (g.V.Source.entries_left c.split_entries-root_entries.result.1) front back in
     let type : shape_of c.args.ty.now ≡ sequence (fields_of (map part_of_field fs)) (marked (fields_of (map part_of_field gs))) = s.shape ∙ ap (λ (m : MoreFields). sequence (fields_of (map part_of_field fs)) m) more in
     let none = sym c.is_any_present-extended.ensures ∙ c.if-extended.false in
-    both.0 (c.in_ok-write_marked.ensures.of_type, none_fit (map part_of_field gs) (g.V.Source.entries_left c.split_entries-root_entries.result.1) (added_optional gs type c.requires.of_profile) (omega (arith, length-map gs part_of_field, c.if-len-count_entries.false, c.len-2.ensures, c.count_entries.ensures, c.in-Some-ext.additions.ok)) none)
+    both.0 (c.in_ok-write_marked.ensures.of_type, none_fit (map part_of_field gs) (g.V.Source.entries_left c.split_entries-root_entries.result.1) (added_optional gs type c.requires.of_profile) (omega (arith, length-map gs part_of_field, c.if-len-count_entries.false, c.len-2.ensures, c.count_entries.ensures, c.in-Some.additions.ok)) none)
 
-pub components::write_sequence-returns-clause-written : goal.components::write_sequence-returns-clause-written
-components::write_sequence-returns-clause-written g t c =
+pub components::write_entries-returns-clause-written : goal.components::write_entries-returns-clause-written
+components::write_entries-returns-clause-written g t c =
     let fs = c.deref-2.result.now in
-    let vs = g.V.Source.entries_left c.in-Some.entries in
-    let s = of_sequence c.args.ty.now (g.V.Source.datum c.args.value) c.in-Seq.root c.in-Seq.ext fs vs c.in-Seq.is (rw c.in-Some.is at c.entries.ensures.some) c.deref-2.ensures.value in
-    let gs = c.in-Some-ext.additions.items in
-    let more : more_fields_of c.in-Seq.ext ≡ marked (fields_of (map part_of_field gs)) = marked_fields c.in-Seq.ext c.in-Some-ext.additions gs c.in-Some-ext.is refl in
+    let vs = g.V.Source.entries_left c.args.entries in
+    let s = of_sequence c.args.ty.now (components (components_of vs)) c.in-Seq.root c.in-Seq.ext fs vs c.in-Seq.is refl c.deref-2.ensures.value in
+    let gs = c.in-Some.additions.items in
+    let more : more_fields_of c.in-Seq.ext ≡ marked (fields_of (map part_of_field gs)) = marked_fields c.in-Seq.ext c.in-Some.additions gs c.in-Some.is refl in
     let front : g.V.Source.entries_left c.split_entries-root_entries.result.0 ≡ take (length fs) vs = c.split_entries-root_entries.ensures.first ∙ ap (λ (n : ℕ). take n vs) (omega (arith, c.len.ensures, c.deref-2.ensures.len)) in
     let back : g.V.Source.entries_left c.split_entries-root_entries.result.1 ≡ drop (length fs) vs = c.split_entries-root_entries.ensures.others ∙ ap (λ (n : ℕ). drop n vs) (omega (arith, c.len.ensures, c.deref-2.ensures.len)) in
     let both = fits_marked fs vs gs s more (g.V.Source.entries_left c.split_entries-root_entries.result.0) (g.V.Source.entries_left c.split_entries-root_entries.result.1) front back in
     let type : shape_of c.args.ty.now ≡ sequence (fields_of (map part_of_field fs)) (marked (fields_of (map part_of_field gs))) = s.shape ∙ ap (λ (m : MoreFields). sequence (fields_of (map part_of_field fs)) m) more in
     let none = sym c.is_any_present-extended.ensures ∙ c.if-extended.false in
-    let all = none_fit (map part_of_field gs) (g.V.Source.entries_left c.split_entries-root_entries.result.1) (added_optional gs type c.requires.of_profile) (omega (arith, length-map gs part_of_field, c.if-len-count_entries.false, c.len-2.ensures, c.count_entries.ensures, c.in-Some-ext.additions.ok)) none in
+    let all = none_fit (map part_of_field gs) (g.V.Source.entries_left c.split_entries-root_entries.result.1) (added_optional gs type c.requires.of_profile) (omega (arith, length-map gs part_of_field, c.if-len-count_entries.false, c.len-2.ensures, c.count_entries.ensures, c.in-Some.additions.ok)) none in
     let laws = takes_laws g.S.Sink.stands g.S.Sink.wants_lengths c.args.level in
     let new = c.write_marked.new.sink in
     sequence_written laws c.keep_write_laws.ensures c.args.sink.now new new fs gs c.in-Seq.ext vs (g.V.Source.entries_left c.split_entries-root_entries.result.0) (g.V.Source.entries_left c.split_entries-root_entries.result.1)
@@ -290,8 +302,8 @@ components::write_components-loop-field-preserved-in-loop-field g t c =
     (pushed_at g.S.Sink.stands g.S.Sink.wants_lengths c.args.level g.met.S.Sink.pushes_stand
     (subst (λ (x : Shape). g.S.Sink.pushes c.loop-field.sink c.write_number.new.sink (written g.R.WriteLeaves.rules (g.R.WriteLeaves.rules.code x (number n)))) (sym shape) (rw same at c.in_ok-write_number.ensures.written)))
 
-pub components::write_components-loop-field-preserved-in_ok-write : goal.components::write_components-loop-field-preserved-in_ok-write
-components::write_components-loop-field-preserved-in_ok-write g t c =
+pub components::write_components-loop-field-preserved-in_ok-write_inner : goal.components::write_components-loop-field-preserved-in_ok-write_inner
+components::write_components-loop-field-preserved-in_ok-write_inner g t c =
     let e : c.loop-field.field-iterator.a.rest.now ≡ c.in-Some.field.now ∷ c.next.new.self.a.rest.now = c.in-Some.ensures.steps.0 in
     let f = g.met.V.Source.each_gives c.loop-field.field-iterator.b (Some c.in-Some.entry) c.next.new.self.b c.in-Some.ensures.steps.1 in
     let d = g.V.Source.datum c.in-Some-entry.value in
@@ -301,18 +313,18 @@ components::write_components-loop-field-preserved-in_ok-write g t c =
     let fs = c.in-Seq.root.items in
     let seen : (part_of_field c.in-Some.field.now).shape ≡ sequence (fields_of (map part_of_field fs)) (more_fields_of c.in-Seq.ext) = shape ∙ sequence_of_fields c.in-Some.field.now.ty c.in-Seq.root c.in-Seq.ext fs c.in-Seq.is refl in
     let spelt = spelt_sequence (part_of_field c.in-Some.field.now).demand (part_of_field c.in-Some.field.now).shape (fields_of (map part_of_field fs)) (more_fields_of c.in-Seq.ext) d seen h.components.of_profile.1 in
-    written_more c.keep_write_laws.ensures h spelt (subst (λ (x : Shape). Fits x d) (sym shape) c.in_ok-write.ensures.of_type)
-    (subst (λ (x : Shape). Writes (TakesAt g.S.Sink.stands g.S.Sink.wants_lengths c.args.level) g.R.WriteLeaves.rules c.loop-field.sink c.write.new.sink (g.R.WriteLeaves.rules.code x d)) (sym shape) c.in_ok-write.ensures.written)
+    written_more c.keep_write_laws.ensures h spelt (subst (λ (x : Shape). Fits x d) (sym shape) c.in_ok-write_inner.ensures.of_type)
+    (subst (λ (x : Shape). Writes (TakesAt g.S.Sink.stands g.S.Sink.wants_lengths c.args.level) g.R.WriteLeaves.rules c.loop-field.sink c.write_inner.new.sink (g.R.WriteLeaves.rules.code x d)) (sym shape) c.in_ok-write_inner.ensures.written)
 
-pub components::write_components-loop-field-preserved-in_ok-write-2 : goal.components::write_components-loop-field-preserved-in_ok-write-2
-components::write_components-loop-field-preserved-in_ok-write-2 g t c =
+pub components::write_components-loop-field-preserved-in_ok-write : goal.components::write_components-loop-field-preserved-in_ok-write
+components::write_components-loop-field-preserved-in_ok-write g t c =
     let e : c.loop-field.field-iterator.a.rest.now ≡ c.in-Some.field.now ∷ c.next.new.self.a.rest.now = c.in-Some.ensures.steps.0 in
     let f = g.met.V.Source.each_gives c.loop-field.field-iterator.b (Some c.in-Some.entry) c.next.new.self.b c.in-Some.ensures.steps.1 in
     let d = g.V.Source.datum c.in-Some-entry.value in
     let some : option_map g.V.Source.datum c.in-Some.entry ≡ Some d = ap (option_map g.V.Source.datum) c.in-Some-entry.is in
     let shape = shape_of_part c.in-Some.field.now in
-    written_more c.keep_write_laws.ensures (rw (e, f, some) at c.loop-field.invariant) (sym c.is_encoded.ensures ∙ c.if-is_encoded.true) (subst (λ (x : Shape). Fits x d) (sym shape) c.in_ok-write-2.ensures.of_type)
-    (subst (λ (x : Shape). Writes (TakesAt g.S.Sink.stands g.S.Sink.wants_lengths c.args.level) g.R.WriteLeaves.rules c.loop-field.sink c.write-then-is_encoded.new.sink (g.R.WriteLeaves.rules.code x d)) (sym shape) c.in_ok-write-2.ensures.written)
+    written_more c.keep_write_laws.ensures (rw (e, f, some) at c.loop-field.invariant) (sym c.is_encoded.ensures ∙ c.if-is_encoded.true) (subst (λ (x : Shape). Fits x d) (sym shape) c.in_ok-write.ensures.of_type)
+    (subst (λ (x : Shape). Writes (TakesAt g.S.Sink.stands g.S.Sink.wants_lengths c.args.level) g.R.WriteLeaves.rules c.loop-field.sink c.write.new.sink (g.R.WriteLeaves.rules.code x d)) (sym shape) c.in_ok-write.ensures.written)
 
 -- ---- its additions
 

@@ -31,11 +31,7 @@ enum Items<'a> {
 
 /// Writes the bits of a BIT STRING (X.691, "encoding the bitstring type").
 #[inline(never)]
-pub(crate) fn write_bits<S: Sink>(
-    size: &Size,
-    bits: &[bool],
-    sink: &mut S,
-) -> Result<(), S::Fault>
+pub(crate) fn write_bits<S: Sink>(size: &Size, bits: &[bool], sink: &mut S) -> Result<(), S::Fault>
     requires of_type { FitsLength (size_range_of size.now) (length bits.now) }
     ensures { OnOk result (S.pushes sink.old sink.new (sized_bits (size_range_of size.now) (bit_items bits.now))) }
 {
@@ -73,11 +69,7 @@ pub(crate) fn write_characters<S: Sink>(
 
 /// Writes items under a size: inlined, so that each kind of string has a loop of its own.
 #[inline(always)]
-fn write_sized<S: Sink>(
-    size: &Size,
-    items: Items<'_>,
-    sink: &mut S,
-) -> Result<(), S::Fault>
+fn write_sized<S: Sink>(size: &Size, items: Items<'_>, sink: &mut S) -> Result<(), S::Fault>
     requires of_type { FitsLength (size_range_of size.now) (length (item_chunks items)) }
     requires of_kind { AreOfKind items }
     ensures { OnOk result (S.pushes sink.old sink.new

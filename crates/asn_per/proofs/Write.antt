@@ -7,3 +7,4 @@ pub mod Words
 pub mod SizesWritten
 pub mod ListFragments
 pub mod Completing
+pub mod Doubled

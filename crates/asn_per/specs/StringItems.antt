@@ -2,7 +2,7 @@
 use Rattle.std.specs.Prelude.{◌≡◌, ◌*◌, length, Bool, true, false, ℕ, List, [], ◌∷◌, map, ⊤, IsTrue}
 use Rattle.std.specs.List.{AllByRecursion}
 use Rattle.asn_values.specs.declared.types.TextKind.{TextKind}
-use Rattle.asn_values.specs.Shape.{SizeRange}
+use Rattle.asn_values.specs.Shape.{SizeRange, Alphabet}
 use Rattle.asn_values.specs.Fits.{is_of_kind}
 use Rattle.asn_values.specs.View.{alphabet_of}
 use Rattle.asn_bits.specs.Numbers.{bits}
@@ -19,10 +19,19 @@ use Rattle.asn_per.specs.declared.string_items.Items.{Items}
 use Rattle.asn_per.specs.declared.string_items.Items.TheVariants as items
 
 -- the spelling of each item of a string
+abbrev pub bit_items : List Bool → List (List Chunk)
+bit_items bs = map (λ b. one (bit_of b) ∷ []) bs
+
+abbrev pub octet_items : List ℕ → List (List Chunk)
+octet_items os = map (λ o. ones (bits 8 o)) os
+
+abbrev pub character_items : Alphabet → List ℕ → List (List Chunk)
+character_items a cs = map (λ c. ones (character_bits a c)) cs
+
 abbrev pub item_chunks : Items → List (List Chunk)
-item_chunks (items.Bits bs) = map (λ b. one (bit_of b) ∷ []) bs.now
-item_chunks (items.Octets os) = map (λ o. ones (bits 8 o)) os.now
-item_chunks (items.Characters k cs) = map (λ c. ones (character_bits (alphabet_of k) c)) cs.now
+item_chunks (items.Bits bs) = bit_items bs.now
+item_chunks (items.Octets os) = octet_items os.now
+item_chunks (items.Characters k cs) = character_items (alphabet_of k) cs.now
 
 -- each character is of its kind
 abbrev pub AreOfKind : Items → Type 0

@@ -36,8 +36,10 @@ pub(crate) fn write_index<S: Sink>(
 {
     match index {
         Index::Root(index) => {
+            // of twice as many values, as in `write_near` for numbers
+            let count = width_up_to(2 * root as u64 - 1) - 1;
             let mark_bits = u32::from(marked);
-            sink.push_number(mark_bits + width_up_to(root as u64 - 1), index as u64)
+            sink.push_number(mark_bits + count, index as u64)
         }
         Index::Added(index) => {
             sink.push(true)?;

@@ -1,5 +1,5 @@
 //! INTEGER and BOOLEAN (X.691). A reader may exclude one value: a component's DEFAULT, which an encoder leaves out.
-ghost use Rattle.std.specs.Prelude.{◌≡◌, ◌≤◌, ◌<◌, ◌^◌, ◌≤ℤ◌, ◌++◌, OnOk, IfSome, IsNone, ℕ, suc, Some, None, true, false};
+ghost use Rattle.std.specs.Prelude.{◌≡◌, ◌≤◌, ◌<◌, ◌^◌, ◌≤ℤ◌, ◌++◌, OnOk, IfSome, IsNone, IsTrue, ℕ, suc, Some, None, true, false};
 ghost use Rattle.std.specs.Option.{option_map};
 ghost use Rattle.asn_values.specs.Fits.{FitsNumber, lowest_integer, highest_integer};
 ghost use Rattle.asn_values.specs.Shape.{integer};
@@ -37,6 +37,9 @@ use asn_values::profile::{HIGHEST_INTEGER, INTEGER_COUNT, LOWEST_INTEGER};
 /// One more than the highest number of 64 bits. The offset of an integer from a low bound may be wide: above them.
 const WORD: u128 = 1 << 64;
 
+/// One more than the highest number of 63 bits.
+const HALF_WORD: u128 = 1 << 63;
+
 /// Writes a number, where it is one of the range (X.691, "encoding the integer type").
 #[inline(always)]
 pub(crate) fn write_integer<S: Sink>(
@@ -52,7 +55,7 @@ pub(crate) fn write_integer<S: Sink>(
     if let (Some(low), Some(high)) = (bounds.low, bounds.high) {
         let highest = wide_offset_from(low, high);
         let offset = offset_or_more(low, value);
-        if highest < WORD && offset <= highest {
+        if is_near(highest, offset) {
             write_near(highest as u64, bounds.ext, offset as u64, sink)?;
             return Ok(());
         }
@@ -71,21 +74,29 @@ fn offset_or_more(low: i128, n: i128) -> u128
     n.wrapping_sub(low).cast_unsigned()
 }
 
+/// Whether there are 2 ^ 63 numbers at most from 0 to `highest`, and `offset` is one of them.
+#[inline(always)]
+fn is_near(highest: u128, offset: u128) -> bool
+    requires { highest < 2 ^ 65 }
+    ensures { IsTrue result → (highest < 2 ^ 63) × (offset ≤ highest) }
+{
+    // what both have above is zero, in one test
+    let above = ((highest / HALF_WORD) as u64).max((offset / WORD) as u64);
+    above == 0 && offset as u64 <= highest as u64
+}
+
 /// Writes a number from 0 to `highest` as a constrained whole number, after an extension bit 0 where there is one.
 #[inline(always)]
 fn write_near<S: Sink>(highest: u64, ext: bool, offset: u64, sink: &mut S) -> Result<(), S::Fault>
-    requires { offset ≤ highest }
+    requires few { highest < 2 ^ 63 }
+    requires inside { offset ≤ highest }
     ensures { OnOk result (S.pushes sink.old sink.new
         (extension_bit ext false ++ constrained (suc highest) offset)) }
 {
-    let count = width_up_to(highest);
-    if ext {
-        if count < 64 {
-            return sink.push_number(1 + count, offset);
-        }
-        sink.push(false)?;
-    }
-    sink.push_number(count, offset)
+    // of twice as many numbers, of which there are two at least: so no test asks whether there is one alone
+    let count = width_up_to(2 * highest + 1) - 1;
+    let mark_bits = u32::from(ext);
+    sink.push_number(mark_bits + count, offset)
 }
 
 /// Writes a number, where it is one of the range, whether it lies between two bounds or not.

@@ -66,6 +66,7 @@ impl Following {
 
 /// Writes what stands before `count` items under a size: the extension bit where there is an extension mark, and in
 /// the root the count where there is an upper bound (X.691, "constrained whole number"). Returns what follows.
+#[inline(always)]
 pub(crate) fn write_size<S: Sink>(
     size: &Size,
     count: usize,

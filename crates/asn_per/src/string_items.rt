@@ -10,7 +10,7 @@ ghost use Rattle.asn_rules.specs.Languages.{Row};
 ghost use Rattle.asn_rules.specs.NumberSets.{Admits};
 ghost use Rattle.asn_per.specs.Per.{character_bits};
 ghost use Rattle.asn_per.specs.Reading.{AppendsAll, AppendsText, bits_of_codes, code_width, Appends, codes_of, character_at, Reads, StopsIn, CharacterOf, code_in, AreCodes};
-ghost use Rattle.asn_per.specs.StringItems.{item_chunks, AreOfKind, row_bits, sized_bits, HoldsText};
+ghost use Rattle.asn_per.specs.StringItems.{bit_items, octet_items, character_items, item_chunks, AreOfKind, row_bits, sized_bits, HoldsText};
 ghost use Rattle.asn_per.specs.Kinds.{Bit};
 
 use crate::sizes::write_size;
@@ -23,18 +23,53 @@ use std::alloc::AllocError;
 
 /// The items of a string.
 #[derive(Clone, Copy)]
-pub(crate) enum Items<'a> {
+enum Items<'a> {
     Bits(&'a [bool]),
     Octets(&'a [u8]),
     Characters(TextKind, &'a [u8]),
 }
 
-/// Writes items under a size (X.691, "encoding the bitstring type" and those of the other strings).
-pub(crate) fn write_sized<S: Sink>(
+/// Writes the bits of a BIT STRING (X.691, "encoding the bitstring type").
+#[inline(never)]
+pub(crate) fn write_bits<S: Sink>(size: &Size, bits: &[bool], sink: &mut S) -> Result<(), S::Fault>
+    requires of_type { FitsLength (size_range_of size.now) (length bits.now) }
+    ensures { OnOk result (S.pushes sink.old sink.new (sized_bits (size_range_of size.now) (bit_items bits.now))) }
+{
+    write_sized(size, Items::Bits(bits), sink)
+}
+
+/// Writes the octets of an OCTET STRING (X.691, "encoding the octetstring type").
+#[inline(never)]
+pub(crate) fn write_octets<S: Sink>(
     size: &Size,
-    items: Items<'_>,
+    octets: &[u8],
     sink: &mut S,
 ) -> Result<(), S::Fault>
+    requires of_type { FitsLength (size_range_of size.now) (length octets.now) }
+    ensures { OnOk result (S.pushes sink.old sink.new (sized_bits (size_range_of size.now) (octet_items octets.now))) }
+{
+    write_sized(size, Items::Octets(octets), sink)
+}
+
+/// Writes the characters of a string of this kind (X.691, "encoding the restricted character string types").
+#[inline(never)]
+pub(crate) fn write_characters<S: Sink>(
+    kind: TextKind,
+    size: &Size,
+    text: &[u8],
+    sink: &mut S,
+) -> Result<(), S::Fault>
+    requires of_type { FitsLength (size_range_of size.now) (length text.now) }
+    requires of_kind { AllByRecursion (λ c. IsTrue (is_of_kind (alphabet_of kind) c)) text.now }
+    ensures { OnOk result (S.pushes sink.old sink.new
+        (sized_bits (size_range_of size.now) (character_items (alphabet_of kind) text.now))) }
+{
+    write_sized(size, Items::Characters(kind, text), sink)
+}
+
+/// Writes items under a size: inlined, so that each kind of string has a loop of its own.
+#[inline(always)]
+fn write_sized<S: Sink>(size: &Size, items: Items<'_>, sink: &mut S) -> Result<(), S::Fault>
     requires of_type { FitsLength (size_range_of size.now) (length (item_chunks items)) }
     requires of_kind { AreOfKind items }
     ensures { OnOk result (S.pushes sink.old sink.new
@@ -62,6 +97,7 @@ fn count_of(items: Items<'_>) -> usize
 }
 
 /// Writes `count` items, from the one at index `from` on.
+#[inline(always)]
 fn write_items<S: Sink>(
     items: Items<'_>,
     from: usize,

@@ -10,7 +10,7 @@ use crate::integers::write_integer;
 use crate::items::write_item;
 use crate::rules::Per;
 use crate::sizes::{Following, write_size};
-use crate::string_items::{Items, write_sized};
+use crate::string_items::{write_bits, write_characters, write_octets};
 use asn_bits::internal::shift_in;
 use asn_rules::Unwritten;
 use asn_sinks::{Framing, Sink};
@@ -47,14 +47,14 @@ impl WriteLeaves for Per {
                 Ok(write_item(root, ext, *index, sink)?)
             }
             (AsnType::Bits(size), Value::Bits(truths)) if length_fits(size, truths.len()) => {
-                Ok(write_sized(size, Items::Bits(truths.as_slice()), sink)?)
+                Ok(write_bits(size, truths.as_slice(), sink)?)
             }
             (AsnType::Octets(size), Value::Octets(data)) if octets_fit(size, data.as_slice()) => {
-                Ok(write_sized(size, Items::Octets(data.as_slice()), sink)?)
+                Ok(write_octets(size, data.as_slice(), sink)?)
             }
             (AsnType::Text(kind, size), Value::Text(text))
                 if text_fits(*kind, size, text.as_slice()) => {
-                Ok(write_sized(size, Items::Characters(*kind, text.as_slice()), sink)?)
+                Ok(write_characters(*kind, size, text.as_slice(), sink)?)
             }
             (AsnType::Utf8, Value::Utf8(text)) if unicode_fits(text) => {
                 Ok(sink.push_general_octets(text.as_bytes())?)

@@ -5,7 +5,7 @@ use Rattle.asn_values.specs.declared.types.Alt.{Alt}
 use Rattle.asn_values.specs.declared.types.AsnType.{AsnType, Seq}
 use Rattle.asn_values.specs.declared.types.Field.{Field}
 use Rattle.asn_values.specs.declared.types.Size.{Size}
-use Rattle.asn_values.specs.Datum.{Datum, elements, elements_of}
+use Rattle.asn_values.specs.Datum.{Datum, components, components_of, elements, elements_of}
 use Rattle.asn_values.specs.Fits.{FitsEach}
 use Rattle.asn_values.specs.View.{shape_of, fields_seen, alternatives_seen, sequence_of_seen}
 use Rattle.asn_bits.specs.Lengths.{joined}
@@ -41,6 +41,10 @@ pub record IsSequence (t : AsnType) : Type 0 where
   pub root : Vec Field
   pub ext : Option (Vec Field)
   pub is : t ≡ Seq root ext
+
+-- entries as a value
+abbrev pub sequence_of : List (Option Datum) → Datum
+sequence_of es = components (components_of es)
 
 -- a sink has taken the root of a SEQUENCE, with this extension bit; and its extension additions
 abbrev pub WritesRootOf : {Sink : Type 0} → Pushing Sink → Coding → Sink → Sink → Option Bool → List Field → List (Option Datum) → Type 0

@@ -4,9 +4,11 @@
 //! rules gives as an impl of `asn_walk::WriteLeaves`.
 #![tactic(auto)]
 
+mod components;
 mod encoded;
 mod encoder;
 mod lengths;
+mod lists;
 mod writer;
 
 pub use encoder::{encode, encode_from, encode_into, encode_to, encoded_len, encoded_len_from};

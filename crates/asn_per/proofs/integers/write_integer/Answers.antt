@@ -63,8 +63,8 @@ offset_or_more-offset-requires-clause-within_high g c =
     let low_stays : to_z w128 (of_z w128 low) ≡ low = kept low w.0 (omega (arith, ints, w.1, w.2)) in
     rw low_stays (omega (arith, ints, w.1, w.2))
 
-pub returns-then-offset-highest-clause-of_type : goal.returns-then-offset-highest-clause-of_type
-returns-then-offset-highest-clause-of_type g c =
+pub returns-then-is_near-clause-of_type : goal.returns-then-is_near-clause-of_type
+returns-then-is_near-clause-of_type g c =
     let low = c.in-Some-Some.low in
     let high = c.in-Some-Some.high in
     let ext = c.args.bounds.now.ext in
@@ -74,14 +74,15 @@ returns-then-offset-highest-clause-of_type g c =
     let low_stays : to_z w128 (of_z w128 low) ≡ low = kept low w.0 (omega (arith, ints, w.1, w.2)) in
     let high_stays : to_z w128 (of_z w128 high) ≡ high = kept high (omega (arith, ints, w.0, w.1)) w.2 in
     let same : to_z w128 (of_z w128 z) ≡ z = search rules in
+    let near_by = c.is_near.ensures c.if-is_near.true in
     let top : c.wide_offset_from-highest.result ≡ above low high = rw (low_stays, high_stays) at c.wide_offset_from-highest.ensures.is in
-    let least : low ≤ℤ z = rw (low_stays, same) at (c.offset_or_more-offset.ensures.below (omega (arith, c.if-offset-highest.true, c.wide_offset_from-highest.ensures.few))) in
+    let least : low ≤ℤ z = rw (low_stays, same) at (c.offset_or_more-offset.ensures.below (omega (arith, near_by.1, c.wide_offset_from-highest.ensures.few))) in
     let near : c.offset_or_more-offset.result ≡ above low z = rw (low_stays, same) at (c.offset_or_more-offset.ensures.above (rw (low_stays, same) least)) in
-    let most : z ≤ℤ high = below_by_offset low high z w.1 least (omega (arith, near, top, c.if-offset-highest.true)) in
+    let most : z ≤ℤ high = below_by_offset low high z w.1 least (omega (arith, near, top, near_by.1)) in
     rw (c.in-Some-Some.is-0, c.in-Some-Some.is-1) (between_fits low high z ext good least most)
 
-pub returns-then-offset-highest-clause-written : goal.returns-then-offset-highest-clause-written
-returns-then-offset-highest-clause-written g c =
+pub returns-then-is_near-clause-written : goal.returns-then-is_near-clause-written
+returns-then-is_near-clause-written g c =
     let low = c.in-Some-Some.low in
     let high = c.in-Some-Some.high in
     let ext = c.args.bounds.now.ext in
@@ -91,10 +92,11 @@ returns-then-offset-highest-clause-written g c =
     let low_stays : to_z w128 (of_z w128 low) ≡ low = kept low w.0 (omega (arith, ints, w.1, w.2)) in
     let high_stays : to_z w128 (of_z w128 high) ≡ high = kept high (omega (arith, ints, w.0, w.1)) w.2 in
     let same : to_z w128 (of_z w128 z) ≡ z = search rules in
+    let near_by = c.is_near.ensures c.if-is_near.true in
     let top : c.wide_offset_from-highest.result ≡ above low high = rw (low_stays, high_stays) at c.wide_offset_from-highest.ensures.is in
-    let least : low ≤ℤ z = rw (low_stays, same) at (c.offset_or_more-offset.ensures.below (omega (arith, c.if-offset-highest.true, c.wide_offset_from-highest.ensures.few))) in
+    let least : low ≤ℤ z = rw (low_stays, same) at (c.offset_or_more-offset.ensures.below (omega (arith, near_by.1, c.wide_offset_from-highest.ensures.few))) in
     let near : c.offset_or_more-offset.result ≡ above low z = rw (low_stays, same) at (c.offset_or_more-offset.ensures.above (rw (low_stays, same) least)) in
-    let most : z ≤ℤ high = below_by_offset low high z w.1 least (omega (arith, near, top, c.if-offset-highest.true)) in
+    let most : z ≤ℤ high = below_by_offset low high z w.1 least (omega (arith, near, top, near_by.1)) in
     let bits =
     ap (λ (h : ℕ). extension_bit ext false ++ constrained (suc h) c.offset_or_more-offset.result) top
     ∙ ap (λ (o : ℕ). extension_bit ext false ++ constrained (suc (above low high)) o) near

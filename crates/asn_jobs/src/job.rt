@@ -6,7 +6,7 @@ use std::alloc::{AllocError, AllocFailed};
 use thiserror::Error;
 
 /// A set of encoding rules.
-#[derive(Clone, Copy, Debug, PartialEq, Eq, Drop)]
+#[derive(Clone, Copy, PartialEq, Eq, Drop)]
 pub enum RuleName {
     /// CANONICAL-PER UNALIGNED (X.691).
     Per,
@@ -15,7 +15,7 @@ pub enum RuleName {
 }
 
 /// What is made of each line.
-#[derive(Clone, Copy, Debug, PartialEq, Eq, Drop)]
+#[derive(Clone, Copy, PartialEq, Eq, Drop)]
 pub enum Order {
     /// Octets become the JSON of their value.
     Show,
@@ -31,7 +31,7 @@ pub enum Order {
 }
 
 /// What is to be done.
-#[derive(Debug, PartialEq, Eq, Drop)]
+#[derive(PartialEq, Eq, Drop)]
 pub enum Job {
     /// The module is printed.
     Module,
@@ -47,7 +47,7 @@ pub enum Job {
 }
 
 /// How a job ended.
-#[derive(Clone, Copy, Debug, PartialEq, Eq, Drop)]
+#[derive(Clone, Copy, PartialEq, Eq, Drop)]
 pub enum Status {
     /// Each line was answered well.
     Good,

@@ -13,7 +13,7 @@ use hex::FromHexError;
 use std::alloc::{AllocError, Global};
 
 /// How the octets of a message stand in a text.
-#[derive(Clone, Copy, Debug, PartialEq, Eq, Drop)]
+#[derive(Clone, Copy, PartialEq, Eq, Drop)]
 pub enum OctetForm {
     /// Hexadecimal digits on one line, two an octet: words between blanks, with or without 0x in front of each, and
     /// a comment from # on.

@@ -6,7 +6,7 @@ use asn_jobs::{Job, OctetForm, Order};
 use asn_json_layout::Layout;
 
 /// What is asked for of the messages of a job.
-#[derive(Debug, Drop)]
+#[derive(Drop)]
 pub struct Asking<'a> {
     /// Whether standard error tells why a message, or the module, is refused.
     pub is_explained: bool,
@@ -80,7 +80,7 @@ impl<'a> Asking<'a> {
 }
 
 /// What is asked for of messages of other versions of a type.
-#[derive(Clone, Copy, Debug, PartialEq, Eq, Drop)]
+#[derive(Clone, Copy, Drop)]
 pub struct Versions {
     /// Whether each is shown as an object with its value and what is skipped in it.
     pub is_json: bool,
@@ -107,7 +107,7 @@ impl Versions {
 }
 
 /// The forms of the octets of messages.
-#[derive(Clone, Copy, Debug, PartialEq, Eq, Drop)]
+#[derive(Clone, Copy, Drop)]
 pub struct Forms {
     /// That of the octets that are given, if one is named.
     pub given: Option<OctetForm>,

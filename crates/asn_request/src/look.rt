@@ -9,7 +9,7 @@ use clap::ArgMatches;
 use std::alloc::{AllocError, Global};
 
 /// What is shown, of the module or of messages of a type of it.
-#[derive(Debug, Drop)]
+#[derive(Drop)]
 pub struct Look {
     pub what: Looking,
     /// The name of the type; of the types of the module where none is named.
@@ -25,7 +25,7 @@ pub struct Look {
 }
 
 /// What there is to be shown.
-#[derive(Clone, Copy, Debug, PartialEq, Eq)]
+#[derive(Clone, Copy, PartialEq, Eq)]
 pub enum Looking {
     /// Messages, field by field.
     Fields,

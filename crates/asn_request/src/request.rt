@@ -19,7 +19,7 @@ use std::alloc::{AllocError, Global};
 use thiserror::Error;
 
 /// What the program is asked for.
-#[derive(Debug, Drop)]
+#[derive(Drop)]
 pub enum Request<'a> {
     /// Published modules are flattened.
     Flatten {
@@ -53,7 +53,7 @@ pub enum Request<'a> {
 }
 
 /// How it is told what became of the types of published modules.
-#[derive(Clone, Copy, Debug, PartialEq, Eq)]
+#[derive(Clone, Copy)]
 pub enum Form {
     /// A line for each status: how many types have it.
     Summary,

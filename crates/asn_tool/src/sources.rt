@@ -24,7 +24,7 @@ pub const MOST: u32 = 10_000_000;
 const STDIN: &str = "<stdin>";
 
 /// The octets that a job reads in the place of standard input, if any, and the lines that tell what became of its types.
-#[derive(Debug, Drop)]
+#[derive(Drop)]
 pub struct Instead {
     pub octets: Option<Vec<u8>>,
     pub remarks: String,

@@ -30,7 +30,7 @@ def build(program):
     """Compiles the program without a proof; its version says so."""
     with tempfile.TemporaryDirectory() as folder:
         room.lay(folder, [])
-        words = f"{folder}/crates/{NAME}/src/program.rt"
+        words = f"{folder}/crates/asn_request/src/program.rt"
         text = room.text_of(words)
         with open(words, "w", encoding="utf-8") as it:
             it.write(VERSION.sub(r'.version("\1, unproved build")', text))

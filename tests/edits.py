@@ -69,20 +69,20 @@ TURNS = (
     ["asn_per"],
     ["asn_walk_write"],
     ["asn_walk_feed"],
-    "asn_tool asn_examples".split(),
-    ["asn_published_types"],
-    "asn_rules asn_published asn_stats".split(),
+    "asn_tool asn_request asn_examples".split(),
+    "asn_published_types asn_published_text".split(),
+    "asn_rules asn_published asn_published_report asn_published_write".split(),
     "tulvorn_c asn_walk".split(),
     "asn_walk_read asn_fields".split(),
     "asn_plan asn_window asn_sinks".split(),
     "asn_oer uses_tulvorn asn_json_layout".split(),
     "asn_resuming asn_notation asn_first".split(),
-    "asn_convert asn_walk_into asn_published_read asn_octet_forms".split(),
+    "asn_convert asn_walk_into asn_jobs".split(),
     "asn_json asn_view tulvorn".split(),
     "asn_bits asn_message asn_source".split(),
 )
 # the part with few edits, in whose place the gate proves and calls the archives of the library for C (tests/gate.py)
-ARCHIVES = TURNS.index(["asn_published_types"])
+ARCHIVES = TURNS.index(["asn_published_types", "asn_published_text"])
 # how many edits one merge has the time for, beside the proofs of all crates
 MOST = 450
 # the seconds that a check of edits may take, and three times as many beside proofs, which come first

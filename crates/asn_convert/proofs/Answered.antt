@@ -32,9 +32,9 @@ use Rattle.asn_newer.specs.Skipped.{Skipped}
 use Rattle.asn_json.specs.Written.{json_of}
 use Rattle.asn_json.specs.Shown.{value_of}
 use Rattle.asn_json.specs.Errors.{bad, Shown}
-use Rattle.asn_convert.specs.declared.job.Order.{Order}
-use Rattle.asn_convert.specs.declared.job.Order.TheVariants as order
-use Rattle.asn_convert.specs.declared.job.RuleName.{RuleName}
+use Rattle.asn_jobs.specs.declared.job.Order.{Order}
+use Rattle.asn_jobs.specs.declared.job.Order.TheVariants as order
+use Rattle.asn_jobs.specs.declared.job.RuleName.{RuleName}
 use Rattle.asn_convert.specs.Answers.{Terms, AnswersBy, AnswersShow, AnswersCheck, AnswersConvert, AnswersNewer, AnswersOctets, AnswersHex, AnswersValue, AnswersJson, IsJson, newer_text, unit_of}
 use Rattle.asn_convert.specs.Converted.{IsTooLong}
 use Rattle.asn_convert.specs.Text.{HasAnswer}

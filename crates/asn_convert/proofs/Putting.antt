@@ -18,8 +18,8 @@ use Rattle.asn_rules.specs.declared.fault.EncodeToFault.{EncodeToFault}
 use Rattle.asn_rules.specs.declared.fault.EncodeToFault.TheVariants as encode
 use Rattle.asn_convert.specs.Put.{Digits, NoDigits, DigitsTold, DigitsBegun, OctetsTold, OctetsBegun, IsWriteFault}
 use Rattle.asn_convert.specs.Text.{Writes, Stops, IsFront, ended}
-use Rattle.asn_convert.specs.declared.job.RunFault.{RunFault}
-use Rattle.asn_convert.specs.declared.job.RunFault.TheVariants as fault
+use Rattle.asn_jobs.specs.declared.job.RunFault.{RunFault}
+use Rattle.asn_jobs.specs.declared.job.RunFault.TheVariants as fault
 use Rattle.asn_convert.proofs.HexDigits.{all_digits, encode_append}
 use Rattle.asn_convert.proofs.Told.{stops_so}
 

@@ -14,10 +14,10 @@ use Rattle.asn_convert.specs.Parts.{LineAnswer}
 use Rattle.asn_convert.specs.Put.{OctetsBegun}
 use Rattle.asn_convert.specs.Replies.{LineReply, OctetsAnswer, RepliesConvert, RepliesJson}
 use Rattle.asn_convert.specs.Text.{Stops, IsAnswerBegun}
-use Rattle.asn_convert.specs.declared.job.RunFault.{RunFault}
+use Rattle.asn_jobs.specs.declared.job.RunFault.{RunFault}
 use Rattle.asn_convert.proofs.Told.{stops_so}
-use Rattle.asn_convert.specs.declared.job.Order.TheVariants as order
-use Rattle.asn_convert.specs.declared.job.RuleName.{RuleName}
+use Rattle.asn_jobs.specs.declared.job.Order.TheVariants as order
+use Rattle.asn_jobs.specs.declared.job.RuleName.{RuleName}
 use Rattle.asn_convert.specs.declared.texts.Reply.{Reply}
 use Rattle.asn_convert.specs.declared.texts.Reply.TheVariants as reply
 

@@ -10,16 +10,16 @@ use Rattle.asn_values.specs.declared.types.AsnType.{AsnType}
 use Rattle.asn_module.specs.Accepted.{ModuleTypes}
 use Rattle.asn_convert.specs.Answers.{Rulings}
 use Rattle.asn_convert.specs.Coming.{AreWholeLines, Ends, StopsBy, StopsWithin, HasNoTypeFor, IsTypeFor, TextOf, BegunOf}
-use Rattle.asn_convert.specs.declared.job.Job.{Job}
-use Rattle.asn_convert.specs.declared.job.Job.TheVariants as job
-use Rattle.asn_convert.specs.declared.job.Order.{Order}
-use Rattle.asn_convert.specs.declared.job.RuleName.{RuleName}
-use Rattle.asn_convert.specs.declared.job.Status.{Status}
-use Rattle.asn_convert.specs.declared.job.Status.TheVariants as status
+use Rattle.asn_jobs.specs.declared.job.Job.{Job}
+use Rattle.asn_jobs.specs.declared.job.Job.TheVariants as job
+use Rattle.asn_jobs.specs.declared.job.Order.{Order}
+use Rattle.asn_jobs.specs.declared.job.RuleName.{RuleName}
+use Rattle.asn_jobs.specs.declared.job.Status.{Status}
+use Rattle.asn_jobs.specs.declared.job.Status.TheVariants as status
 use Rattle.asn_convert.specs.Lines.{lines_of, module_text, begun}
 use Rattle.asn_convert.specs.Text.{Told, IsBegun, HasAnswer, Writes, Stops, Tells, TellsBegun, IsFront, IsModule, IsRefusal, ended, status_of, terms}
-use Rattle.asn_convert.specs.declared.job.RunFault.{RunFault}
-use Rattle.asn_convert.specs.declared.job.RunFault.TheVariants as fault
+use Rattle.asn_jobs.specs.declared.job.RunFault.{RunFault}
+use Rattle.asn_jobs.specs.declared.job.RunFault.TheVariants as fault
 use Rattle.asn_convert.proofs.Answered.{have_answers}
 use Rattle.asn_convert.proofs.Told.{and_assoc, append_none, consumes_twice, given_some, read_whole, tells_begun, told_begun, writes_so}
 

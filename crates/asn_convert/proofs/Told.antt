@@ -5,19 +5,19 @@ use Rattle.std.specs.Io.KnownBytes.{Appends, Keeps, Consumes, IsAtEnd}
 use Rattle.asn_rules.specs.Faults.{State, Rose}
 use Rattle.asn_rules.proofs.Known.{appends_twice, appends_nothing}
 use Rattle.asn_convert.specs.Answers.{Rulings, Terms}
-use Rattle.asn_convert.specs.declared.job.Order.{Order}
-use Rattle.asn_convert.specs.declared.job.RuleName.{RuleName}
+use Rattle.asn_jobs.specs.declared.job.Order.{Order}
+use Rattle.asn_jobs.specs.declared.job.RuleName.{RuleName}
 use Rattle.asn_module.specs.Accepted.{ModuleTypes, type_in}
 use Rattle.asn_module.specs.Printing.{printed}
 use Rattle.asn_rules.proofs.Known.{appends_then_keeps}
-use Rattle.asn_convert.specs.declared.job.Job.{Job}
-use Rattle.asn_convert.specs.declared.job.Job.TheVariants as job
-use Rattle.asn_convert.specs.declared.job.RunFault.{RunFault}
-use Rattle.asn_convert.specs.declared.job.RunFault.TheVariants as fault
+use Rattle.asn_jobs.specs.declared.job.Job.{Job}
+use Rattle.asn_jobs.specs.declared.job.Job.TheVariants as job
+use Rattle.asn_jobs.specs.declared.job.RunFault.{RunFault}
+use Rattle.asn_jobs.specs.declared.job.RunFault.TheVariants as fault
 use Rattle.asn_convert.specs.Lines.{lines_of, IsFirstLine, module_text, job_lines}
 use Rattle.asn_convert.specs.Text.{Told, IsBegun, HasAnswer, IsAnswered, IsAnswerBegun, IsFront, ended, Writes, Stops, Fails, Text, Tells, TellsBegun, Begun, IsGiven, IsReadFault, IsModule, IsRefusal, no_type, terms}
-use Rattle.asn_convert.specs.declared.job.Status.{Status}
-use Rattle.asn_convert.specs.declared.job.Status.TheVariants as status
+use Rattle.asn_jobs.specs.declared.job.Status.{Status}
+use Rattle.asn_jobs.specs.declared.job.Status.TheVariants as status
 use Rattle.std.specs.Prelude.{Result, Ok, Err, IfErr, String, string_bytes, min}
 use Rattle.asn_convert.proofs.Answered.{have_answers}
 use Rattle.std.specs.Global.{Global}

@@ -25,10 +25,10 @@ use Rattle.asn_json.specs.Written.{json_of}
 use Rattle.asn_json.specs.Errors.{bad, Shown}
 use Rattle.asn_json.specs.declared.fault.JsonFault.{JsonFault}
 use Rattle.asn_json.specs.declared.fault.JsonFault.TheVariants as json
-use Rattle.asn_convert.specs.declared.job.RuleName.{RuleName}
-use Rattle.asn_convert.specs.declared.job.RuleName.TheVariants as rule_name
-use Rattle.asn_convert.specs.declared.job.Order.{Order}
-use Rattle.asn_convert.specs.declared.job.Order.TheVariants as order
+use Rattle.asn_jobs.specs.declared.job.RuleName.{RuleName}
+use Rattle.asn_jobs.specs.declared.job.RuleName.TheVariants as rule_name
+use Rattle.asn_jobs.specs.declared.job.Order.{Order}
+use Rattle.asn_jobs.specs.declared.job.Order.TheVariants as order
 use Rattle.asn_convert.specs.Converted.{Converts, IsTooLong}
 
 -- the rules of the octets, those that they are converted to, and what the former say of messages of other versions

@@ -13,14 +13,14 @@ use Rattle.asn_convert.specs.Answers.{Rulings, rulings}
 use Rattle.asn_convert.specs.Lines.{lines_of, module_text}
 use Rattle.asn_convert.specs.Parts.{Known, ModuleTold, ModuleBegun, LinesTold, LinesBegun}
 use Rattle.asn_convert.specs.Text.{IsFront, IsModule, IsRefusal, Tells, TellsBegun, IsGiven, Writes, Stops}
-use Rattle.asn_convert.specs.declared.job.Job.{Job}
-use Rattle.asn_convert.specs.declared.job.Job.TheVariants as job
-use Rattle.asn_convert.specs.declared.job.Order.{Order}
-use Rattle.asn_convert.specs.declared.job.RuleName.{RuleName}
-use Rattle.asn_convert.specs.declared.job.RunFault.{RunFault}
-use Rattle.asn_convert.specs.declared.job.RunFault.TheVariants as fault
-use Rattle.asn_convert.specs.declared.job.Status.{Status}
-use Rattle.asn_convert.specs.declared.job.Status.TheVariants as status
+use Rattle.asn_jobs.specs.declared.job.Job.{Job}
+use Rattle.asn_jobs.specs.declared.job.Job.TheVariants as job
+use Rattle.asn_jobs.specs.declared.job.Order.{Order}
+use Rattle.asn_jobs.specs.declared.job.RuleName.{RuleName}
+use Rattle.asn_jobs.specs.declared.job.RunFault.{RunFault}
+use Rattle.asn_jobs.specs.declared.job.RunFault.TheVariants as fault
+use Rattle.asn_jobs.specs.declared.job.Status.{Status}
+use Rattle.asn_jobs.specs.declared.job.Status.TheVariants as status
 
 -- ---- whole lines
 

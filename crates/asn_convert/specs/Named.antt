@@ -9,13 +9,13 @@ use Rattle.asn_newer.specs.Rules.{per_loose, oer_loose}
 use Rattle.asn_convert.specs.Answers.{Rulings, rulings}
 use Rattle.asn_convert.specs.Coming.{Ended, Stopped, TextOf, BegunOf}
 use Rattle.asn_convert.specs.Lines.{module_text}
-use Rattle.asn_convert.specs.declared.job.Job.{Job}
-use Rattle.asn_convert.specs.declared.job.Job.TheVariants as job
-use Rattle.asn_convert.specs.declared.job.Order.{Order}
-use Rattle.asn_convert.specs.declared.job.RuleName.{RuleName}
-use Rattle.asn_convert.specs.declared.job.RuleName.TheVariants as rule_name
-use Rattle.asn_convert.specs.declared.job.RunFault.{RunFault}
-use Rattle.asn_convert.specs.declared.job.Status.{Status}
+use Rattle.asn_jobs.specs.declared.job.Job.{Job}
+use Rattle.asn_jobs.specs.declared.job.Job.TheVariants as job
+use Rattle.asn_jobs.specs.declared.job.Order.{Order}
+use Rattle.asn_jobs.specs.declared.job.RuleName.{RuleName}
+use Rattle.asn_jobs.specs.declared.job.RuleName.TheVariants as rule_name
+use Rattle.asn_jobs.specs.declared.job.RunFault.{RunFault}
+use Rattle.asn_jobs.specs.declared.job.Status.{Status}
 use Rattle.asn_convert.specs.Parts.{Known, RanWith, FailedWith}
 use Rattle.asn_convert.specs.Text.{IsAnswered, IsAnswerBegun, terms}
 

@@ -8,11 +8,11 @@ use Rattle.asn_rules.specs.Faults.{inner_of, state_of}
 use Rattle.asn_newer.specs.Loose.{LooseCoding}
 use Rattle.asn_module.specs.declared.module.Module.{Module}
 use Rattle.asn_module.specs.ModuleView.{types_view}
-use Rattle.asn_convert.specs.declared.job.Job.{Job}
-use Rattle.asn_convert.specs.declared.job.Order.{Order}
-use Rattle.asn_convert.specs.declared.job.RuleName.{RuleName}
-use Rattle.asn_convert.specs.declared.job.RunFault.{RunFault}
-use Rattle.asn_convert.specs.declared.job.Status.{Status}
+use Rattle.asn_jobs.specs.declared.job.Job.{Job}
+use Rattle.asn_jobs.specs.declared.job.Order.{Order}
+use Rattle.asn_jobs.specs.declared.job.RuleName.{RuleName}
+use Rattle.asn_jobs.specs.declared.job.RunFault.{RunFault}
+use Rattle.asn_jobs.specs.declared.job.Status.{Status}
 use Rattle.asn_convert.specs.Answers.{Rulings, Terms, Answers, rulings}
 use Rattle.asn_convert.specs.Lines.{lines_of}
 use Rattle.asn_convert.specs.Text.{Text, Begun, Tells, TellsBegun, Told, HasAnswer, IsBegun, IsAnswered, IsAnswerBegun, Writes, Stops, Runs, Fails, terms}

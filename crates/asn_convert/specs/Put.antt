@@ -12,8 +12,8 @@ use Rattle.asn_rules.specs.declared.fault.EncodeToFault.TheVariants as encode
 use Rattle.asn_rules.specs.CodecLaws.{Encoded}
 use Rattle.asn_convert.specs.Converted.{IsTooLong}
 use Rattle.asn_convert.specs.Text.{IsFront, ended}
-use Rattle.asn_convert.specs.declared.job.RunFault.{RunFault}
-use Rattle.asn_convert.specs.declared.job.RunFault.TheVariants as fault
+use Rattle.asn_jobs.specs.declared.job.RunFault.{RunFault}
+use Rattle.asn_jobs.specs.declared.job.RunFault.TheVariants as fault
 use Rattle.asn_convert.specs.declared.texts.Answer.{Answer}
 
 -- a text and its LF, and a front of them

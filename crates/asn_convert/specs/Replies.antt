@@ -14,8 +14,8 @@ use Rattle.asn_json.specs.Errors.{Shown}
 use Rattle.asn_convert.specs.Answers.{IsNotDecoded, IsNotShown, IsJson, IsNoJson}
 use Rattle.asn_convert.specs.Converted.{IsTooLong}
 use Rattle.asn_convert.specs.Parts.{LineAnswer}
-use Rattle.asn_convert.specs.declared.job.Order.{Order}
-use Rattle.asn_convert.specs.declared.job.RuleName.{RuleName}
+use Rattle.asn_jobs.specs.declared.job.Order.{Order}
+use Rattle.asn_jobs.specs.declared.job.RuleName.{RuleName}
 use Rattle.asn_convert.specs.declared.texts.Reply.{Reply}
 use Rattle.asn_convert.specs.declared.texts.Reply.TheVariants as reply
 

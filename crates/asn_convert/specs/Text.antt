@@ -8,14 +8,14 @@ use Rattle.asn_module.specs.Accepted.{ModuleTypes, Accepted, type_in}
 use Rattle.asn_module.specs.Printing.{printed}
 use Rattle.asn_convert.specs.Answers.{Rulings, Terms, Answers}
 use Rattle.asn_convert.specs.Lines.{module_text, job_lines}
-use Rattle.asn_convert.specs.declared.job.Order.{Order}
-use Rattle.asn_convert.specs.declared.job.RuleName.{RuleName}
-use Rattle.asn_convert.specs.declared.job.Job.{Job}
-use Rattle.asn_convert.specs.declared.job.Job.TheVariants as job
-use Rattle.asn_convert.specs.declared.job.Status.{Status}
-use Rattle.asn_convert.specs.declared.job.Status.TheVariants as status
-use Rattle.asn_convert.specs.declared.job.RunFault.{RunFault}
-use Rattle.asn_convert.specs.declared.job.RunFault.TheVariants as fault
+use Rattle.asn_jobs.specs.declared.job.Order.{Order}
+use Rattle.asn_jobs.specs.declared.job.RuleName.{RuleName}
+use Rattle.asn_jobs.specs.declared.job.Job.{Job}
+use Rattle.asn_jobs.specs.declared.job.Job.TheVariants as job
+use Rattle.asn_jobs.specs.declared.job.Status.{Status}
+use Rattle.asn_jobs.specs.declared.job.Status.TheVariants as status
+use Rattle.asn_jobs.specs.declared.job.RunFault.{RunFault}
+use Rattle.asn_jobs.specs.declared.job.RunFault.TheVariants as fault
 
 -- ---- all lines
 

@@ -10,9 +10,9 @@ ghost use Rattle.asn_convert.specs.Answers.{AnswersShow, AnswersCheck, IsJson};
 ghost use Rattle.asn_convert.specs.Replies.{LineReply, RepliesConvert, RepliesJson, RepliesValue};
 
 use crate::digits::octets_in;
-use crate::job::{Order, RuleName};
 use crate::newer::newer_octets;
 use crate::texts::{Answer, Reply, decode_refusal, json_refusal, refusal};
+use asn_jobs::{Order, RuleName};
 use asn_json::{from_json, to_json};
 use asn_newer::ReadNewer;
 use asn_plan::{PlanRules, Planned};

@@ -4,9 +4,9 @@ ghost use Rattle.asn_convert.specs.Named.{Ran, Failed, RanOnLines, StoppedOnLine
 ghost use Rattle.asn_convert.specs.Parts.{Wrote, Broke};
 
 use crate::coming::run_coming;
-use crate::job::{Job, Order, RuleName, RunFault, Status};
 use crate::running;
 use crate::running::run_with;
+use asn_jobs::{Job, Order, RuleName, RunFault, Status};
 use asn_oer::Oer;
 use asn_per::Per;
 use asn_plan::Planned;

@@ -5,10 +5,10 @@ ghost use Rattle.asn_convert.specs.Coming.{AreWholeLines, HasNoEnd, HasNoTypeFor
 ghost use Rattle.asn_convert.specs.Parts.{Wrote, Broke, LinesTold, LinesBegun};
 
 use crate::cut::cut_input;
-use crate::job::{Job, Order, RuleName, RunFault, Status};
 use crate::laws::lines_have_answers;
 use crate::put::put;
 use crate::running::{answer_lines, answer_module, module_in, with_plan};
+use asn_jobs::{Job, Order, RuleName, RunFault, Status};
 use asn_module::Module;
 use asn_newer::ReadNewer;
 use asn_plan::{PlanRules, Planned};

@@ -4,8 +4,8 @@ ghost use Rattle.asn_rules.specs.Answer.{Ruling};
 ghost use Rattle.asn_rules.specs.Laws.{RulesLaws};
 ghost use Rattle.asn_convert.specs.Converted.{TurnsBack};
 ghost use Rattle.asn_convert.specs.Parts.{LineHasAnswer};
-ghost use Rattle.asn_convert.specs.declared.job.Order.{Order};
-ghost use Rattle.asn_convert.specs.declared.job.RuleName.{RuleName};
+ghost use Rattle.asn_jobs.specs.declared.job.Order.{Order};
+ghost use Rattle.asn_jobs.specs.declared.job.RuleName.{RuleName};
 
 use asn_newer::ReadNewer;
 use asn_rules::Rules;

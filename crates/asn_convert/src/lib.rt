@@ -8,7 +8,6 @@ mod conversion;
 mod cut;
 mod digits;
 mod hex_writer;
-mod job;
 pub mod laws;
 mod newer;
 mod put;
@@ -16,8 +15,8 @@ mod reading;
 mod running;
 mod texts;
 
+pub use asn_jobs::{Job, Order, RuleName, RunFault, Status};
 pub use by_name::{answer_line, run, run_on_lines};
 pub use conversion::{ConvertFault, convert};
 pub use cut::{cut_input, next_line};
-pub use job::{Job, Order, RuleName, RunFault, Status};
 pub use reading::read_all;

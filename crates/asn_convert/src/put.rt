@@ -8,8 +8,8 @@ ghost use Rattle.asn_convert.specs.Put.{TextTold, TextBegun, DigitsTold, DigitsB
 ghost use Rattle.asn_convert.specs.Text.{IsFront};
 
 use crate::hex_writer::HexWriter;
-use crate::job::RunFault;
 use crate::texts::Answer;
+use asn_jobs::RunFault;
 use asn_rules::{Counted, EncodeToFault, Rules};
 use asn_values::{Checked, Value};
 use std::io::Write;

@@ -3,7 +3,7 @@ ghost use Rattle.std.specs.Prelude.{◌≡◌, IfOk, IfErr, OnErr};
 ghost use Rattle.asn_rules.specs.Faults.{inner_of, faults_of, Rose};
 ghost use Rattle.asn_convert.specs.Text.{IsGiven, IsReadFault};
 
-use crate::job::RunFault;
+use asn_jobs::RunFault;
 use asn_rules::Counted;
 use std::alloc::Global;
 use std::io::Read;

@@ -7,11 +7,11 @@ ghost use Rattle.asn_convert.specs.Text.{IsModule, IsOneLine, IsRefusal};
 
 use crate::answers::answer_to;
 use crate::cut::{cut_input, next_line};
-use crate::job::{Job, Order, RuleName, RunFault, Status};
 use crate::laws::lines_have_answers;
 use crate::put::{put, put_answer, put_octets};
 use crate::reading::read_all;
 use crate::texts::Reply;
+use asn_jobs::{Job, Order, RuleName, RunFault, Status};
 use asn_module::{Module, ModuleFault, read};
 use asn_newer::ReadNewer;
 use asn_plan::{PlanRules, Planned};

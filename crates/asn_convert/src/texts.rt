@@ -2,7 +2,7 @@
 ghost use Rattle.std.specs.Prelude.{◌≡◌, false, IfOk, string_bytes};
 ghost use Rattle.asn_convert.specs.Answers.{unit_of, TellsDecodeFault, TellsJsonFault, TellsNewerFault};
 
-use crate::job::RuleName;
+use asn_jobs::RuleName;
 use asn_json::JsonFault;
 use asn_newer::NewerFault;
 use asn_rules::{DecodeFault, Unit};

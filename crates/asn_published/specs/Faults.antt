@@ -1,7 +1,7 @@
 -- What is said of texts that become no module, in words.
 use Rattle.std.specs.Prelude.{◌++◌, ℕ, List, Option, Some, None, codes, string_bytes}
 use Rattle.std.specs.Fmt.{decimal}
-use Rattle.asn_published_read.specs.Words.{wrong_words}
+use Rattle.asn_published_text.specs.Words.{wrong_words}
 use Rattle.asn_published.specs.declared.fault.PublishedFault.{PublishedFault}
 use Rattle.asn_published.specs.declared.fault.PublishedFault.TheVariants as fault
 

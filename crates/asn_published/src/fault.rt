@@ -1,7 +1,8 @@
 //! Why published texts become no module of the profile.
 use asn_module::{BoundFault, ModuleFault};
-use asn_published_read::refusal::Refusal;
-use asn_published_read::wrong::{TextFault, Wrong};
+use asn_published_read::texts::Misread;
+use asn_published_text::refusal::Refusal;
+use asn_published_text::wrong::{TextFault, Wrong};
 use std::alloc::{AllocError, AllocFailed};
 use std::error::Error;
 use std::fmt;
@@ -86,5 +87,11 @@ impl From<BoundFault> for PublishedFault {
 impl From<Refusal> for PublishedFault {
     fn from(_e: Refusal) -> PublishedFault {
         PublishedFault::Memory
+    }
+}
+
+impl From<Misread> for PublishedFault {
+    fn from(fault: Misread) -> PublishedFault {
+        PublishedFault::of(fault.text, fault.fault)
     }
 }

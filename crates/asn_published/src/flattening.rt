@@ -5,21 +5,21 @@ ghost use Rattle.asn_module.specs.ModuleView.{types_view};
 ghost use Rattle.asn_module.specs.Sizes.{IsAtMost, types_size};
 
 use crate::fault::PublishedFault;
-use crate::missing::{MissingImport, missing_imports};
 use crate::naming::{level_mark_of, names_of};
-use crate::options::Options;
 use crate::refusing::refuse;
 use crate::reports::reports_of;
-use crate::written::{Written, write_all};
 use asn_module::{Module, read, read_within};
-use asn_published_read::class_table::Classes;
-use asn_published_read::modules::{What, World};
-use asn_published_read::reading::read_assignment;
+use asn_published_read::texts::read_texts;
+use asn_published_report::missing::{MissingImport, missing_imports};
+use asn_published_text::modules::{What, World};
+use asn_published_text::options::Options;
 use asn_published_types::building::Forest;
 use asn_published_types::numbers::numbers_of;
-use asn_published_types::order::{Order, order_of};
+use asn_published_types::order::order_of;
 use asn_published_types::pieces::push_pieces;
 use asn_published_types::report::TypeReport;
+use asn_published_write::sources::Sources;
+use asn_published_write::written::{Written, write_all};
 use std::alloc::{AllocError, Global};
 
 /// How often types are written again without one that the profile does not take.
@@ -33,63 +33,6 @@ pub struct Flattened {
     pub module: Module,
     pub report: Vec<TypeReport>,
     pub missing: Vec<MissingImport>,
-}
-
-/// What is read of the texts. Types are counted from the assignments on, and after them the instances.
-#[derive(Drop)]
-pub(crate) struct Sources<'t> {
-    pub world: World<'t>,
-    pub forest: Forest<'t>,
-    pub numbers: Vec<Option<i128>>,
-    pub names: Vec<String>,
-    /// What stands between the name of a type and the number of its level.
-    pub level_mark: String,
-    /// Of each type the first node.
-    pub firsts: Vec<Option<usize>>,
-    pub order: Order,
-}
-
-/// Reads the modules of all texts.
-fn world_of<'t>(alloc: Global, texts: &[&'t str]) -> Result<World<'t>, PublishedFault> {
-    let mut world = World::new(alloc);
-    for (index, text) in texts.iter().enumerate() {
-        match world.add(alloc, *text) {
-            Ok(()) => {}
-            Err(fault) => return Err(PublishedFault::of(index, fault)),
-        }
-    }
-    world.take_class_names();
-    world.take_value_sets();
-    let classes = classes_of(alloc, &world)?;
-    world.take_classes(classes);
-    read_all(alloc, &world)?;
-    Ok(world)
-}
-
-/// The classes that are defined.
-fn classes_of<'t>(alloc: Global, world: &World<'t>) -> Result<Classes<'t>, PublishedFault> {
-    let mut classes = match Classes::new(alloc) {
-        Ok(classes) => classes,
-        Err(fault) => return Err(PublishedFault::of(0, fault)),
-    };
-    for index in 0..world.assignments.len() {
-        match classes.take(alloc, world, index) {
-            Ok(()) => {}
-            Err(fault) => return Err(PublishedFault::of(text_of(world, index), fault)),
-        }
-    }
-    Ok(classes)
-}
-
-/// Reads all that stands in the assignments.
-fn read_all(alloc: Global, world: &World<'_>) -> Result<(), PublishedFault> {
-    for index in 0..world.assignments.len() {
-        match read_assignment(alloc, world, index) {
-            Ok(()) => {}
-            Err(fault) => return Err(PublishedFault::of(text_of(world, index), fault)),
-        }
-    }
-    Ok(())
 }
 
 /// Where the nodes of each type stand.
@@ -122,7 +65,7 @@ fn add_type<'t>(
 ) -> Result<(), PublishedFault> {
     match forest.add(alloc, world, assignment, instance) {
         Ok(first) => Ok(places.push(Some(first), forest.nodes.len())?),
-        Err(fault) => Err(PublishedFault::of(text_of(world, assignment), fault)),
+        Err(fault) => Err(PublishedFault::of(world.text_of(assignment), fault)),
     }
 }
 
@@ -161,7 +104,7 @@ fn places_of<'t>(
 
 /// Reads the texts, and builds the nodes of all types.
 fn sources_of<'t>(alloc: Global, texts: &[&'t str]) -> Result<Sources<'t>, PublishedFault> {
-    let world = world_of(alloc, texts)?;
+    let world = read_texts(alloc, texts)?;
     let mut forest = Forest::new(alloc);
     let places = places_of(alloc, &world, &mut forest)?;
     let numbers = numbers_of(alloc, &world)?;
@@ -178,17 +121,6 @@ fn sources_of<'t>(alloc: Global, texts: &[&'t str]) -> Result<Sources<'t>, Publi
         firsts,
         order,
     })
-}
-
-/// Which of the texts has an assignment, from 0.
-pub(crate) fn text_of(world: &World<'_>, assignment: usize) -> usize {
-    match world.assignment(assignment) {
-        Some(it) => match world.modules.get(it.module) {
-            Some(module) => module.file,
-            None => 0,
-        },
-        None => 0,
-    }
 }
 
 /// Appends a line for each type that is written.

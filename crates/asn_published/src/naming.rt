@@ -1,6 +1,6 @@
 //! The names of the types in the profile: a name of two modules gets its module's name in front, and an instance of a
 //! parameterized assignment a number after.
-use asn_published_read::modules::{Assignment, What, World};
+use asn_published_text::modules::{Assignment, What, World};
 use asn_published_types::instances::Instances;
 use std::alloc::{AllocError, Global};
 use std::collections::HashMap;

@@ -1,9 +1,10 @@
 //! Refuses the type for which the profile does not take the module that was written.
 use crate::fault::PublishedFault;
-use crate::flattening::{Sources, first_line};
-use crate::options::Options;
-use crate::written::{put, write_all};
+use crate::flattening::first_line;
 use asn_module::ModuleFault;
+use asn_published_text::options::Options;
+use asn_published_write::sources::Sources;
+use asn_published_write::written::{put, write_all};
 use std::alloc::{AllocError, Global};
 
 /// Whether a type has a name in the profile, or one of its levels, after whose mark a number stands.

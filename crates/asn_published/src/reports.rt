@@ -1,6 +1,6 @@
 //! The reports of all types, each with those that it refers to.
-use crate::written::Written;
 use asn_published_types::report::TypeReport;
+use asn_published_write::written::Written;
 use std::alloc::{AllocError, Global};
 
 /// Of each type its index in the report, where it has one.

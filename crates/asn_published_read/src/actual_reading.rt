@@ -1,10 +1,12 @@
 //! Reads the parameters of parameterized assignments, and what references give for them (X.683).
-use crate::modules::World;
 use crate::reading::{Reading, Work};
-use crate::token::{Kind, Sign};
-use crate::tokens::{Tokens, next};
-use crate::value_kinds::Values;
-use crate::wrong::TextFault;
+use crate::value_kinds::values_at;
+use crate::value_sets::leads_to_type;
+use asn_published_text::modules::World;
+use asn_published_text::token::{Kind, Sign};
+use asn_published_text::tokens::{Tokens, next};
+use asn_published_text::values::Values;
+use asn_published_text::wrong::TextFault;
 use std::alloc::Global;
 
 /// How many lexical items of a parameter are looked at.
@@ -180,7 +182,7 @@ impl<'a, 't> Reading<'a, 't> {
     ) -> Result<usize, TextFault> {
         let (module, start, end) = governor;
         let class = self.world.class_named(module, start, end);
-        let is_type = class.is_none() && self.world.leads_to_type(module, start);
+        let is_type = class.is_none() && leads_to_type(self.world, module, start);
         if self.tokens.is(at, Sign::LeftBrace) && !is_type {
             let work = match class {
                 Some(class) => self.object_of(class, at),
@@ -190,7 +192,7 @@ impl<'a, 't> Reading<'a, 't> {
             return Ok(self.tokens.after(at));
         }
         let values = if is_type {
-            self.world.values_at(module, start, self.is_plain)
+            values_at(self.world, module, start, self.is_plain)
         } else {
             Values::Any
         };
@@ -202,7 +204,7 @@ impl<'a, 't> Reading<'a, 't> {
         let (module, start, end) = governor;
         match self.world.class_named(module, start, end) {
             Some(class) => self.objects_of(class, braces),
-            None if self.world.leads_to_type(module, start) => Work::Elements { open: braces },
+            None if leads_to_type(self.world, module, start) => Work::Elements { open: braces },
             None => Work::Any { braces },
         }
     }

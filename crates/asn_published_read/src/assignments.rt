@@ -1,13 +1,13 @@
 //! Where each assignment of a module begins and ends (X.680, "assignments").
-use crate::extents::type_end;
-use crate::modules::{Assignment, ModuleText, What};
-use crate::prefixes::is_own_reference;
-use crate::syntax::is_literal;
-use crate::token::{Kind, Sign};
-use crate::tokens::{Tokens, next};
-use crate::value_steps::value_end;
-use crate::words::is_reserved;
-use crate::wrong::{TextFault, Wrong};
+use asn_published_text::extents::type_end;
+use asn_published_text::instructions::is_own_reference;
+use asn_published_text::modules::{Assignment, ModuleText, What};
+use asn_published_text::syntax::is_literal;
+use asn_published_text::token::{Kind, Sign};
+use asn_published_text::tokens::{Tokens, next};
+use asn_published_text::value_steps::value_end;
+use asn_published_text::words::is_reserved;
+use asn_published_text::wrong::{TextFault, Wrong};
 
 /// The index after a class that is defined, after the word CLASS.
 fn class_end(tokens: &Tokens<'_>, from: usize) -> Result<usize, TextFault> {

@@ -1,11 +1,11 @@
 //! Reads constraints and sets of values (X.680, "constrained types"; X.682), what stands in brackets apart.
-use crate::extents::{after_braces, type_end};
-use crate::places::{Unseen, is_and, is_contained, is_or, unseen_at};
-use crate::reading::{Reading, Work, before};
-use crate::token::Sign;
-use crate::tokens::{Tokens, next};
-use crate::value_kinds::Values;
-use crate::wrong::TextFault;
+use crate::reading::{Reading, Work};
+use asn_published_text::extents::{after_braces, type_end};
+use asn_published_text::places::{Unseen, is_and, is_contained, is_or, unseen_at};
+use asn_published_text::token::Sign;
+use asn_published_text::tokens::{Tokens, before, next};
+use asn_published_text::values::Values;
+use asn_published_text::wrong::TextFault;
 use std::alloc::Global;
 
 /// Whether another element of a set follows the item at `at`.

@@ -1,8 +1,8 @@
 //! Cuts a text into its lexical items (X.680, "ASN.1 lexical items"), with both kinds of comment.
 use crate::octets::{Place, octet_at, on, step};
-use crate::token::{Kind, Sign, Token};
-use crate::wrong::{TextFault, Wrong};
 use crate::xml::after_xml;
+use asn_published_text::token::{Kind, Sign, Token};
+use asn_published_text::wrong::{TextFault, Wrong};
 use std::alloc::Global;
 
 /// How many characters a name may have, which stands in each line of a report.
@@ -300,7 +300,7 @@ fn item_at(octets: &[u8], from: Place) -> Result<(Kind, Place), TextFault> {
 }
 
 /// The lexical items of a text, in order.
-pub(crate) fn tokens_of<'t>(alloc: Global, text: &'t str) -> Result<Vec<Token<'t>>, TextFault> {
+pub(crate) fn items_of<'t>(alloc: Global, text: &'t str) -> Result<Vec<Token<'t>>, TextFault> {
     let octets = text.as_bytes();
     let mut tokens = Vec::new(alloc);
     let mut place = Place { at: 0, line: 1 };

@@ -1,33 +1,22 @@
-//! Reads published modules of ASN.1 (X.680 to X.683): lexical items, modules, all that stands in their assignments, and
-//! what a name stands for.
+//! Reads published modules of ASN.1 (X.680 to X.683): lexical items, modules, and all that stands in their assignments.
 #![tactic(auto)]
 
 mod actual_reading;
 mod assignments;
-pub mod class_fields;
-pub mod class_table;
+mod brackets;
+mod class_reading;
 mod constraint_reading;
-pub mod extents;
-mod finding;
-pub mod groups;
 mod lexer;
-pub mod modules;
-pub mod nodes;
+mod module_reading;
 mod object_reading;
 mod octets;
-pub mod places;
-pub mod prefixes;
-pub mod reading;
-pub mod refusal;
-pub mod syntax;
-pub mod token;
-pub mod tokens;
+mod prefixes;
+mod reading;
+mod syntax_reading;
+pub mod texts;
 mod type_reading;
 mod value_forms;
 mod value_kinds;
 mod value_reading;
-pub mod value_sets;
-pub mod value_steps;
-pub mod words;
-pub mod wrong;
+mod value_sets;
 mod xml;

@@ -1,17 +1,18 @@
 //! Reads objects and sets of objects (X.681, "object assignment", "object set assignment"): what an object gives for each
 //! field of its class, by the names of the fields or by the syntax of the class.
-use crate::class_table::{ClassField, ClassTable, FieldKind, after_field_name};
+use crate::class_reading::after_field_name;
 use crate::constraint_reading::{after_all, is_operator, is_type};
-use crate::extents::type_end;
-use crate::reading::{Reading, Work, before};
-use crate::syntax::{Item, Syntax, is_literal};
-use crate::token::{Kind, Sign};
-use crate::tokens::{Tokens, next};
+use crate::reading::{Reading, Work};
 use crate::value_forms::has_components;
-use crate::value_kinds::Values;
-use crate::value_sets::ClassName;
-use crate::words::{is_reserved, is_type_word};
-use crate::wrong::TextFault;
+use asn_published_text::class_names::ClassName;
+use asn_published_text::classes::{ClassField, ClassTable, FieldKind};
+use asn_published_text::extents::type_end;
+use asn_published_text::syntax::{Item, Syntax, is_literal};
+use asn_published_text::token::{Kind, Sign};
+use asn_published_text::tokens::{Tokens, before, next};
+use asn_published_text::values::Values;
+use asn_published_text::words::{is_reserved, is_type_word};
+use asn_published_text::wrong::TextFault;
 use std::alloc::Global;
 use std::collections::HashMap;
 

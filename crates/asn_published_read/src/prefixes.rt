@@ -1,7 +1,7 @@
 //! Encoding prefixes (X.680, "encoding prefixed type"): which brackets begin one, by their encoding reference, or by that of
 //! the module, as `XER INSTRUCTIONS`. What stands in them is defined by the Recommendation of that reference.
-use crate::token::{Kind, Sign, Token};
-use crate::tokens::{Tokens, next};
+use asn_published_text::token::{Kind, Sign, Token};
+use asn_published_text::tokens::next;
 
 /// The text of an item; none past the end.
 fn text_at<'t>(items: &[Token<'t>], index: usize) -> &'t str {
@@ -82,29 +82,4 @@ pub(crate) fn mark_prefixes(items: &mut Vec<Token<'_>>, others: &[usize]) {
         }
         at = after_syntax(items.as_slice(), others, at);
     }
-}
-
-/// Whether an encoding reference is one of PER or OER, whose instructions say how values are encoded.
-pub(crate) fn is_own_reference(word: &str) -> bool {
-    word == "PER" || word == "OER"
-}
-
-/// Whether one of the tags and encoding prefixes at `from` has an instruction of PER or OER.
-pub fn has_own_instruction(tokens: &Tokens<'_>, from: usize) -> bool {
-    let mut at = from;
-    for _ in 0..tokens.len() {
-        if !tokens.is_bracket(at) {
-            break;
-        }
-        let reference = next(at);
-        let is_named = tokens.is(next(reference), Sign::Colon);
-        if tokens.is(at, Sign::Prefix) && is_named && is_own_reference(tokens.text(reference)) {
-            return true;
-        }
-        at = tokens.after(at);
-        if tokens.is_word(at, "IMPLICIT") || tokens.is_word(at, "EXPLICIT") {
-            at = next(at);
-        }
-    }
-    false
 }

@@ -1,8 +1,8 @@
 //! Reads all that stands in assignments, each from a stack of what is still to be read, however deep it is nested.
-use crate::modules::{Assignment, What, World};
-use crate::token::{Kind, Sign};
-use crate::tokens::{Tokens, next};
-use crate::wrong::TextFault;
+use asn_published_text::modules::{Assignment, What, World};
+use asn_published_text::token::{Kind, Sign};
+use asn_published_text::tokens::{Tokens, next};
+use asn_published_text::wrong::TextFault;
 use std::alloc::Global;
 
 /// What is still to be read of an assignment. Indexes are those of lexical items.
@@ -58,13 +58,8 @@ pub(crate) struct Reading<'a, 't> {
     pub(crate) is_plain: bool,
 }
 
-/// The index before this one.
-pub fn before(at: usize) -> usize {
-    at.saturating_sub(1)
-}
-
 /// Reads all that stands in an assignment.
-pub fn read_assignment<'t>(
+pub(crate) fn read_assignment<'t>(
     alloc: Global,
     world: &World<'t>,
     index: usize,

@@ -1,14 +1,15 @@
 //! Reads types (X.680) with what they hold: tags, components, items, named numbers, parameters and constraints.
-use crate::extents::{Rest, rest_of, type_end};
-use crate::groups::{after_version, is_group};
 use crate::reading::{Reading, Work};
-use crate::token::Sign;
-use crate::tokens::{Tokens, next};
 use crate::value_forms::{after_named_number, has_named_numbers, has_tag};
-use crate::value_kinds::Values;
-use crate::value_steps::{Start, step_at};
-use crate::words::{is_reserved, is_type_word, second_word};
-use crate::wrong::TextFault;
+use crate::value_kinds::values_at;
+use asn_published_text::extents::{Rest, rest_of, type_end};
+use asn_published_text::groups::{after_version, is_group};
+use asn_published_text::token::Sign;
+use asn_published_text::tokens::{Tokens, next};
+use asn_published_text::value_steps::{Start, step_at};
+use asn_published_text::values::Values;
+use asn_published_text::words::{is_reserved, is_type_word, second_word};
+use asn_published_text::wrong::TextFault;
 use std::alloc::Global;
 
 /// The index after the tags and encoding prefixes at `from`.
@@ -316,7 +317,7 @@ impl<'a, 't> Reading<'a, 't> {
         if !self.tokens.is_word(at, "DEFAULT") {
             return Ok(at);
         }
-        let values = self.world.values_at(self.module, start, self.is_plain);
+        let values = values_at(self.world, self.module, start, self.is_plain);
         self.read_value(alloc, todo, next(at), values)
     }
 

@@ -1,7 +1,7 @@
 //! Values in braces that hold no others: of which form they are (X.680: "object identifier value", "real value",
 //! "bitstring value", "restricted character string value").
-use crate::token::{Kind, Sign};
-use crate::tokens::{Tokens, next};
+use asn_published_text::token::{Kind, Sign};
+use asn_published_text::tokens::{Tokens, next};
 
 /// The index after a name of a value at `at`, as `name` or `Module.name`; `None` where there is none.
 fn after_name(tokens: &Tokens<'_>, at: usize) -> Option<usize> {

@@ -1,10 +1,11 @@
 //! Reads values (X.680, "value assignment"), from a stack of the braces that are open, however deep they are nested.
-use crate::reading::{Reading, Work, before};
-use crate::token::Sign;
-use crate::tokens::{Tokens, next};
-use crate::value_kinds::Values;
-use crate::value_steps::{Follows, Start, step_at};
-use crate::wrong::TextFault;
+use crate::reading::{Reading, Work};
+use crate::value_kinds::{are_whole, begin_with, values_at, words_of};
+use asn_published_text::token::Sign;
+use asn_published_text::tokens::{Tokens, before, next};
+use asn_published_text::value_steps::{Follows, Start, step_at};
+use asn_published_text::values::Values;
+use asn_published_text::wrong::TextFault;
 use std::alloc::Global;
 
 /// Braces that are open: the index of the other one, and whether each value in them has a name.
@@ -133,8 +134,8 @@ impl<'a, 't> Reading<'a, 't> {
     ) -> Result<(usize, Option<Values>), TextFault> {
         let tokens = self.tokens;
         let step = step_at(tokens, at)?;
-        if !values.begin_with(step.start) {
-            return Err(tokens.expected(at, values.words()));
+        if !begin_with(values, step.start) {
+            return Err(tokens.expected(at, words_of(values)));
         }
         match step.follows {
             Follows::Nothing(behind) => {
@@ -144,12 +145,12 @@ impl<'a, 't> Reading<'a, 't> {
             Follows::Value(inner) if step.start == Start::Open => {
                 let end = before(inner);
                 self.push(todo, Work::Type { from: at, end })?;
-                let values = self.world.values_at(self.module, at, self.is_plain);
+                let values = values_at(self.world, self.module, at, self.is_plain);
                 Ok((inner, Some(values)))
             }
             Follows::Value(inner) => Ok((inner, Some(Values::Any))),
             Follows::Braces(braces) => {
-                if values.are_whole(tokens, braces)? {
+                if are_whole(values, tokens, braces)? {
                     Ok((tokens.after(braces), None))
                 } else {
                     let first = open_braces(tokens, open, braces, values)?;

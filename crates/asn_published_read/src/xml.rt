@@ -1,6 +1,6 @@
 //! Values in XML (X.680, "XML value assignment"): elements inside one another, each with the end tag of its name.
 use crate::octets::{Place, octet_at, on, step};
-use crate::wrong::{TextFault, Wrong};
+use asn_published_text::wrong::{TextFault, Wrong};
 use std::alloc::Global;
 
 /// The name of an element: the octets from one index to before another.

@@ -1,6 +1,6 @@
 -- What is said of a component in words.
 use Rattle.std.specs.Prelude.{◌++◌, ℕ, List, codes}
-use Rattle.asn_published_read.specs.Words.{reason_of}
+use Rattle.asn_published_text.specs.Words.{reason_of}
 use Rattle.asn_published_types.specs.Statuses.{word_of}
 use Rattle.asn_published_types.specs.declared.report.Remark.{Remark}
 use Rattle.asn_published_types.specs.declared.report.Remark.TheVariants as remark

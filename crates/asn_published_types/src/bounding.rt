@@ -1,11 +1,11 @@
 //! Single values and ranges of constraints.
 use crate::numbers::{Scope, Values};
+use crate::places::{after_value, letter_at};
 use crate::ranges::{Range, Ranges};
 use crate::seen::{MOST_RANGES, Mode, Seen};
-use asn_published_read::places::{after_value, letter_at};
-use asn_published_read::refusal::{Refusal, Why, refused};
-use asn_published_read::token::{Kind, Sign};
-use asn_published_read::tokens::next;
+use asn_published_text::refusal::{Refusal, Why, refused};
+use asn_published_text::token::{Kind, Sign};
+use asn_published_text::tokens::next;
 use std::alloc::Global;
 
 /// Where a range begins or ends.

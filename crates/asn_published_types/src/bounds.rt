@@ -3,7 +3,7 @@ ghost use Rattle.std.specs.Prelude.{ℤ, IfOk};
 ghost use Rattle.asn_published_types.specs.Left.{IsBetween, IsLeft};
 
 use crate::ranges::{Range, Ranges};
-use asn_published_read::refusal::{Refusal, Why, refused};
+use asn_published_text::refusal::{Refusal, Why, refused};
 use asn_values::profile::{HIGHEST_INTEGER, LOWEST_INTEGER, MAX_SIZE_BOUND};
 use std::alloc::{AllocError, Global};
 

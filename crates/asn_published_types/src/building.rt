@@ -1,12 +1,12 @@
 //! Builds the nodes of a type: one after the other from a stack, however deep they are nested.
 use crate::instances::Instances;
-use asn_published_read::extents::{Rest, after_constraints, after_tags, rest_of};
-use asn_published_read::modules::World;
-use asn_published_read::nodes::{Holder, Member, Node, Shape};
-use asn_published_read::prefixes::has_own_instruction;
-use asn_published_read::refusal::Why;
-use asn_published_read::tokens::{Tokens, next};
-use asn_published_read::wrong::TextFault;
+use asn_published_text::extents::{Rest, after_constraints, after_tags, rest_of};
+use asn_published_text::instructions::has_own_instruction;
+use asn_published_text::modules::World;
+use asn_published_text::nodes::{Holder, Member, Node, Shape};
+use asn_published_text::refusal::Why;
+use asn_published_text::tokens::{Tokens, next};
+use asn_published_text::wrong::TextFault;
 use std::alloc::Global;
 
 /// How many nodes may be built, beyond which no instance is.

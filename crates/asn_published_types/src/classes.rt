@@ -1,13 +1,13 @@
 //! Fields of information object classes as types (X.681, "object class field type").
 use crate::objects::given_by;
-use asn_published_read::class_fields::sign_of_field;
-use asn_published_read::class_table::{ClassField, FieldKind};
-use asn_published_read::extents::type_end;
-use asn_published_read::modules::World;
-use asn_published_read::refusal::Why;
-use asn_published_read::token::Sign;
-use asn_published_read::tokens::{Tokens, next};
-use asn_published_read::value_sets::{ClassName, built_in};
+use asn_published_text::class_fields::sign_of_field;
+use asn_published_text::class_names::{ClassName, built_in};
+use asn_published_text::classes::{ClassField, FieldKind};
+use asn_published_text::extents::type_end;
+use asn_published_text::modules::World;
+use asn_published_text::refusal::Why;
+use asn_published_text::token::Sign;
+use asn_published_text::tokens::{Tokens, next};
 
 /// What a field of a class is where a type stands.
 #[derive(Clone, Copy)]

@@ -4,13 +4,12 @@ ghost use Rattle.asn_published_types.specs.Left.{IsLeft};
 
 use crate::info::{Base, State};
 use crate::numbers::{Scope, Values};
+use crate::places::{after_table, after_unseen, mark_at, root_end};
 use crate::seen::{Mode, Seen, both_of, either_of, exception, intersection};
-use asn_published_read::places::{
-    after_table, after_unseen, is_and, is_contained, is_or, mark_at, root_end,
-};
-use asn_published_read::refusal::{Refusal, Why, refused};
-use asn_published_read::token::Sign;
-use asn_published_read::tokens::next;
+use asn_published_text::places::{is_and, is_contained, is_or};
+use asn_published_text::refusal::{Refusal, Why, refused};
+use asn_published_text::token::Sign;
+use asn_published_text::tokens::next;
 use std::alloc::Global;
 
 /// How deep constraints are read: four levels for each parenthesis.

@@ -2,7 +2,7 @@
 use crate::ranges::Ranges;
 use crate::report::Status;
 use crate::seen::Seen;
-use asn_published_read::nodes::Letters;
+use asn_published_text::nodes::Letters;
 use std::alloc::{AllocError, Global};
 
 /// What kind of type it is, as far as constraints and DEFAULT see it.

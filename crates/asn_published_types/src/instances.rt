@@ -1,9 +1,9 @@
 //! Parameterized assignments as they are referred to (X.683): what stands in the place of each parameter.
 use crate::pieces::push_pieces;
-use asn_published_read::modules::World;
-use asn_published_read::refusal::Why;
-use asn_published_read::token::Sign;
-use asn_published_read::tokens::{Tokens, next};
+use asn_published_text::modules::World;
+use asn_published_text::refusal::Why;
+use asn_published_text::token::Sign;
+use asn_published_text::tokens::{Tokens, next};
 use std::alloc::{AllocError, Global};
 use std::collections::HashMap;
 

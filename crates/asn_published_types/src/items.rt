@@ -2,9 +2,9 @@
 use crate::limits::{MOST_ITEM_ADDITIONS, MOST_ITEMS, within};
 use crate::membering::after_exception;
 use crate::numbers::{Scope, Values};
-use asn_published_read::refusal::{Refusal, Why, refused};
-use asn_published_read::token::Sign;
-use asn_published_read::tokens::{Tokens, next};
+use asn_published_text::refusal::{Refusal, Why, refused};
+use asn_published_text::token::Sign;
+use asn_published_text::tokens::{Tokens, next};
 use std::alloc::Global;
 use std::collections::HashMap;
 

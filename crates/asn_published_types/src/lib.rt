@@ -17,6 +17,7 @@ pub mod numbers;
 mod objects;
 pub mod order;
 pub mod pieces;
+mod places;
 pub mod ranges;
 pub mod report;
 pub mod seen;

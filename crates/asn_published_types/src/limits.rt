@@ -1,9 +1,9 @@
 //! How large the profile lets a type be, and what is told where one is larger.
 ghost use Rattle.std.specs.Prelude.{◌≡◌, ◌≤◌, ◌<◌, IfErr, IfOk};
-ghost use Rattle.asn_published_read.specs.declared.refusal.Refusal.TheVariants as refusal;
-ghost use Rattle.asn_published_read.specs.declared.refusal.Why.TheVariants as why;
+ghost use Rattle.asn_published_text.specs.declared.refusal.Refusal.TheVariants as refusal;
+ghost use Rattle.asn_published_text.specs.declared.refusal.Why.TheVariants as why;
 
-use asn_published_read::refusal::{Refusal, Why, refused};
+use asn_published_text::refusal::{Refusal, Why, refused};
 use asn_values::profile::{
     MAX_ADDITIONS, MAX_ALTERNATIVES, MAX_COMPONENTS, MAX_ITEM_ADDITIONS, MAX_ITEMS, MAX_LEVELS,
     MAX_TYPES,

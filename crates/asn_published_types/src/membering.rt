@@ -1,13 +1,13 @@
 //! Takes the components, alternatives, marks and groups of a type (X.680, "sequence type", "choice type").
 use crate::building::{Forest, Task};
 use crate::tags::is_tag;
-use asn_published_read::extents::type_end;
-use asn_published_read::groups::{after_version, is_group, is_group_end};
-use asn_published_read::nodes::{Holder, Member, MemberKind, Need, Shape};
-use asn_published_read::token::{Kind, Sign};
-use asn_published_read::tokens::{Tokens, next};
-use asn_published_read::value_steps::value_end;
-use asn_published_read::wrong::TextFault;
+use asn_published_text::extents::type_end;
+use asn_published_text::groups::{after_version, is_group, is_group_end};
+use asn_published_text::nodes::{Holder, Member, MemberKind, Need, Shape};
+use asn_published_text::token::{Kind, Sign};
+use asn_published_text::tokens::{Tokens, next};
+use asn_published_text::value_steps::value_end;
+use asn_published_text::wrong::TextFault;
 
 /// A place among the members of a type: the index, and how many extension marks and groups stand before it.
 #[derive(Clone, Copy)]

@@ -1,9 +1,9 @@
 //! Named numbers of INTEGER (X.680, "integer type").
-use asn_published_read::extents::after_tags;
-use asn_published_read::modules::{Assignment, What, World};
-use asn_published_read::refusal::Why;
-use asn_published_read::token::Sign;
-use asn_published_read::tokens::{Tokens, next};
+use asn_published_text::extents::after_tags;
+use asn_published_text::modules::{Assignment, What, World};
+use asn_published_text::refusal::Why;
+use asn_published_text::token::Sign;
+use asn_published_text::tokens::{Tokens, next};
 
 /// How many named numbers are looked at for a name.
 const MOST_NAMES: u32 = 1000;

@@ -4,10 +4,10 @@ use crate::instances::Instances;
 use crate::named_numbers::{named_number_of, place_of_named};
 use crate::objects::{given_by, object_field_at};
 use crate::ranges::Ranges;
-use asn_published_read::modules::{What, World};
-use asn_published_read::refusal::{Refusal, Why, refused};
-use asn_published_read::token::{Kind, Sign};
-use asn_published_read::tokens::{Tokens, next};
+use asn_published_text::modules::{What, World};
+use asn_published_text::refusal::{Refusal, Why, refused};
+use asn_published_text::token::{Kind, Sign};
+use asn_published_text::tokens::{Tokens, next};
 use std::alloc::Global;
 
 /// The number that digits write, up to 30 of them.

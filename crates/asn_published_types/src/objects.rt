@@ -1,13 +1,12 @@
 //! What objects give for the fields of their classes (X.681, "information from objects").
-use asn_published_read::class_table::{ClassTable, FieldKind};
-use asn_published_read::extents::type_end;
-use asn_published_read::modules::{Assignment, What, World};
-use asn_published_read::reading::before;
-use asn_published_read::refusal::Why;
-use asn_published_read::syntax::{Item, Syntax};
-use asn_published_read::token::Sign;
-use asn_published_read::tokens::{Tokens, next};
-use asn_published_read::value_steps::value_end;
+use asn_published_text::classes::{ClassTable, FieldKind};
+use asn_published_text::extents::type_end;
+use asn_published_text::modules::{Assignment, What, World};
+use asn_published_text::refusal::Why;
+use asn_published_text::syntax::{Item, Syntax};
+use asn_published_text::token::Sign;
+use asn_published_text::tokens::{Tokens, before, next};
+use asn_published_text::value_steps::value_end;
 
 /// How many lexical items of an object are looked at.
 const MOST_ITEMS: u32 = 400;

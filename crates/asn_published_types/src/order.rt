@@ -1,7 +1,7 @@
 //! An order of the types in which each comes after those that it refers to, but for recursion: those that refer to one
 //! another come one after the other (Tarjan's algorithm). No call goes deeper for a longer chain of references.
 use crate::building::Forest;
-use asn_published_read::nodes::Shape;
+use asn_published_text::nodes::Shape;
 use std::alloc::{AllocError, Global};
 
 /// The types in order, and of each in which cycle of references it lies, by one of the types of the cycle.

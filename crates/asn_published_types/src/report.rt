@@ -2,7 +2,7 @@
 ghost use Rattle.std.specs.Prelude.{◌≡◌, ◌≤◌, ◌⊎◌};
 ghost use Rattle.asn_published_types.specs.Statuses.{distance, status_of};
 
-use asn_published_read::refusal::Why;
+use asn_published_text::refusal::Why;
 use std::fmt;
 
 /// How the encodings of a type of the profile stand to those of the published type.

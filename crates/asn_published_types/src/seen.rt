@@ -4,7 +4,7 @@ ghost use Rattle.std.specs.Prelude.{◌≡◌, ℤ, IfOk, ◌↔◌, ◌⊎◌};
 ghost use Rattle.asn_published_types.specs.Left.{IsLeft};
 
 use crate::ranges::{Range, Ranges, joined, met};
-use asn_published_read::refusal::{Refusal, Why, refused};
+use asn_published_text::refusal::{Refusal, Why, refused};
 use std::alloc::{AllocError, Global};
 
 /// How many ranges a set is given.

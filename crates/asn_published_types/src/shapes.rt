@@ -3,14 +3,14 @@ use crate::building::{Forest, Task};
 use crate::classes::{Field, field_at};
 use crate::instances::{Actual, Instance, are_as_many};
 use crate::tags::is_tag;
-use asn_published_read::class_fields::is_class_field;
-use asn_published_read::modules::{What, World};
-use asn_published_read::nodes::{Holder, Node, Shape};
-use asn_published_read::refusal::Why;
-use asn_published_read::token::Sign;
-use asn_published_read::tokens::{Tokens, next};
-use asn_published_read::words::{bits_at, holder_named, named_by_word, second_word};
-use asn_published_read::wrong::TextFault;
+use asn_published_text::class_fields::is_class_field;
+use asn_published_text::modules::{What, World};
+use asn_published_text::nodes::{Holder, Node, Shape};
+use asn_published_text::refusal::Why;
+use asn_published_text::token::Sign;
+use asn_published_text::tokens::{Tokens, next};
+use asn_published_text::words::{bits_at, holder_named, named_by_word, second_word};
+use asn_published_text::wrong::TextFault;
 use std::alloc::Global;
 
 impl<'t> Forest<'t> {

@@ -16,9 +16,9 @@ use Rattle.asn_plan.specs.Within.{IsTaken}
 use Rattle.asn_plan.specs.declared.budget.Taken.{Taken}
 use Rattle.asn_convert.specs.Named.{OneTold, OneBegun}
 use Rattle.asn_convert.specs.Text.{IsFront, Stops, Writes, ended}
-use Rattle.asn_convert.specs.declared.job.Order.{Order}
-use Rattle.asn_convert.specs.declared.job.RuleName.{RuleName}
-use Rattle.asn_convert.specs.declared.job.RunFault.{RunFault}
+use Rattle.asn_jobs.specs.declared.job.Order.{Order}
+use Rattle.asn_jobs.specs.declared.job.RuleName.{RuleName}
+use Rattle.asn_jobs.specs.declared.job.RunFault.{RunFault}
 use Rattle.asn_convert.proofs.Told.{stops_so, writes_so}
 use Rattle.asn_tool.specs.declared.budget.Answered.TheVariants as answered
 use Rattle.asn_tool.specs.Budget.{BegunWithin, IsLineOver, IsLineWithin, TakesNoMore, ToldWithin, budget_of, over_text}

@@ -1,10 +1,3 @@
 pub mod Budgets
-pub mod Exactly
-pub mod FoundJob
-pub mod Given
 pub mod Laid
-pub mod NotHelp
-pub mod Refusals
-pub mod SetOptions
 pub mod Sourced
-pub mod Taken

@@ -15,9 +15,9 @@ use Rattle.asn_plan.specs.declared.budget.Taken.{Taken}
 use Rattle.asn_convert.specs.Answers.{Rulings}
 use Rattle.asn_convert.specs.Named.{OneTold, OneBegun, rulings_of}
 use Rattle.asn_convert.specs.Text.{IsFront, ended}
-use Rattle.asn_convert.specs.declared.job.Order.{Order}
-use Rattle.asn_convert.specs.declared.job.Order.TheVariants as order
-use Rattle.asn_convert.specs.declared.job.RuleName.{RuleName}
+use Rattle.asn_jobs.specs.declared.job.Order.{Order}
+use Rattle.asn_jobs.specs.declared.job.Order.TheVariants as order
+use Rattle.asn_jobs.specs.declared.job.RuleName.{RuleName}
 use Rattle.asn_tool.specs.declared.budget.Answered.{Answered}
 use Rattle.asn_tool.specs.declared.budget.Answered.TheVariants as answered
 

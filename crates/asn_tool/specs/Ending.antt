@@ -1,10 +1,10 @@
 -- How the program ends.
 use Rattle.std.specs.Prelude.{ℕ, Bool, true, false, List, [], codes, Result, Ok, Err}
 use Rattle.clap.specs.Words.{Text}
-use Rattle.asn_convert.specs.declared.job.RunFault.{RunFault}
-use Rattle.asn_convert.specs.declared.job.RunFault.TheVariants as fault
-use Rattle.asn_convert.specs.declared.job.Status.{Status}
-use Rattle.asn_convert.specs.declared.job.Status.TheVariants as status
+use Rattle.asn_jobs.specs.declared.job.RunFault.{RunFault}
+use Rattle.asn_jobs.specs.declared.job.RunFault.TheVariants as fault
+use Rattle.asn_jobs.specs.declared.job.Status.{Status}
+use Rattle.asn_jobs.specs.declared.job.Status.TheVariants as status
 use Rattle.asn_tool.specs.declared.stop.Stop.{Stop}
 use Rattle.asn_tool.specs.declared.stop.Stop.TheVariants as stop
 

@@ -1,5 +1,4 @@
 //! The answer to one message, in the form and the layout that is asked for, while standard error tells why it is refused.
-use crate::asking::{Asking, Forms, Versions};
 use crate::budget::{Answered, answer_within};
 use crate::counting::Counts;
 use crate::explaining::{over_words, why_refused};
@@ -7,11 +6,11 @@ use crate::laying::laid_text;
 use crate::newer_json::{TakenBack, newer_line, taken_back};
 use crate::progress::Progress;
 use asn_convert::{Job, Order, RuleName, RunFault, answer_line};
+use asn_jobs::{CountFault, OctetForm, octets_in, text_of};
 use asn_json_layout::Layout;
-use asn_octet_forms::{OctetForm, octets_in, text_of};
 use asn_plan::Planned;
+use asn_request::asking::{Asking, Forms, Versions};
 use asn_rules::Counted;
-use asn_stats::CountFault;
 use asn_values::Checked;
 use std::alloc::{AllocError, Global};
 use std::io::Write;

@@ -1,9 +1,9 @@
 //! What is counted of the messages of a job.
 use asn_convert::RuleName;
+use asn_jobs::{CountFault, Sizes, Tally};
 use asn_oer::Oer;
 use asn_per::Per;
 use asn_rules::{DecodeFault, decode};
-use asn_stats::{CountFault, Sizes, Tally};
 use asn_values::Checked;
 use asn_view::Viewed;
 use std::alloc::{AllocError, Global};

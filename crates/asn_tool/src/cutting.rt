@@ -1,6 +1,6 @@
 //! The texts of messages, cut one after the other from an input.
 use asn_convert::RunFault;
-use asn_octet_forms::OctetForm;
+use asn_jobs::OctetForm;
 use std::io;
 use std::io::{BufRead, ErrorKind};
 

@@ -1,5 +1,4 @@
 //! Published modules as one module of the profile.
-use crate::request::Form;
 use crate::sources::MOST;
 use crate::stop::Stop;
 use crate::texts::{texts_of, views_of};
@@ -7,6 +6,7 @@ use asn_published::{
     Flattened, Options, Status, TypeReport, flatten_within, missing_json, missing_text,
     report_json, report_text, summary_of,
 };
+use asn_request::request::Form;
 use std::alloc::{AllocError, Global};
 
 /// Writes the module that the published modules of these files become to standard output, and what became of each type

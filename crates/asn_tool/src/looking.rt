@@ -1,8 +1,6 @@
 //! What is shown of a module: its types, values of a type to begin from, and messages field by field.
-use crate::asking::Asking;
 use crate::examples::example_line;
 use crate::field_lines::{Shown, show_messages};
-use crate::look::{Look, Looking};
 use crate::refused::text_told;
 use crate::running::{run_on, stopped, tell_remarks, tells_of_module};
 use crate::sources::{Instead, input_with, instead_of, module_of};
@@ -12,6 +10,8 @@ use asn_convert::{Job, Order, cut_input, read_all};
 use asn_fields::outline;
 use asn_module::Module;
 use asn_published::Options;
+use asn_request::asking::Asking;
+use asn_request::look::{Look, Looking};
 use asn_rules::Counted;
 use asn_values::Checked;
 use std::alloc::{AllocError, Global};

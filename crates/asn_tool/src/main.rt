@@ -3,7 +3,6 @@
 #![tactic(auto)]
 
 mod answering;
-mod asking;
 mod budget;
 mod counting;
 mod cutting;
@@ -13,31 +12,25 @@ mod explaining;
 mod field_lines;
 mod flattening;
 mod fronts;
-mod help;
 mod laying;
-mod look;
 mod looking;
 mod messages;
 mod newer_json;
-mod options;
 mod paths;
 mod piped;
-mod program;
 mod progress;
 mod refused;
-mod request;
 mod running;
 mod sources;
 mod stop;
 mod streaming;
 mod texts;
 mod typed;
-mod words;
 
+use asn_request::request::{LineFault, Request, request_of};
 use ending::refusal_ending;
 use flattening::flatten_files;
 use looking::show;
-use request::{LineFault, Request, request_of};
 use running::run_job;
 use std::io::ErrorKind;
 use std::process::ExitCode;

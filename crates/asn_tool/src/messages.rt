@@ -4,7 +4,7 @@ use crate::cutting::next_text;
 use crate::fronts::front_len;
 use crate::streaming::answer_stream;
 use asn_convert::RunFault;
-use asn_octet_forms::{OctetForm, octets_in};
+use asn_jobs::{OctetForm, octets_in};
 use std::io::{BufRead, Write};
 
 /// Answers the messages of an input, whose name is that of its file, or empty for standard input. Tells whether no answer

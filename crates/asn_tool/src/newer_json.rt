@@ -89,7 +89,7 @@ fn field_text(alloc: Global, ty: &AsnType, skipped: &SkippedAt) -> Result<String
 }
 
 /// What a line of `newer --json` is encoded as.
-#[derive(Debug, Drop)]
+#[derive(Drop)]
 pub enum TakenBack {
     /// The JSON of its value, of which nothing was skipped.
     Value(String),

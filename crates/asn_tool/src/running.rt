@@ -1,6 +1,5 @@
 //! Jobs on standard input and output.
 use crate::answering::{Answers, Asked};
-use crate::asking::Asking;
 use crate::counting::Counts;
 use crate::ending::ending;
 use crate::messages::answer_input;
@@ -14,6 +13,7 @@ use asn_convert::{Job, RunFault, Status, cut_input, read_all, run, run_on_lines}
 use asn_module::Module;
 use asn_plan::Planned;
 use asn_published::{Options, PublishedFault};
+use asn_request::asking::Asking;
 use asn_rules::Counted;
 use asn_values::Checked;
 use std::io::{BufRead, BufReader, BufWriter, ErrorKind, IsTerminal, Write};

@@ -5,7 +5,7 @@ ghost use Rattle.asn_module.specs.Accepted.{Accepted};
 ghost use Rattle.asn_module.specs.declared.fault.ModuleFault.{ModuleFault};
 ghost use Rattle.asn_convert.specs.Lines.{job_lines, lines_of, module_text};
 ghost use Rattle.asn_convert.specs.Text.{IsModule};
-ghost use Rattle.asn_tool.specs.Request.{texts_of};
+ghost use Rattle.asn_request.specs.Request.{texts_of};
 ghost use Rattle.asn_tool.specs.Sources.{IsInput, IsInputOf, IsOwn, IsOwnInput, IsRead, IsReadWithin, IsNotLarge, mark};
 
 use asn_convert::{Job, cut_input};
@@ -24,7 +24,7 @@ pub const MOST: u32 = 10_000_000;
 const STDIN: &str = "<stdin>";
 
 /// The octets that a job reads in the place of standard input, if any, and the lines that tell what became of its types.
-#[derive(Debug, Drop)]
+#[derive(Drop)]
 pub struct Instead {
     pub octets: Option<Vec<u8>>,
     pub remarks: String,

@@ -3,7 +3,7 @@ use Rattle.std.specs.Prelude.{string_bytes}
 use Rattle.std.proofs.lemmas.Result.{err_from_is_err_and}
 use Rattle.asn_rules.specs.Faults.{state_of}
 use Rattle.asn_module.specs.ModuleView.{types_view}
-use Rattle.asn_convert.specs.declared.job.Status.TheVariants as status
+use Rattle.asn_jobs.specs.declared.job.Status.TheVariants as status
 use Rattle.asn_convert.specs.Answers.{rulings}
 use Rattle.asn_convert.specs.Coming.{TextOf, BegunOf}
 use Rattle.asn_convert.specs.Lines.{lines_of, module_text}

@@ -2,7 +2,7 @@ use Rattle.std.proofs.Common.{rules, ◌≡◌, ◌∙◌, inl, refl, subst}
 use Rattle.std.specs.Prelude.{string_bytes}
 use Rattle.std.proofs.lemmas.Result.{err_from_is_err_and}
 use Rattle.asn_module.specs.ModuleView.{types_view}
-use Rattle.asn_convert.specs.declared.job.Status.TheVariants as status
+use Rattle.asn_jobs.specs.declared.job.Status.TheVariants as status
 use Rattle.asn_convert.specs.Answers.{rulings}
 use Rattle.asn_convert.specs.Lines.{lines_of}
 use Rattle.asn_convert.specs.Text.{Text, Begun, TellsBegun, IsFront, IsModule, IsRefusal}

@@ -1,6 +1,6 @@
 use Rattle.std.proofs.Common.{◌≡◌, ◌∷◌, [], List, ℕ, MatchOption, string_bytes, subst}
 use Rattle.asn_module.specs.ModuleView.{types_view}
-use Rattle.asn_tool.specs.Request.{texts_of}
+use Rattle.asn_request.specs.Request.{texts_of}
 use Rattle.asn_tool.specs.Sources.{IsInput, IsInputOf, IsOwn, IsOwnInput, IsRead}
 use Rattle.asn_tool.proofs.Sourced.{if_some, some_then}
 use Rattle.asn_tool.proofs.sources.input_with.Goals as goal

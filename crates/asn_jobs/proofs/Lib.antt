@@ -1,0 +1,4 @@
+pub mod Back
+pub mod Counts
+pub mod Lengths
+pub mod Steps

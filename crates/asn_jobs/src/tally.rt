@@ -1,0 +1,55 @@
+//! How often each word was added.
+ghost use Rattle.std.specs.Prelude.{◌≡◌, ◌++◌, ◌∷◌, [], List, ℕ, OnOk};
+
+use crate::fault::CountFault;
+use std::alloc::Global;
+use std::collections::BTreeMap;
+
+/// How often each of some words was added.
+#[derive(Drop)]
+pub struct Tally {
+    counts: BTreeMap<String, u64>,
+}
+
+impl Tally {
+    ghost use Rattle.asn_jobs.specs.Counts.{IsCountedBy, count_of};
+
+    /// The tally of no word.
+    pub fn new(alloc: Global) -> Tally
+        ensures { IsCountedBy [] result.counts }
+    {
+        Tally {
+            counts: BTreeMap::new(alloc),
+        }
+    }
+
+    /// Counts the word once more.
+    ///
+    /// # Errors
+    /// `Full` where it was added 2^64 - 1 times, `Memory` where an allocation failed.
+    pub fn add(&mut self, alloc: Global, word: &str) -> Result<(), CountFault>
+        ensures { OnOk result ((words : List (List ℕ)) → IsCountedBy words self.old.counts
+            → IsCountedBy (words ++ word.now ∷ []) self.new.counts) }
+    {
+        let Some(next) = self.count_of(word).checked_add(1) else {
+            return Err(CountFault::Full);
+        };
+        let key = String::from_str(alloc, word)?;
+        self.counts.insert(key, next)?;
+        Ok(())
+    }
+
+    /// How often the word was added.
+    pub fn count_of(&self, word: &str) -> u64
+        ensures { result ≡ count_of self.now.counts word.now }
+    {
+        self.counts.get(word).copied().unwrap_or(0)
+    }
+
+    /// Each word that was added, in the order of their octets, with how often.
+    pub fn counts(&self) -> &BTreeMap<String, u64>
+        ensures { result.now ≡ self.now.counts }
+    {
+        &self.counts
+    }
+}

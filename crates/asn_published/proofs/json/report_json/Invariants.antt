@@ -1,7 +1,0 @@
-use Rattle.std.proofs.Common.{◌≡◌, flat_map, string_bytes, take}
-use Rattle.asn_published.specs.Telling.{type_json}
-use Rattle.asn_published.proofs.json.report_json.Given as goal
-
--- the types that were passed are written
-abbrev pub invariant-loop-one : goal.invariant-loop-one
-invariant-loop-one l = string_bytes l.out ≡ flat_map (type_json l.files) (take l.one-index l.report)

@@ -1,9 +1,0 @@
-use Rattle.std.proofs.Common.{◌≡◌, ◌++◌, flat_map, string_bytes, take}
-use Rattle.asn_published.specs.Telling.{refusal_line}
-use Rattle.asn_published.proofs.way.push_refusals.Given as goal
-
--- the lines so far are those of the notes that were passed
-abbrev pub invariant-loop-note : goal.invariant-loop-note
-invariant-loop-note l =
-    string_bytes l.text ≡ string_bytes l.fn.text
-    ++ flat_map (refusal_line l.file l.one) (take l.note-index l.one.notes.items)

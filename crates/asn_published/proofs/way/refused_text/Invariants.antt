@@ -1,7 +1,0 @@
-use Rattle.std.proofs.Common.{◌≡◌, flat_map, string_bytes, take}
-use Rattle.asn_published.specs.Telling.{refused_lines_of}
-use Rattle.asn_published.proofs.way.refused_text.Given as goal
-
--- the types that were passed are written
-abbrev pub invariant-loop-one : goal.invariant-loop-one
-invariant-loop-one l = string_bytes l.text ≡ flat_map (refused_lines_of l.files) (take l.one-index l.report)

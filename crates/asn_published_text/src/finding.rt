@@ -1,0 +1,86 @@
+//! What a name stands for in a module: an assignment there, or of the module that it is imported from.
+use crate::modules::{Assignment, What, World};
+use crate::refusal::Why;
+use crate::token::Sign;
+use crate::tokens::{Tokens, next};
+
+/// How often a name may be imported and passed on.
+const MOST_IMPORTS: u32 = 16;
+
+impl<'t> World<'t> {
+    /// The lexical items of the text that has a module; `None` where there is no such module.
+    pub fn tokens_of(&self, module: usize) -> Option<&Tokens<'t>> {
+        match self.modules.get(module) {
+            Some(text) => self.files.get(text.file),
+            None => None,
+        }
+    }
+
+    /// The index of the assignment that a name stands for in a module.
+    pub fn find(&self, module: usize, name: &str) -> Result<usize, Why> {
+        let mut at = module;
+        for _ in 0..MOST_IMPORTS {
+            let Some(text) = self.modules.get(at) else {
+                return Err(Why::Unknown);
+            };
+            if let Some(index) = text.names.get(name) {
+                return Ok(*index);
+            }
+            let source = match text.imports.get(name) {
+                Some(Some(source)) => *source,
+                Some(None) => return Err(Why::ImportedTwice),
+                None => return Err(Why::Unknown),
+            };
+            match self.module_names.get(source) {
+                Some(index) => at = *index,
+                None => return Err(Why::NotGiven),
+            }
+        }
+        Err(Why::Unknown)
+    }
+
+    /// The assignment that `Module.name` stands for.
+    pub fn find_in(&self, module: &str, name: &str) -> Result<usize, Why> {
+        match self.module_names.get(module) {
+            Some(index) => self.find(*index, name),
+            None => Err(Why::NotGiven),
+        }
+    }
+
+    /// What a reference at `at` stands for, as `name` or `Module.name`, and the index after it.
+    pub fn reference_at(&self, module: usize, at: usize) -> Result<(usize, usize), Why> {
+        let Some(tokens) = self.tokens_of(module) else {
+            return Err(Why::Unknown);
+        };
+        if tokens.is_capital(at) && tokens.is(next(at), Sign::Dot) {
+            let name = next(next(at));
+            let found = self.find_in(tokens.text(at), tokens.text(name))?;
+            return Ok((found, next(name)));
+        }
+        let found = self.find(module, tokens.text(at))?;
+        Ok((found, next(at)))
+    }
+
+    pub fn assignment(&self, index: usize) -> Option<&Assignment<'t>> {
+        self.assignments.get(index)
+    }
+
+    /// Whether the assignment assigns this kind of thing.
+    pub fn assigns(&self, index: usize, what: What) -> bool {
+        match self.assignments.get(index) {
+            Some(assignment) => assignment.what == what,
+            None => false,
+        }
+    }
+
+    /// Which text has an assignment, from 0.
+    pub fn text_of(&self, assignment: usize) -> usize {
+        match self.assignment(assignment) {
+            Some(it) => match self.modules.get(it.module) {
+                Some(module) => module.file,
+                None => 0,
+            },
+            None => 0,
+        }
+    }
+}

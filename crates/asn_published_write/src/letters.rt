@@ -1,0 +1,64 @@
+//! Which characters a constraint leaves (X.691, "permitted alphabet").
+use asn_published_text::nodes::Letters;
+use asn_published_types::ranges::Ranges;
+
+/// Whether a kind of string has the character with this code.
+fn has_letter(kind: Letters, code: i128) -> bool {
+    match kind {
+        Letters::Ia5 => code < 128,
+        Letters::Visible => 32 <= code && code < 127,
+        Letters::Numeric => code == 32 || (48 <= code && code < 58),
+        Letters::Printable => {
+            (48 <= code && code < 58)
+                || (65 <= code && code < 91)
+                || (97 <= code && code < 123)
+                || [32, 39, 40, 41, 43, 44, 45, 46, 47, 58, 61, 63].contains(&code)
+        }
+    }
+}
+
+/// Whether a character of a kind of string, with this code, is left.
+fn is_left(kind: Letters, left: &Ranges, code: i128) -> bool {
+    if !has_letter(kind, code) {
+        return false;
+    }
+    for range in &left.ranges {
+        let is_above = match range.low {
+            Some(low) => low <= code,
+            None => true,
+        };
+        let is_below = match range.high {
+            Some(high) => code <= high,
+            None => true,
+        };
+        if is_above && is_below {
+            return true;
+        }
+    }
+    false
+}
+
+/// Whether the codes of characters stay those of the kind where these are left: all of NumericString, or more than
+/// 64 of another kind, so that each has its own code in 7 bits.
+pub(crate) fn keeps_codes(kind: Letters, left: &Ranges) -> bool {
+    let mut count = 0u32;
+    for code in 0..128u8 {
+        if is_left(kind, left, i128::from(code)) {
+            count = count.saturating_add(1);
+        }
+    }
+    if kind == Letters::Numeric {
+        count == 11
+    } else {
+        count > 64
+    }
+}
+
+/// The profile's name of a kind of string.
+pub(crate) fn name_of(kind: Letters) -> &'static str {
+    match kind {
+        Letters::Ia5 => "IA5String",
+        Letters::Numeric => "NumericString",
+        Letters::Visible | Letters::Printable => "VisibleString",
+    }
+}

@@ -1,0 +1,15 @@
+//! The types of published modules (X.680 to X.683) in the notation of the profile, and what became of each.
+#![tactic(auto)]
+
+mod checking;
+mod defaults;
+mod holding;
+mod letters;
+mod references;
+mod settling;
+pub mod sources;
+mod strings;
+mod widths;
+mod writer;
+mod writing;
+pub mod written;

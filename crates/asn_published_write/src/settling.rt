@@ -1,0 +1,148 @@
+//! What becomes of one type: its text, what is known of it, and what is said of it.
+use crate::sources::Sources;
+use crate::writer::{Known, Writer, path_of};
+use asn_published_text::refusal::{Refusal, Why};
+use asn_published_types::info::State;
+use asn_published_types::report::{Note, Remark, Status};
+use std::alloc::{AllocError, Global};
+
+/// Writes a type, unless the profile refused it before.
+fn write_one<'t>(
+    alloc: Global,
+    known: &Known<'_, 't>,
+    first: usize,
+    is_refused: bool,
+    writer: &mut Writer<'t>,
+) -> Result<(), Refusal> {
+    if is_refused {
+        return Err(Refusal::At {
+            line: 0,
+            why: Why::NotOfProfile,
+        });
+    }
+    writer.write_type(alloc, known, first)?;
+    if known.options.strict && writer.status != Status::Same {
+        writer.node = first;
+        return Err(Refusal::At {
+            line: 0,
+            why: Why::NotTheSame,
+        });
+    }
+    Ok(())
+}
+
+/// A type that was written, or why it was not.
+#[derive(Drop)]
+pub(crate) struct Outcome<'t> {
+    writer: Writer<'t>,
+    refusal: Option<(u32, Why)>,
+}
+
+/// Writes a type, of which `first` is the first node, after `written` nodes of other types.
+pub(crate) fn outcome_of<'t>(
+    alloc: Global,
+    known: &Known<'_, 't>,
+    first: usize,
+    is_refused: bool,
+    written: usize,
+) -> Result<Outcome<'t>, AllocError> {
+    let mut writer = Writer::new(alloc, written);
+    writer.node = first;
+    let refusal = match write_one(alloc, known, first, is_refused, &mut writer) {
+        Ok(()) => None,
+        Err(Refusal::Memory) => return Err(AllocError),
+        Err(Refusal::At { line, why }) => Some((line, why)),
+    };
+    Ok(Outcome { writer, refusal })
+}
+
+/// What is known of a type that was written, its text, and what is to be said of it.
+#[derive(Drop)]
+pub(crate) struct Settled {
+    pub state: State,
+    pub line: Option<String>,
+    pub status: Status,
+    pub notes: Vec<Note>,
+    pub uses: Vec<usize>,
+    /// How many nodes were written, of the types before it too.
+    pub written: usize,
+}
+
+/// A type that was written.
+fn ready(writer: Writer<'_>) -> Settled {
+    let mut info = writer.last;
+    info.nodes = writer.nodes;
+    info.depth = writer.depth;
+    info.status = writer.status;
+    Settled {
+        state: State::Ready(info),
+        line: Some(writer.out),
+        status: writer.status,
+        notes: writer.notes,
+        uses: writer.uses,
+        written: writer.written,
+    }
+}
+
+/// A type that is refused, as the note tells.
+fn refused(writer: Writer<'_>, note: Note) -> Result<Settled, AllocError> {
+    let mut writer = writer;
+    writer.notes.push(note)?;
+    Ok(Settled {
+        state: State::Refused,
+        line: None,
+        status: Status::Refused,
+        notes: writer.notes,
+        uses: writer.uses,
+        written: writer.written,
+    })
+}
+
+/// What became of a type that the text `file` assigns on the line `own_line`. A fault in another text is told on that
+/// line.
+pub(crate) fn settle_type<'t>(
+    alloc: Global,
+    sources: &Sources<'t>,
+    file: usize,
+    own_line: u32,
+    outcome: Outcome<'t>,
+) -> Result<Settled, AllocError> {
+    let Outcome { writer, refusal } = outcome;
+    let Some((line, why)) = refusal else {
+        return Ok(ready(writer));
+    };
+    let is_here = line != 0 && file_of(sources, writer.node) == file;
+    let note = Note {
+        line: if is_here { line } else { own_line },
+        component: path_of(alloc, &sources.forest, writer.node)?,
+        remark: Remark::Refused(why),
+    };
+    refused(writer, note)
+}
+
+/// Which of the texts has a node, from 0.
+fn file_of(sources: &Sources<'_>, node: usize) -> usize {
+    match sources.forest.node(node) {
+        Some(node) => match sources.world.modules.get(node.module) {
+            Some(module) => module.file,
+            None => 0,
+        },
+        None => 0,
+    }
+}
+
+/// The assignment of a type: its own, or that of which it is an instance.
+pub(crate) fn assignment_of(sources: &Sources<'_>, entry: usize) -> usize {
+    let count = sources.world.assignments.len();
+    if entry < count {
+        return entry;
+    }
+    match sources
+        .forest
+        .instances
+        .instance(entry.saturating_sub(count))
+    {
+        Some(instance) => instance.assignment,
+        None => entry,
+    }
+}

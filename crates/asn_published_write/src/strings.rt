@@ -1,0 +1,247 @@
+//! Writes INTEGER and strings, with what their constraints leave.
+use crate::letters::{keeps_codes, name_of};
+use crate::widths::{is_one_number, is_zero};
+use crate::writer::{Known, Writer};
+use asn_published_text::nodes::{Letters, Node, Shape};
+use asn_published_text::refusal::{Refusal, Why, refused};
+use asn_published_types::bounds::{
+    Numbers, lengths_between, numbers_between, write_range, write_size,
+};
+use asn_published_types::info::{Base, Info};
+use asn_published_types::numbers::Scope;
+use asn_published_types::pieces::push_pieces;
+use asn_published_types::ranges::{Ranges, is_whole};
+use asn_published_types::report::Remark;
+use asn_published_types::seen::{Mode, Seen};
+use std::alloc::Global;
+
+/// What is known of an INTEGER of which this is left.
+fn integer_info(seen: Seen, named: Option<(usize, usize)>, no_bits: bool) -> Info {
+    let mut info = Info::of(Base::Integer);
+    info.no_bits = no_bits;
+    info.left = seen.numbers;
+    info.marked = seen.marked;
+    info.named = named;
+    info
+}
+
+/// What is known of a string of which this is left.
+fn string_info(base: Base, seen: Seen, no_bits: bool) -> Info {
+    let mut info = Info::of(base);
+    info.no_bits = no_bits;
+    info.left = seen.sizes;
+    info.letters = seen.letters;
+    info.marked = seen.marked;
+    info
+}
+
+impl<'t> Writer<'t> {
+    /// What the constraints of a node leave, whose values stand in `scope`.
+    pub fn seen_of(
+        &mut self,
+        alloc: Global,
+        known: &Known<'_, 't>,
+        index: usize,
+        node: &Node<'t>,
+        mode: Mode,
+        scope: Scope,
+    ) -> Result<Seen, Refusal> {
+        let seen = known
+            .values
+            .constraints_seen(alloc, scope, mode, node.constraints, node.end)?;
+        self.remark_dropped(alloc, known, index, &seen)?;
+        Ok(seen)
+    }
+
+    /// Writes INTEGER.
+    pub fn write_integer(
+        &mut self,
+        alloc: Global,
+        known: &Known<'_, 't>,
+        index: usize,
+        node: &Node<'t>,
+        braces: Option<usize>,
+    ) -> Result<(), Refusal> {
+        let named = match braces {
+            Some(braces) => Some((node.module, braces)),
+            None => None,
+        };
+        let scope = known.scope_of(node, named);
+        let seen = self.seen_of(alloc, known, index, node, Mode::Numbers, scope)?;
+        self.put_integer(alloc, known, index, seen, named, known.line_of(node))
+    }
+
+    /// Writes INTEGER with what is left of its numbers.
+    pub fn put_integer(
+        &mut self,
+        alloc: Global,
+        known: &Known<'_, 't>,
+        index: usize,
+        seen: Seen,
+        named: Option<(usize, usize)>,
+        line: u32,
+    ) -> Result<(), Refusal> {
+        self.put_numbers(alloc, known, index, &seen, line)?;
+        let no_bits = is_one_number(&seen, line)?;
+        self.last = integer_info(seen, named, no_bits);
+        Ok(())
+    }
+
+    /// Writes INTEGER with its range.
+    fn put_numbers(
+        &mut self,
+        alloc: Global,
+        known: &Known<'_, 't>,
+        index: usize,
+        seen: &Seen,
+        line: u32,
+    ) -> Result<(), Refusal> {
+        match numbers_between(&seen.numbers, seen.marked, line)? {
+            Numbers::All => self.out.push_str(" INTEGER")?,
+            Numbers::Between(low, high) => {
+                self.out.push_str(" INTEGER")?;
+                write_range(alloc, &mut self.out, low, high, seen.marked)?;
+            }
+        }
+        self.remark_gap(alloc, known, index, &seen.numbers)
+    }
+
+    /// Writes a string with a size.
+    pub fn write_string(
+        &mut self,
+        alloc: Global,
+        known: &Known<'_, 't>,
+        index: usize,
+        node: &Node<'t>,
+    ) -> Result<(), Refusal> {
+        let scope = known.scope_of(node, None);
+        let seen = self.seen_of(alloc, known, index, node, Mode::Others, scope)?;
+        let base = match node.shape {
+            Shape::Bits { named } => Base::Bits { named },
+            Shape::Text(letters) => Base::Text(letters),
+            _ => Base::Octets,
+        };
+        self.put_string(alloc, known, index, base, seen, known.line_of(node))
+    }
+
+    /// Writes a string of a kind with what is left of its lengths.
+    pub fn put_string(
+        &mut self,
+        alloc: Global,
+        known: &Known<'_, 't>,
+        index: usize,
+        base: Base,
+        seen: Seen,
+        line: u32,
+    ) -> Result<(), Refusal> {
+        let is_fixed = is_fixed(&seen, line)?;
+        self.put_kind(alloc, known, index, base, &seen, is_fixed, line)?;
+        let no_bits = self.put_size(alloc, known, index, &seen, line)?;
+        self.last = string_info(base, seen, no_bits);
+        Ok(())
+    }
+
+    /// Writes what is left of the size of a string or a list, and tells whether that is 0 alone.
+    pub fn put_size(
+        &mut self,
+        alloc: Global,
+        known: &Known<'_, 't>,
+        index: usize,
+        seen: &Seen,
+        line: u32,
+    ) -> Result<bool, Refusal> {
+        if let Some(lengths) = lengths_between(&seen.sizes, seen.marked, line)? {
+            if lengths.cut {
+                self.remark(alloc, known, index, Remark::SizeToMax)?;
+            }
+            write_size(alloc, &mut self.out, lengths, seen.marked)?;
+        }
+        self.remark_gap(alloc, known, index, &seen.sizes)?;
+        is_zero(seen, line)
+    }
+
+    /// Writes the kind of a string: named bits have a fixed size, or are asked for as they are.
+    fn put_kind(
+        &mut self,
+        alloc: Global,
+        known: &Known<'_, 't>,
+        index: usize,
+        base: Base,
+        seen: &Seen,
+        is_fixed: bool,
+        line: u32,
+    ) -> Result<(), Refusal> {
+        match base {
+            Base::Bits { named } => {
+                if named && !is_fixed {
+                    self.remark_bits(alloc, known, index, line)?;
+                }
+                Ok(self.out.push_str(" BIT STRING")?)
+            }
+            Base::Text(kind) => {
+                self.remark_letters(alloc, known, index, kind, seen, line)?;
+                Ok(push_pieces(&mut self.out, &[" ", name_of(kind)])?)
+            }
+            _ => Ok(self.out.push_str(" OCTET STRING")?),
+        }
+    }
+
+    /// A refusal of named bits without a fixed size, or a remark where they are asked for.
+    fn remark_bits(
+        &mut self,
+        alloc: Global,
+        known: &Known<'_, 't>,
+        index: usize,
+        line: u32,
+    ) -> Result<(), Refusal> {
+        if !known.options.plain_bits {
+            return Err(refused(line, Why::NamedBits));
+        }
+        self.remark(alloc, known, index, Remark::TrimmedBits)
+    }
+
+    /// A remark where there are gaps between ranges.
+    fn remark_gap(
+        &mut self,
+        alloc: Global,
+        known: &Known<'_, 't>,
+        index: usize,
+        left: &Option<Ranges>,
+    ) -> Result<(), Refusal> {
+        if is_whole(left) {
+            return Ok(());
+        }
+        self.remark(alloc, known, index, Remark::Gap)
+    }
+
+    /// A refusal where the characters that are left have codes of their own, and a remark where they are not all.
+    fn remark_letters(
+        &mut self,
+        alloc: Global,
+        known: &Known<'_, 't>,
+        index: usize,
+        kind: Letters,
+        seen: &Seen,
+        line: u32,
+    ) -> Result<(), Refusal> {
+        let mut are_all = kind != Letters::Printable;
+        if let Some(letters) = &seen.letters {
+            if seen.marked || !keeps_codes(kind, letters) {
+                return Err(refused(line, Why::Alphabet));
+            }
+            are_all = kind == Letters::Numeric;
+        }
+        if !are_all {
+            self.remark(alloc, known, index, Remark::Characters)?;
+        }
+        Ok(())
+    }
+}
+
+/// Whether one length is left, and no mark.
+fn is_fixed(seen: &Seen, line: u32) -> Result<bool, Refusal> {
+    match lengths_between(&seen.sizes, seen.marked, line)? {
+        Some(lengths) => Ok(lengths.high == Some(lengths.low) && !seen.marked),
+        None => Ok(false),
+    }
+}

@@ -1,0 +1,373 @@
+//! Writes the type of an assignment in the notation of the profile, node after node from a stack.
+ghost use Rattle.std.specs.Prelude.{◌≤◌, IfOk};
+ghost use Rattle.asn_published_write.specs.Limits.{most_levels, most_nodes};
+
+use asn_published_text::nodes::{Need, Node};
+use asn_published_text::options::Options;
+use asn_published_text::refusal::Refusal;
+use asn_published_types::building::Forest;
+use asn_published_types::info::{Base, Info, State};
+use asn_published_types::limits::{MOST_LEVELS, MOST_NODES, most_of_all, within};
+use asn_published_types::numbers::{Scope, Values};
+use asn_published_types::pieces::push_pieces;
+use asn_published_types::ranges::Ranges;
+use asn_published_types::report::{Note, Remark, Status};
+use asn_published_types::seen::Seen;
+use asn_published_types::tags::Tagging;
+use std::alloc::{AllocError, Global};
+use std::fmt::Write;
+
+/// What is known when a type is written.
+#[derive(Clone, Copy)]
+pub(crate) struct Known<'a, 't> {
+    pub values: Values<'a, 't>,
+    pub forest: &'a Forest<'t>,
+    /// Of each type the first node.
+    pub firsts: &'a [Option<usize>],
+    /// Of each type its name in the profile.
+    pub names: &'a [String],
+    /// What stands between the name of a type and the number of its level.
+    pub level_mark: &'a str,
+    pub options: Options,
+    /// Of each type the cycle of references in which it lies.
+    pub cycles: &'a [Option<usize>],
+    /// The type that is written, which of the texts assigns it, on which line, and how many levels of its cycle there
+    /// are.
+    pub entry: usize,
+    pub file: usize,
+    pub own_line: u32,
+    pub level: u32,
+    /// The types of its cycle with a level less.
+    pub below: &'a [State],
+}
+
+/// What is still to be written.
+#[derive(Clone, Copy)]
+pub(crate) enum Task<'t> {
+    /// A node, and how many levels down it is.
+    Node(usize, usize),
+    Text(&'t str),
+    /// The name of a component or an alternative.
+    Name(&'t str),
+    /// The name of an addition group.
+    Group(u32),
+    /// The need of a component of the root, whose type was written last.
+    Need(usize, Need),
+    /// The end of a list, by the node of its element: whether its size has a mark, and whether it is 0.
+    List {
+        element: usize,
+        marked: bool,
+        is_empty: bool,
+    },
+    /// The end of a type that holds components or alternatives.
+    Members,
+}
+
+/// Where a type passes the limit of nodes, or of levels: the node, and its line.
+#[derive(Clone, Copy)]
+pub(crate) struct Passed {
+    node: usize,
+    line: u32,
+    by_nodes: bool,
+}
+
+/// A type that is being written.
+#[derive(Drop)]
+pub(crate) struct Writer<'t> {
+    pub out: String,
+    pub stack: Vec<Task<'t>>,
+    /// The type that was written last.
+    pub last: Info,
+    pub notes: Vec<Note>,
+    pub status: Status,
+    /// The nodes and the levels that were counted, those of the types that it refers to with them.
+    pub nodes: usize,
+    pub depth: usize,
+    pub passed: Option<Passed>,
+    /// How many nodes were written, of the types before it too.
+    pub written: usize,
+    pub selections: u32,
+    /// Of each type that holds the next node, from the outside, whether nothing in it so far has a bit in PER.
+    pub without_bits: Vec<bool>,
+    /// What is left of the sizes of each list that holds the next node, from the outside.
+    pub sizes: Vec<Option<Ranges>>,
+    /// Where a fault is told.
+    pub node: usize,
+    /// The types that it refers to.
+    pub uses: Vec<usize>,
+}
+
+/// How many characters of a path are enough: a longer one has its last names alone.
+const MOST_CHARACTERS: usize = 1000;
+
+/// The names of a node and of those that it stands in, from the inside, as far as a path has them.
+fn names_around<'t>(
+    alloc: Global,
+    forest: &Forest<'t>,
+    node: usize,
+) -> Result<Vec<&'t str>, AllocError> {
+    let mut names = Vec::new(alloc);
+    let mut at = node;
+    let mut length = 0usize;
+    for _ in 0..100 {
+        let Some(it) = forest.node(at) else {
+            break;
+        };
+        if !it.name.is_empty() {
+            if length > MOST_CHARACTERS {
+                break;
+            }
+            length = length.saturating_add(it.name.len());
+            names.push(it.name)?;
+        }
+        if it.parent == at {
+            break;
+        }
+        at = it.parent;
+    }
+    Ok(names)
+}
+
+/// The path of a node from the type of its assignment: names with dots between, as `header.id`.
+pub(crate) fn path_of(
+    alloc: Global,
+    forest: &Forest<'_>,
+    node: usize,
+) -> Result<String, AllocError> {
+    let names = names_around(alloc, forest, node)?;
+    let mut path = String::new(alloc);
+    for name in names.iter().rev() {
+        let dot = if path.is_empty() { "" } else { "." };
+        push_pieces(&mut path, &[dot, *name])?;
+    }
+    Ok(path)
+}
+
+impl<'a, 't> Known<'a, 't> {
+    /// The line of a node; that of the type, where the node stands in another text.
+    pub fn line_of(&self, node: &Node<'t>) -> u32 {
+        match self.values.world.modules.get(node.module) {
+            Some(module) if module.file == self.file => {}
+            _ => return self.own_line,
+        }
+        match self.values.world.tokens_of(node.module) {
+            Some(tokens) => tokens.line(node.at),
+            None => 0,
+        }
+    }
+
+    /// Whether a type lies in the cycle of references of the one that is written.
+    pub fn is_below(&self, to: usize) -> bool {
+        match (self.cycles.get(self.entry), self.cycles.get(to)) {
+            (Some(Some(own)), Some(Some(other))) => own == other,
+            _ => false,
+        }
+    }
+
+    /// What tags are found in.
+    pub fn tagging(&self) -> Tagging<'a, 't> {
+        Tagging {
+            world: self.values.world,
+            forest: self.forest,
+            firsts: self.firsts,
+            numbers: self.values.numbers,
+        }
+    }
+
+    /// Where the values of a node's constraints stand.
+    pub fn scope_of(&self, node: &Node<'t>, named: Option<(usize, usize)>) -> Scope {
+        Scope {
+            module: node.module,
+            named,
+            instance: node.instance,
+            least: None,
+            most: None,
+        }
+    }
+}
+
+impl<'t> Writer<'t> {
+    /// Nothing of the type is written yet; `written` nodes of other types are.
+    pub fn new(alloc: Global, written: usize) -> Self {
+        Writer {
+            out: String::new(alloc),
+            stack: Vec::new(alloc),
+            last: Info::of(Base::Other),
+            notes: Vec::new(alloc),
+            status: Status::Same,
+            nodes: 0,
+            depth: 0,
+            passed: None,
+            written,
+            selections: 0,
+            without_bits: Vec::new(alloc),
+            sizes: Vec::new(alloc),
+            node: 0,
+            uses: Vec::new(alloc),
+        }
+    }
+
+    /// Takes a remark on a node.
+    pub fn remark(
+        &mut self,
+        alloc: Global,
+        known: &Known<'_, 't>,
+        index: usize,
+        remark: Remark,
+    ) -> Result<(), Refusal> {
+        let Some(node) = known.forest.node(index) else {
+            return Ok(());
+        };
+        let component = path_of(alloc, known.forest, index)?;
+        self.status = self.status.worse(remark.status());
+        self.notes.push(Note {
+            line: known.line_of(&node),
+            component,
+            remark,
+        })?;
+        Ok(())
+    }
+
+    /// Counts nodes that reach `depth` levels down. Where they pass a limit, the node that is written is the one at
+    /// which that is told, and what is left is counted all the same.
+    pub fn count(&mut self, nodes: usize, depth: usize, line: u32) {
+        self.nodes = self.nodes.saturating_add(nodes);
+        self.depth = self.depth.max(depth);
+        let by_nodes = self.nodes > MOST_NODES;
+        if self.passed.is_none() && (by_nodes || self.depth > MOST_LEVELS) {
+            self.passed = Some(Passed {
+                node: self.node,
+                line,
+                by_nodes,
+            });
+        }
+    }
+
+    /// Takes nodes from those that may be written of all types.
+    pub fn take_nodes(
+        &mut self,
+        known: &Known<'_, 't>,
+        nodes: usize,
+        line: u32,
+    ) -> Result<(), Refusal> {
+        let most = most_of_all(known.forest.nodes.len(), known.options.levels);
+        self.written = self.written.saturating_add(nodes);
+        within(line, "nodes of all types", self.written, most)
+    }
+
+    /// A refusal where more nodes or levels were counted than a type may have.
+    fn within_limits(&self) -> Result<(), Refusal>
+        ensures { IfOk result (λ done. (self.now.nodes ≤ most_nodes) × (self.now.depth ≤ most_levels)) }
+    {
+        let (line, by_nodes) = match self.passed {
+            Some(passed) => (passed.line, passed.by_nodes),
+            None => (0, false),
+        };
+        if by_nodes {
+            within(line, "nodes", self.nodes, MOST_NODES)?;
+        }
+        within(line, "levels", self.depth, MOST_LEVELS)?;
+        within(line, "nodes", self.nodes, MOST_NODES)
+    }
+
+    /// Writes the type whose first node this is. Where a limit is passed, the fault tells how many nodes or levels the
+    /// type has, as far as they can be counted.
+    pub fn write_type(
+        &mut self,
+        alloc: Global,
+        known: &Known<'_, 't>,
+        first: usize,
+    ) -> Result<(), Refusal>
+        // A type that is written has no more nodes and levels than the profile allows.
+        ensures { IfOk result (λ done. (self.new.nodes ≤ most_nodes) × (self.new.depth ≤ most_levels)) }
+    {
+        self.stack.push(Task::Node(first, 1))?;
+        self.take_all(alloc, known)?;
+        if let Some(passed) = self.passed {
+            self.node = passed.node;
+        }
+        self.within_limits()
+    }
+
+    /// Writes all that is still to be written; after a limit was passed, up to the first refusal.
+    fn take_all(&mut self, alloc: Global, known: &Known<'_, 't>) -> Result<(), Refusal> {
+        for _ in 0..u64::MAX {
+            let Some(task) = self.stack.pop() else {
+                break;
+            };
+            match self.take(alloc, known, task) {
+                Err(Refusal::At { .. }) if self.passed.is_some() => break,
+                Err(refusal) => return Err(refusal),
+                Ok(()) => {}
+            }
+        }
+        Ok(())
+    }
+
+    /// Writes what is next.
+    fn take(
+        &mut self,
+        alloc: Global,
+        known: &Known<'_, 't>,
+        task: Task<'t>,
+    ) -> Result<(), Refusal> {
+        match task {
+            Task::Node(index, depth) => {
+                self.node = index;
+                self.write_node(alloc, known, index, depth)
+            }
+            Task::Text(text) => Ok(self.out.push_str(text)?),
+            Task::Name(name) => Ok(push_pieces(&mut self.out, &[" ", name])?),
+            Task::Group(number) => Ok(write!(self.out, " ext{number}")?),
+            Task::Need(index, need) => {
+                self.take_member_bits(need);
+                self.write_need(alloc, known, index, need)
+            }
+            Task::List {
+                element,
+                marked,
+                is_empty,
+            } => self.end_list(known, element, marked, is_empty),
+            Task::Members => {
+                self.end_members();
+                Ok(())
+            }
+        }
+    }
+
+    /// A remark where the constraints drop something.
+    pub fn remark_dropped(
+        &mut self,
+        alloc: Global,
+        known: &Known<'_, 't>,
+        index: usize,
+        seen: &Seen,
+    ) -> Result<(), Refusal> {
+        if seen.dropped {
+            self.remark(alloc, known, index, Remark::Dropped)?;
+        }
+        Ok(())
+    }
+
+    /// Writes whether the component may be absent, whose type was written last.
+    fn write_need(
+        &mut self,
+        alloc: Global,
+        known: &Known<'_, 't>,
+        index: usize,
+        need: Need,
+    ) -> Result<(), Refusal> {
+        let (start, end) = match need {
+            Need::Must => return Ok(()),
+            Need::Optional => return Ok(self.out.push_str(" OPTIONAL")?),
+            Need::Default { start, end } => (start, end),
+        };
+        match self.default_text(alloc, known, index, start, end)? {
+            Some(text) => Ok(write!(self.out, " DEFAULT {text}")?),
+            None => {
+                self.out.push_str(" OPTIONAL")?;
+                self.remark(alloc, known, index, Remark::Default)
+            }
+        }
+    }
+}

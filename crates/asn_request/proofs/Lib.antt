@@ -1,0 +1,7 @@
+pub mod Exactly
+pub mod FoundJob
+pub mod Given
+pub mod NotHelp
+pub mod Refusals
+pub mod SetOptions
+pub mod Taken

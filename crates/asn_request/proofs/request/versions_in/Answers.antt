@@ -1,0 +1,10 @@
+use Rattle.std.proofs.Common.{codes}
+use Rattle.clap.specs.Words.{found_of}
+use Rattle.asn_request.proofs.Given.{flag}
+use Rattle.asn_request.proofs.request.versions_in.Goals as goal
+
+pub returns : goal.returns
+returns c = (
+  flag (found_of c.args.options.now) (codes "json") c.get_flag.result c.get_flag.ensures.none c.get_flag.ensures.value c.get_flag.ensures.other,
+  flag (found_of c.args.options.now) (codes "newer") c.get_flag-2.result c.get_flag-2.ensures.none c.get_flag-2.ensures.value c.get_flag-2.ensures.other,
+)

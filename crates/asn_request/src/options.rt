@@ -1,0 +1,236 @@
+//! The options of the subcommands, as `clap` knows them.
+ghost use Rattle.std.specs.Prelude.{◌≡◌, IfOk, codes, false, true};
+ghost use Rattle.clap.specs.Words.{app_of, rule_of};
+ghost use Rattle.clap.specs.declared.builder.Command.TheViews.{out-Command};
+ghost use Rattle.asn_request.specs.Command.{TakesNames, answer_rules, files_rule, flag_rule, form_rules, given_names, leave_rules, member_names, message_rules, names_rule, number_rule, rule_names, rules_rule, source_rules, type_rule, version_rules, with_rules, written_names};
+
+use clap::{Arg, ArgAction, Command, value_parser};
+use std::alloc::{AllocError, Global};
+
+/// The names of the encoding rules.
+static RULES: [&str; 2] = ["per", "oer"];
+
+/// The forms of octets that are given.
+static GIVEN: [&str; 4] = ["hex", "hex-block", "base64", "binary"];
+
+/// The forms of octets that are written.
+static WRITTEN: [&str; 3] = ["hex", "base64", "binary"];
+
+/// The orders of the members of JSON.
+static MEMBERS: [&str; 2] = ["name", "declared"];
+
+/// The option for the name of the type.
+pub fn type_option<'a>(alloc: Global) -> Arg<'a>
+    ensures rule { rule_of result ≡ type_rule }
+    ensures local { result.global ≡ false }
+{
+    Arg::new(alloc, "type")
+        .long("type")
+        .value_name("NAME")
+        .required(true)
+        .action(ArgAction::Set)
+        .help("The type, by its name in the module")
+}
+
+/// The option for the encoding rules.
+pub fn rules_option<'a>(alloc: Global) -> Arg<'a>
+    ensures rule { (p : _) × TakesNames rule_names p × (rule_of result ≡ rules_rule p) }
+    ensures local { result.global ≡ false }
+{
+    Arg::new(alloc, "rules")
+        .long("rules")
+        .value_name("RULES")
+        .required(true)
+        .action(ArgAction::Set)
+        .value_parser(RULES.as_slice())
+        .help("The encoding rules of the octets that are read, or that `encode` writes")
+}
+
+/// The command with the options for the module, and for why something is refused.
+pub fn with_source<'a>(alloc: Global, command: Command<'a>) -> Result<Command<'a>, AllocError>
+    ensures shape { IfOk result (λ c. app_of c ≡ with_rules (app_of command.entry) source_rules) }
+    ensures local { (out-Command command.entry).has_globals ≡ false
+        → IfOk result (λ c. (out-Command c).has_globals ≡ false) }
+{
+    let files = files_option(
+        alloc,
+        "module",
+        "The texts of the module, or of the published modules, in place of standard input's",
+    );
+    let explain = flag(
+        alloc,
+        "explain",
+        "Tells on standard error why a message, or the module, is refused, and in which component",
+    );
+    command.arg(files)?.arg(explain)
+}
+
+/// The command with the options for the messages and the forms of their octets.
+pub fn with_forms<'a>(alloc: Global, command: Command<'a>) -> Result<Command<'a>, AllocError>
+    ensures shape { IfOk result (λ c. (p : _) × (q : _) × TakesNames given_names p × TakesNames written_names q
+        × (app_of c ≡ with_rules (app_of command.entry) (form_rules p q))) }
+    ensures local { (out-Command command.entry).has_globals ≡ false
+        → IfOk result (λ c. (out-Command c).has_globals ≡ false) }
+{
+    with_messages(alloc, command)?.arg(written_option(alloc))
+}
+
+/// The command with the options for the messages and the form in which their octets are given.
+pub fn with_messages<'a>(alloc: Global, command: Command<'a>) -> Result<Command<'a>, AllocError>
+    ensures shape { IfOk result (λ c. (p : _) × TakesNames given_names p
+        × (app_of c ≡ with_rules (app_of command.entry) (message_rules p))) }
+    ensures local { (out-Command command.entry).has_globals ≡ false
+        → IfOk result (λ c. (out-Command c).has_globals ≡ false) }
+{
+    let files = files_option(
+        alloc,
+        "messages",
+        "The messages, in place of those on standard input",
+    );
+    let split = flag(
+        alloc,
+        "split",
+        "Each text has messages one after the other: each begins where the last ended",
+    );
+    command.arg(files)?.arg(given_option(alloc))?.arg(split)
+}
+
+/// The option for the form of the octets that are given.
+fn given_option<'a>(alloc: Global) -> Arg<'a>
+    ensures rule { (p : _) × TakesNames given_names p × (rule_of result ≡ names_rule (codes "in") p) }
+    ensures local { result.global ≡ false }
+{
+    Arg::new(alloc, "in")
+        .long("in")
+        .value_name("FORM")
+        .action(ArgAction::Set)
+        .value_parser(GIVEN.as_slice())
+        .help("How octets are given [default: a line of hexadecimal digits, two an octet]")
+}
+
+/// The option for the form of the octets that are written.
+fn written_option<'a>(alloc: Global) -> Arg<'a>
+    ensures rule { (p : _) × TakesNames written_names p × (rule_of result ≡ names_rule (codes "out") p) }
+    ensures local { result.global ≡ false }
+{
+    Arg::new(alloc, "out")
+        .long("out")
+        .value_name("FORM")
+        .action(ArgAction::Set)
+        .value_parser(WRITTEN.as_slice())
+        .help("How `encode` and `convert` write octets [default: hex]")
+}
+
+/// The command with the options for the layout of JSON, and for what is counted.
+pub fn with_answers<'a>(alloc: Global, command: Command<'a>) -> Result<Command<'a>, AllocError>
+    ensures shape { IfOk result (λ c. (p : _) × TakesNames member_names p
+        × (app_of c ≡ with_rules (app_of command.entry) (answer_rules p))) }
+    ensures local { (out-Command command.entry).has_globals ≡ false
+        → IfOk result (λ c. (out-Command c).has_globals ≡ false) }
+{
+    let pretty = flag(
+        alloc,
+        "pretty",
+        "`show` and `newer` write a line for each member and element",
+    );
+    let stats = flag(
+        alloc,
+        "stats",
+        "`check` counts on standard error the messages, their octets, alternatives and refusals",
+    );
+    let command = command.arg(pretty)?.arg(members_option(alloc))?.arg(stats)?;
+    with_versions(alloc, command)
+}
+
+/// The command with the options for messages of other versions of a type.
+fn with_versions<'a>(alloc: Global, command: Command<'a>) -> Result<Command<'a>, AllocError>
+    ensures shape { IfOk result (λ c. app_of c ≡ with_rules (app_of command.entry) version_rules) }
+    ensures local { (out-Command command.entry).has_globals ≡ false
+        → IfOk result (λ c. (out-Command c).has_globals ≡ false) }
+{
+    let json = flag(
+        alloc,
+        "json",
+        "`newer` writes an object with the value, and with what is skipped by path, addition and octets",
+    );
+    let newer = flag(
+        alloc,
+        "newer",
+        "`encode` takes such objects, and refuses one of which something was skipped",
+    );
+    command.arg(json)?.arg(newer)
+}
+
+/// The option for the order of the members of JSON.
+fn members_option<'a>(alloc: Global) -> Arg<'a>
+    ensures rule { (p : _) × TakesNames member_names p × (rule_of result ≡ names_rule (codes "order") p) }
+    ensures local { result.global ≡ false }
+{
+    Arg::new(alloc, "order")
+        .long("order")
+        .value_name("ORDER")
+        .action(ArgAction::Set)
+        .value_parser(MEMBERS.as_slice())
+        .help("In which order `show` writes the members of objects [default: name]")
+}
+
+/// An option for files.
+fn files_option<'a>(alloc: Global, name: &'a str, help: &'a str) -> Arg<'a>
+    ensures rule { rule_of result ≡ files_rule name.entry.now }
+    ensures local { result.global ≡ false }
+{
+    Arg::new(alloc, name)
+        .long(name)
+        .value_name("FILE")
+        .num_args(1..)
+        .action(ArgAction::Set)
+        .help(help)
+}
+
+/// The command with the options for what the profile does not have as it is published.
+pub fn with_leave<'a>(alloc: Global, command: Command<'a>) -> Result<Command<'a>, AllocError>
+    ensures shape { IfOk result (λ c. app_of c ≡ with_rules (app_of command.entry) leave_rules) }
+    ensures local { (out-Command command.entry).has_globals ≡ false
+        → IfOk result (λ c. (out-Command c).has_globals ≡ false) }
+{
+    let plain_bits = flag(
+        alloc,
+        "plain-bits",
+        "Named bits without a fixed size are a BIT STRING; the writer trims the last zeros",
+    );
+    let octets = flag(
+        alloc,
+        "octets",
+        "OBJECT IDENTIFIER, REAL and strings of other characters are an OCTET STRING of their content",
+    );
+    let levels = number_option(
+        alloc,
+        "levels",
+        "How many levels of a recursive type there are, below which is NULL [default: 0, which refuses it]",
+    );
+    command.arg(plain_bits)?.arg(octets)?.arg(levels)
+}
+
+/// An option whose value is a number of 32 bits.
+pub fn number_option<'a>(alloc: Global, name: &'a str, help: &'a str) -> Arg<'a>
+    ensures rule { rule_of result ≡ number_rule name.entry.now }
+    ensures local { result.global ≡ false }
+{
+    Arg::new(alloc, name)
+        .long(name)
+        .value_name("N")
+        .action(ArgAction::Set)
+        .value_parser(value_parser!(u32))
+        .help(help)
+}
+
+/// An option without a value.
+pub fn flag<'a>(alloc: Global, name: &'a str, help: &'a str) -> Arg<'a>
+    ensures rule { rule_of result ≡ flag_rule name.entry.now }
+    ensures local { result.global ≡ false }
+{
+    Arg::new(alloc, name)
+        .long(name)
+        .action(ArgAction::SetTrue)
+        .help(help)
+}

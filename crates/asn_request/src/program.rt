@@ -1,0 +1,42 @@
+//! The command line as `clap` knows it.
+ghost use Rattle.std.specs.Prelude.{IfOk};
+ghost use Rattle.clap.specs.Words.{app_of};
+ghost use Rattle.asn_request.specs.Command.{IsTool};
+
+use crate::help;
+use crate::words::{example, fields, flatten, module, order, reading, types};
+use clap::Command;
+use std::alloc::{AllocError, Global};
+
+/// The program's command, with a subcommand for published modules, for the module and for each order.
+pub fn command<'a>(alloc: Global) -> Result<Command<'a>, AllocError>
+    ensures { IfOk result (λ c. IsTool (app_of c)) }
+{
+    Command::new(alloc, "asn_tool")
+        .version("0.1.0")
+        .about("Shows, checks, encodes and converts messages of the types of ASN.1 modules")
+        .after_help(help::PROGRAM)
+        .no_binary_name(true)
+        .subcommand_required(true)
+        .bin_name("asn_tool")?
+        .subcommand(flatten(alloc)?)?
+        .subcommand(module(alloc)?)?
+        .subcommand(fields(alloc)?)?
+        .subcommand(types(alloc)?)?
+        .subcommand(example(alloc)?)?
+        .subcommand(reading(alloc, "show", "Shows messages as JSON", help::SHOW)?)?
+        .subcommand(reading(alloc, "check", "Checks messages", help::CHECK)?)?
+        .subcommand(order(alloc, "encode", "Encodes JSON", help::ENCODE)?)?
+        .subcommand(reading(
+            alloc,
+            "convert",
+            "Converts messages to the other rules",
+            help::CONVERT,
+        )?)?
+        .subcommand(order(
+            alloc,
+            "newer",
+            "Shows messages of other versions of a type",
+            help::NEWER,
+        )?)
+}

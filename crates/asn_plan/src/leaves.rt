@@ -1,14 +1,12 @@
 //! What the rules read by themselves, for one node of a plan.
-ghost use Rattle.std.specs.Prelude.{◌≡◌, ◌*◌, ◌+◌, ◌≤◌, ◌<◌, ◌^◌, ◌≤ℤ◌, ◌<ℤ◌, pos, Some, IfSome, IsNone, IsSome, true, false, ◌-◌, ◌/◌, ◌%◌};
+ghost use Rattle.std.specs.Prelude.{◌≡◌, ◌*◌, ◌+◌, ◌≤◌, ◌<◌, ◌^◌, ◌≤ℤ◌, ◌<ℤ◌, pos, Some, IfSome, IsNone, IsSome, false, ◌-◌, ◌/◌};
 ghost use Rattle.asn_bits.specs.Numbers.{magnitude};
-ghost use Rattle.asn_bits.specs.Sink.{bit_of};
 ghost use Rattle.asn_oer.specs.FixedSizes.{fixed_size};
 ghost use Rattle.asn_values.specs.Fits.{lowest_integer, highest_integer};
 ghost use Rattle.asn_values.specs.Datum.{truth, item};
-ghost use Rattle.asn_walk.specs.AtOnce.{IsOnlyLength};
 ghost use Rattle.asn_values.specs.Profile.{InProfile};
 ghost use Rattle.asn_values.specs.Shape.{Shape, boolean, integer};
-ghost use Rattle.asn_values.specs.View.{shape_of, range_of, size_range_of};
+ghost use Rattle.asn_values.specs.View.{shape_of, range_of};
 ghost use Rattle.asn_plan.specs.FixedStrings.{IsFixedString, IsStringOf};
 ghost use Rattle.asn_plan.specs.Ranged.{ranged, held_in, IsRanged};
 ghost use Rattle.asn_walk.specs.Laws.{IsSimple};
@@ -20,7 +18,6 @@ ghost use Rattle.asn_plan.specs.Plans.{Builds, IsLeafPlan};
 use crate::build::Build;
 use crate::enumeration::Enumeration;
 use crate::fixed::FixedString;
-use crate::octets::MOST_OCTETS;
 use crate::plan::{Between, Leaf, WithDefault};
 use crate::ranged::Ranged;
 use crate::rules::PlanLeaves;
@@ -29,7 +26,7 @@ use asn_bits::BitCursor;
 use asn_bits::internal::{wide_offset_from, width};
 use asn_oer::internal::fixed_size;
 use asn_rules::internal::greatest_of_width;
-use asn_values::{AsnType, Bounds, Size, Value};
+use asn_values::{AsnType, Bounds, Value};
 use asn_walk::ReadLeaves;
 use std::alloc::Global;
 
@@ -206,77 +203,6 @@ fn try_string<R: PlanLeaves>(fixed: &FixedString, units: &mut BitCursor<'_>) -> 
     }
     *units = start;
     None
-}
-
-/// What is worked out of a string of one length, if it has at most 63 bits with the extension bit; `None` of any other
-/// type.
-pub(crate) fn fixed_of(ty: &AsnType) -> Option<FixedString>
-    ensures { IfSome result (λ f. IsFixedString f (shape_of ty.now)) }
-{
-    match ty {
-        AsnType::Bits(size) => {
-            let length = only_length(size)?;
-            if length > 62 {
-                return None;
-            }
-            let (head_bits, head) = octets_before(size.ext, length);
-            let octets = (head_bits + length + 7) / 8;
-            Some(FixedString {
-                of_octets: false,
-                length,
-                highest: greatest_of_width(length),
-                bits: u32::from(size.ext) + length,
-                octets: if octets <= MOST_OCTETS { octets } else { 0 },
-                head_bits,
-                head,
-                own_bits: length,
-                unused: (8 - length % 8) % 8,
-            })
-        }
-        AsnType::Octets(size) => {
-            let length = only_length(size)?;
-            if length > 7 || size.ext {
-                return None;
-            }
-            Some(FixedString {
-                of_octets: true,
-                length,
-                highest: greatest_of_width(8 * length),
-                bits: 8 * length,
-                octets: length,
-                head_bits: 0,
-                head: 0,
-                own_bits: 8 * length,
-                unused: 0,
-            })
-        }
-        _ => None,
-    }
-}
-
-/// What stands by OER before a BIT STRING of at most 62 bits: where there is an extension mark, its length and the count of
-/// its unused bits, in how many bits, and as a number; else nothing.
-fn octets_before(marked: bool, length: u32) -> (u32, u64)
-    requires { length ≤ 62 }
-    ensures bits { result.0 ≡ 16 * bit_of marked }
-    ensures number { marked ≡ true → result.1 ≡ 256 * (1 + (length + 7) / 8) + (8 - length % 8) % 8 }
-{
-    if !marked {
-        return (0, 0);
-    }
-    let octets = 1 + (length + 7) / 8;
-    (16, u64::from(256 * octets + (8 - length % 8) % 8))
-}
-
-/// The only length that a size leaves in its root, if it leaves one.
-fn only_length(size: &Size) -> Option<u32>
-    ensures { IfSome result (λ n. IsOnlyLength (size_range_of size.now) n) }
-{
-    let high = size.high?;
-    if high != size.low {
-        return None;
-    }
-    Some(high)
 }
 
 /// The INTEGER of these bounds, if there are two, and the offsets between them have at most 64 bits with the extension

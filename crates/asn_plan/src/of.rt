@@ -13,8 +13,9 @@ ghost use Rattle.asn_plan.specs.Plans.{IsLeafPlan, IsPresence, IsPlan, IsPlanOf,
 
 use crate::copies::copy_simple;
 use crate::fields::{count_fields, index_fields};
+use crate::fixed::fixed_of;
 use crate::items::items_of;
-use crate::leaves::{between_of, fixed_of};
+use crate::leaves::between_of;
 use crate::plan::{
     AlternativeRows, ComponentRows, ElementRow, Kind, Leaf, Node, Plan, Presence, Runs, WithDefault,
 };

@@ -2,8 +2,8 @@
 ghost use Rattle.std.specs.Prelude.{◌≤◌};
 
 use crate::build::Build;
+use crate::fixed::fixed_of;
 use crate::items::{are_ordered, first_in_row};
-use crate::leaves::fixed_of;
 use crate::octets::MOST_OCTETS;
 use crate::plan::{Node, Presence, Runs};
 use crate::word::Run;

@@ -30,6 +30,7 @@ use Rattle.asn_plan.specs.Plans.{IsPlan, Builds, BuildsEntry}
 use Rattle.asn_plan.specs.Words.{before}
 use Rattle.asn_plan.proofs.WordsRead.{nothing_left}
 use Rattle.asn_plan.proofs.+walk.Goals as goal
+use Rattle.asn_plan.proofs.+walk.Goals.{component::build_component-in-Must, component::build_component-in-Optional+else-presence-eq0+else-not-next}
 
 pub walk::build_at-returns-in-Some-clause-some : goal.walk::build_at-returns-in-Some-clause-some
 walk::build_at-returns-in-Some-clause-some g t c s good p =
@@ -108,7 +109,17 @@ pub component::build_component-returns-in-Default-clause-some : goal.component::
 component::build_component-returns-in-Default-clause-some g t c some s = c.build_with_default.ensures.some some s
 
 pub component::build_component-returns-clause-some : goal.component::build_component-returns-clause-some
-component::build_component-returns-clause-some g t c some s = ?
+component::build_component-returns-clause-some g t c some s =
+    let r = g.R.ReadLeaves.rules in
+    let P = g.B.Build.listed s c.args.room.now c.args.entries.now in
+    let N = g.B.Build.listed s c.present.new.room c.present.new.entries in
+    let us = before r c.args.word.now (r.to_units c.args.units.now) in
+    let vs = before r c.build_value.new.word (r.to_units c.build_value.new.units) in
+    let Q = g.B.Build.built c.args.room.now c.build_value.new.room c.in_ok-value.value in
+    elim c.match-part.branch [
+      | component::build_component-in-Must w ↦ rw w.presence-is (must_entry r P N c.args.nodes.now c.args.part.now c.args.presence.now.bitmap c.args.presence.now.left us vs Q (λ es d l q. c.present.ensures some s c.args.room.now es d l q) w.in-Must.is (λ t good p. (let b = c.in_ok-value.ensures.some t good p in (b.value, b.of_value, b.read))))
+      | component::build_component-in-Optional+else-presence-eq0+else-not-next w ↦ (let bit : 1 ≡ c.args.presence.now.bitmap / 2 ^ w.next.new.self.left % 2 = ap bit_of (sym w.if-not-next.false) ∙ w.next.ensures.bit.1 in rw w.presence-is (present_entry r P N c.args.nodes.now c.args.part.now c.args.presence.now.bitmap c.args.presence.now.left us vs Q (λ es d l q. c.present.ensures some s c.args.room.now es d l q) w.next.new.self.left w.next.ensures.bit.0 w.in-Optional.is bit (λ t good p. (let b = c.in_ok-value.ensures.some t good p in (b.value, b.of_value, b.read)))))
+    ]
 
 pub component::build_value-returns-then-is_empty-clause-some : goal.component::build_value-returns-then-is_empty-clause-some
 component::build_value-returns-then-is_empty-clause-some g t c =

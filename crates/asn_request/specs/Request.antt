@@ -17,7 +17,7 @@ use Rattle.asn_jobs.specs.declared.job.RuleName.TheVariants as rules
 use Rattle.asn_json_layout.specs.declared.layout.Layout.{Layout}
 use Rattle.asn_jobs.specs.declared.texts.OctetForm.{OctetForm}
 use Rattle.asn_jobs.specs.declared.texts.OctetForm.TheVariants as octets
-use Rattle.asn_published.specs.declared.options.Options.{Options}
+use Rattle.asn_published_text.specs.declared.options.Options.{Options}
 use Rattle.asn_request.specs.declared.asking.Asking.{Asking}
 use Rattle.asn_request.specs.declared.asking.Forms.{Forms}
 use Rattle.asn_request.specs.declared.asking.Versions.{Versions}

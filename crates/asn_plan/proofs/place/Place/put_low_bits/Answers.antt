@@ -1,9 +1,9 @@
 use Rattle.std.proofs.Common.{rules, ◌<◌, length, arith}
 use Rattle.asn_plan.proofs.Placing.{placed}
-use Rattle.asn_plan.proofs.strings.Place.put_low_octets.Goals as goal
+use Rattle.asn_plan.proofs.place.Place.put_low_bits.Goals as goal
 
 pub returns-then-self-len : goal.returns-then-self-len
-returns-then-self-len c some =
+returns-then-self-len c some bs e =
     let p = c.args.self.now in
     let inside : p.at < length p.items.items = search (rules, arith) in
-    placed p _ _ inside (c.set_low_octets.ensures c.if-set_low_octets.true)
+    placed p _ _ inside (c.set_low_bits.ensures c.if-set_low_bits.true bs e)

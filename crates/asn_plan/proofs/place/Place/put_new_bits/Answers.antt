@@ -6,7 +6,7 @@ use Rattle.asn_values.proofs.Views.{datum_of-Bits}
 use Rattle.asn_bits.specs.Numbers.{bits}
 use Rattle.asn_bits.specs.Sink.{bit_of}
 use Rattle.asn_plan.specs.Placed.{IsPut}
-use Rattle.asn_plan.proofs.strings.Place.put_new_bits.Goals as goal
+use Rattle.asn_plan.proofs.place.Place.put_new_bits.Goals as goal
 
 pub returns : goal.returns
 returns c some bs e =

@@ -5,7 +5,7 @@ use Rattle.asn_values.specs.Datum.{octet_list}
 use Rattle.asn_values.proofs.Views.{datum_of-Octets}
 use Rattle.asn_bits.specs.Numbers.{octets}
 use Rattle.asn_plan.specs.Placed.{IsPut}
-use Rattle.asn_plan.proofs.strings.Place.put_new_octets.Goals as goal
+use Rattle.asn_plan.proofs.place.Place.put_new_octets.Goals as goal
 
 pub returns : goal.returns
 returns c some =

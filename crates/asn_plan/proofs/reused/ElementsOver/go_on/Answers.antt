@@ -2,7 +2,7 @@ use Rattle.std.proofs.Common.{rules, ◌≡◌, ◌+◌, ◌<◌, length, Some, 
 use Rattle.std.proofs.lemmas.Option.{same_Some}
 use Rattle.asn_values.specs.View.{datum_of}
 use Rattle.asn_plan.proofs.Placing.{element_before, found_there}
-use Rattle.asn_plan.proofs.elements.ElementsOver.go_on.Goals as goal
+use Rattle.asn_plan.proofs.reused.ElementsOver.go_on.Goals as goal
 
 pub returns-in-Some-clause-made : goal.returns-in-Some-clause-made
 returns-in-Some-clause-made c some d there =

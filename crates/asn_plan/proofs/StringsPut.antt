@@ -1,7 +1,7 @@
 -- Strings that are told by a number in their bits, put one bit or octet after the other.
-use Rattle.std.proofs.Common.{◌≡◌, ◌+◌, ◌-◌, ◌*◌, ◌/◌, ◌%◌, ◌^◌, ◌++◌, ◌∷◌, [], ◌<◌, ◌≤◌, ℕ, zero, suc, Bool, true, false, ◌==◌, List, length, map, take, slice_set, refl, sym, ap, subst, ◌∙◌, append_assoc, arith}
+use Rattle.std.proofs.Common.{◌≡◌, ◌+◌, ◌-◌, ◌*◌, ◌/◌, ◌%◌, ◌^◌, ◌++◌, ◌∷◌, [], ◌<◌, ℕ, zero, suc, Bool, true, false, ◌==◌, List, length, map, take, slice_set, refl, sym, ap, subst, ◌∙◌, append_assoc, arith}
 use Rattle.std.proofs.lemmas.Bool.{true≢false}
-use Rattle.std.proofs.lemmas.List.{take_more_set, take_all, map_push}
+use Rattle.std.proofs.lemmas.List.{take_more_set, map_push}
 use Rattle.std.proofs.Math.Nat.{div-one}
 use Rattle.std.proofs.lemmas.Nat.{shr-shr}
 use Rattle.asn_values.specs.Datum.{Datum, bit_list, octet_list}

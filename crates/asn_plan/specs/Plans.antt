@@ -1,5 +1,5 @@
 -- Which types the nodes of a plan stand for, and what the walk of a plan says of units.
-use Rattle.std.specs.Prelude.{◌≡◌, ◌+◌, ◌-◌, ◌*◌, ◌≤◌, ◌<◌, ℕ, zero, suc, List, [], ◌∷◌, ◌++◌, length, take, drop, Option, Some, None, IfSome, Result, Ok, Err, ⊤}
+use Rattle.std.specs.Prelude.{◌≡◌, ◌+◌, ◌-◌, ◌*◌, ◌≤◌, ◌<◌, ℕ, zero, suc, List, [], ◌∷◌, ◌++◌, length, take, drop, Option, None, IfSome, Result, Ok, Err, ⊤}
 use Rattle.asn_values.specs.Datum.{Datum}
 use Rattle.asn_values.specs.Parts.{AreOfProfile}
 use Rattle.asn_values.specs.Profile.{InProfile}

@@ -10,7 +10,6 @@ ghost use Rattle.asn_plan.specs.Plans.{IsPlan, BuildsNext, BuildsOther, BuildsEn
 ghost use Rattle.asn_plan.specs.Words.{before};
 
 use crate::build::Build;
-use crate::copies::copy_default;
 use crate::leaves::read_other;
 use crate::packed::{build_next, build_other_number, fill};
 use crate::plan::{Node, Presence, WithDefault};
@@ -177,8 +176,7 @@ fn build_default<R: PlanLeaves, B: Build>(
         return None;
     }
     if !presence.next() {
-        let default = copy_default(&with_default.default)?;
-        let absent = B::value(room, default)?;
+        let absent = B::kept(room, &with_default.default)?;
         return B::present(room, entries, absent);
     }
     let other = build_other::<R, B>(nodes, part, with_default, word, units, room)?;

@@ -3,7 +3,7 @@ use Rattle.std.proofs.lemmas.List.{drop_all, nil_from_length}
 use Rattle.asn_values.specs.Datum.{truth, number, item, alternative}
 use Rattle.asn_values.specs.Profile.{InProfile}
 use Rattle.asn_values.specs.Shape.{Shape, Fields, no_fields, demands, sequence, sequence_of, choice}
-use Rattle.asn_values.specs.View.{datum_of, size_range_of}
+use Rattle.asn_values.specs.View.{size_range_of}
 use Rattle.asn_values.proofs.InnerTypes.{element_of_profile}
 use Rattle.asn_values.proofs.Parts.{components_of_profile}
 use Rattle.asn_values.proofs.Views.{shape_of-Bool}
@@ -21,12 +21,11 @@ use Rattle.asn_plan.proofs.Additions.{present_addition, absent_addition, added_s
 use Rattle.asn_plan.proofs.Alternatives.{alternative_at, each_count, root_count, root_read, added_read}
 use Rattle.asn_plan.proofs.Building.{next_node, built_further, goes_ends, absents_are, no_root, no_additions, sequence_read}
 use Rattle.asn_plan.proofs.Entries.{must_entry, present_entry, absent_entry}
-use Rattle.asn_plan.proofs.Messages.{whole_message, field_read, turned_true, turned_false, whole_here}
+use Rattle.asn_plan.proofs.Messages.{field_read, turned_true, turned_false, whole_here}
 use Rattle.asn_plan.proofs.NodeKinds.{if_some, number_is, truth_is, item_is, leaf_is, sequence_is, list_is, choice_is}
 use Rattle.asn_plan.proofs.Rows.{row_begins, row_further, listed_starts, listed_further, listed_ends, list_read, counted_read, started_read}
 use Rattle.asn_plan.specs.declared.plan.Kind.TheVariants as kind
-use Rattle.asn_plan.specs.declared.plan.Presence.TheVariants as presence
-use Rattle.asn_plan.specs.Plans.{IsPlan, Builds, BuildsEntry}
+use Rattle.asn_plan.specs.Plans.{IsPlan, Builds}
 use Rattle.asn_plan.specs.Words.{before}
 use Rattle.asn_plan.proofs.WordsRead.{nothing_left}
 use Rattle.asn_plan.proofs.+walk.Goals as goal

@@ -10,7 +10,7 @@ returns-then-not-next-clause-some g c some s =
     let r = g.R.ReadLeaves.rules in
     let us = before r c.args.word.now (r.to_units c.args.units.now) in
     let bit : 0 ≡ c.args.presence.now.bitmap / 2 ^ c.next.new.self.left % 2 = ap bit_of (sym c.if-not-next.true) ∙ c.next.ensures.bit.1 in
-    default_entry r (g.B.Build.listed s c.args.room.now c.args.entries.now) (g.B.Build.listed s c.present.new.room c.present.new.entries) c.args.nodes.now c.args.part.now c.args.presence.now.bitmap c.args.presence.now.left us us (g.B.Build.built c.args.room.now c.value.new.room c.in_ok-absent.absent) (λ es d l q. c.present.ensures some s c.args.room.now es d l q) c.next.new.self.left c.next.ensures.bit.0 c.args.with_default.now c.requires.is bit (datum_of c.in_ok-default.default) c.in_ok-absent.ensures c.in_ok-default.ensures refl
+    default_entry r (g.B.Build.listed s c.args.room.now c.args.entries.now) (g.B.Build.listed s c.present.new.room c.present.new.entries) c.args.nodes.now c.args.part.now c.args.presence.now.bitmap c.args.presence.now.left us us (g.B.Build.built c.args.room.now c.kept.new.room c.in_ok-absent.absent) (λ es d l q. c.present.ensures some s c.args.room.now es d l q) c.next.new.self.left c.next.ensures.bit.0 c.args.with_default.now c.requires.is bit (datum_of c.args.with_default.now.default) c.in_ok-absent.ensures refl refl
 
 pub returns-clause-some : goal.returns-clause-some
 returns-clause-some g c some s =

@@ -1,10 +1,9 @@
-use Rattle.std.proofs.Common.{rules, ◌≡◌, ◌≤◌, ◌<◌, ◌-◌, ◌*◌, ◌/◌, ◌^◌, ◌≤ℤ◌, ◌<ℤ◌, ◌-ℤ◌, ℕ, ℤ, pos, negsuc, false, to_z, of_z, refl, sym, ap, ◌∙◌, arith}
+use Rattle.std.proofs.Common.{rules, ◌≡◌, ◌≤◌, ◌-◌, ◌*◌, ◌/◌, ◌^◌, ◌-ℤ◌, ℕ, ℤ, pos, negsuc, false, to_z, of_z, refl, sym, ap, ◌∙◌, arith}
 use Rattle.std.proofs.lemmas.Int.{ints}
 use Rattle.std.specs.Int.RustNames.{int_le}
 use mir.Syntax.{w128}
 use lib.IntN.{nat_abs}
 use Rattle.asn_bits.specs.Numbers.{magnitude}
-use Rattle.asn_bits.proofs.Above.{kept}
 use Rattle.asn_bits.proofs.Reading.{word_mask}
 use Rattle.asn_bits.proofs.Splits.{two_pow_octets}
 use Rattle.asn_plan.specs.Ranged.{held_in}

@@ -1,4 +1,4 @@
-use Rattle.std.proofs.Common.{◌≡◌, ◌+ℤ◌, pos, true, None, refl}
+use Rattle.std.proofs.Common.{◌+ℤ◌, pos, None, refl}
 use mir.Syntax.{w128}
 use mir.Val.{to_z, of_z}
 use Rattle.asn_values.specs.Datum.{number}

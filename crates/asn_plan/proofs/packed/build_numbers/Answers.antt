@@ -1,7 +1,7 @@
 use Rattle.std.proofs.Common.{refl, arith}
 use Rattle.std.proofs.lemmas.List.{nil_from_length}
 use Rattle.asn_plan.specs.Words.{before}
-use Rattle.asn_plan.proofs.Building.{built_starts, built_further, goes_ends, next_node}
+use Rattle.asn_plan.proofs.Building.{built_starts, built_further, goes_ends}
 use Rattle.asn_plan.proofs.Entries.{must_entry}
 use Rattle.asn_plan.proofs.packed.build_numbers.Goals as goal
 

@@ -1,4 +1,4 @@
-use Rattle.std.proofs.Common.{◌≡◌, ◌≤◌, ◌<◌, ◌^◌, ◌+ℤ◌, pos, arith}
+use Rattle.std.proofs.Common.{◌≡◌, ◌≤◌, ◌+ℤ◌, pos, arith}
 use mir.Syntax.{w128}
 use mir.Val.{to_z, of_z}
 use Rattle.asn_bits.proofs.Above.{kept}

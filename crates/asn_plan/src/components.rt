@@ -71,7 +71,10 @@ pub(crate) fn build_sequences<R: PlanLeaves, B: Build>(
         → BuildsRow R.rules (B.rowed s room.old row.old) (B.rowed s room.new row.new) (Row (ValuesOf R.rules t) count)
         (R.rules.to_units units.old) (R.rules.to_units units.new) }
 {
-    if parts.begin >= parts.middle || parts.middle > parts.end || parts.end > nodes.len() {
+    if parts.begin > parts.middle || parts.middle > parts.end || parts.end > nodes.len() {
+        return None;
+    }
+    if parts.begin >= parts.end {
         return None;
     }
     let before = &nodes[..parts.begin];

@@ -125,7 +125,9 @@ fn build_elements<R: PlanLeaves, B: Build>(
         (R.rules.to_units units.old) (R.rules.to_units units.new) }
 {
     if let Kind::Sequence(parts) = kind {
-        return build_sequences::<R, B>(alloc, nodes, parts, count, row, units, room);
+        if parts.begin < parts.end {
+            return build_sequences::<R, B>(alloc, nodes, parts, count, row, units, room);
+        }
     }
     for i in 0..count {
         let value = build_at::<R, B>(alloc, nodes, kind, units, room)?;

@@ -436,7 +436,7 @@ class Tries:
             for found in [*pool.map(self.together, groups)]:
                 reasons.update(found)
             left = [it for it in left if it.label not in self.refused]
-        tasks = [(it, reasons.get(it.label, "no other edit goes with it")) for it in [*left, *[it for it in self.edits if it.by]]]
+        tasks = [(it, reasons.get(it.label, "no other edit goes with it")) for it in [*left, *[it for it in self.edits if it.by and it.functions]]]
         [*pool.map(lambda task: self.by_itself(*task), tasks)]
         [*pool.map(self.whole, single)]
         for seed in {self.seed, self.whole_seed} - {None}:

@@ -67,7 +67,8 @@ pub(crate) fn build_sequences<R: PlanLeaves, B: Build>(
 ) -> Option<()>
     requires at_unit { R.rules.at_unit units.old }
     ensures at_unit { IsSome result → R.rules.at_unit units.new }
-    ensures some { IsSome result → (s : B.Room) → (t : Shape) → InProfile t → IsPlan nodes.now t (kind.Sequence parts.now)
+    ensures some { IsSome result → (s : B.Room) → (t : Shape) → InProfile t
+        → IsPlan nodes.now t (kind.Sequence parts.now)
         → BuildsRow R.rules (B.rowed s room.old row.old) (B.rowed s room.new row.new) (Row (ValuesOf R.rules t) count)
         (R.rules.to_units units.old) (R.rules.to_units units.new) }
 {

@@ -49,7 +49,7 @@ impl ElementsOver {
         self.add_last(room)
     }
 
-    /// Adds the element that is in the room, where it is the last one of the value before or stands behind it.
+    /// Adds the element that is in the room, where it is the last one of the value before or comes after it.
     #[inline(never)]
     fn add_last(&mut self, room: &mut Spare) -> Option<()>
         ensures same { IsSome result → taken room.new.here ≡ taken room.old.here }
@@ -76,7 +76,7 @@ impl ElementsOver {
         Some(())
     }
 
-    /// Adds an element behind all others, which are new.
+    /// Adds an element after all others, which are new.
     fn push(&mut self, element: Value) -> Option<()>
         ensures { IsSome result → vec_len self.old.items ≤ self.old.count
             → made self.new ≡ made self.old ++ datum_of element ∷ [] }

@@ -2,7 +2,7 @@
 ghost use Rattle.std.specs.Prelude.{◌≡◌, ◌≤◌, ◌<◌, ◌+◌, ◌%◌, ◌^◌, IfSome};
 ghost use Rattle.std.proofs.Props.{props};
 
-/// The numbers from `low` on, as far as `most` above it, each of which is told by a number in so many bits: `low` itself by
+/// The numbers from `low` on, as far as `most` above it, each of which is told by a number in `bits` bits: `low` itself by
 /// `first`, and the next ones by the numbers after it.
 #[derive(Debug, Clone, Copy)]
 pub struct BitField {

@@ -238,7 +238,7 @@ pub(crate) fn between_of(bounds: &Bounds) -> Option<Between>
 struct InOctets {
     /// How many they are, where it is one count for all numbers; else 0.
     count: u32,
-    /// The highest number of so many octets.
+    /// The highest number of this many octets.
     mask: u64,
     /// What they hold of the low bound.
     least: u64,

@@ -195,7 +195,7 @@ fn try_apart(range: &Ranged, units: &mut BitCursor<'_>) -> Option<i128>
 }
 
 /// How far an integer lies above the low bound, of which `count` octets hold `octets` and `least`, where it is no lower;
-/// `mask` is the highest number of so many octets.
+/// `mask` is the highest number of this many octets.
 #[inline(always)]
 fn offset_from(least: u64, octets: u64, count: u32, mask: u64) -> u64
     requires some { 1 ≤ count }

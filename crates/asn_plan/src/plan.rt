@@ -70,7 +70,7 @@ pub struct ComponentRows {
     pub additions: Option<usize>,
     /// How many presence bits the root has.
     pub width: u32,
-    /// The highest number of so many bits, where these are no more than 64.
+    /// The highest number of this many bits, where these are no more than 64.
     pub mask: u64,
     /// The units of the extension bit and the presence bits, and the runs of the first component.
     pub head: Runs,

@@ -11,11 +11,11 @@ pub struct Ranged {
     pub highest: u64,
     /// The fewest bits that tell the numbers from 0 to `highest` apart, and the extension bit, where there is a mark.
     pub bits: u32,
-    /// The highest number of so many bits.
+    /// The highest number of this many bits.
     pub mask: u64,
     /// How many octets a number has by OER, where it is the same for all of them; else 0.
     pub octets: u32,
-    /// The highest number of so many octets, where there are some; else 0.
+    /// The highest number of this many octets, where there are some; else 0.
     pub octet_mask: u64,
     /// What these octets hold of `low`.
     pub least: u64,

@@ -1,22 +1,18 @@
 //! Jobs on standard input and output.
 use crate::answering::{Answers, Asked};
-use crate::counting::Counts;
-use crate::ending::ending;
 use crate::messages::answer_input;
-use crate::piped::Piped;
-use crate::progress::Progress;
-use crate::refused::{imports_told, line_told, text_told};
-use crate::sources::{Instead, input_with, instead_of, module_of};
-use crate::stop::Stop;
-use crate::texts::{texts_of, views_of};
 use asn_convert::{Job, RunFault, Status, cut_input, read_all, run, run_on_lines};
+use asn_jobs::{Piped, Progress, ending};
+use asn_look::Counts;
 use asn_module::Module;
+use asn_module_files::{Stop, input_given, input_of_files, module_of, tell_text, tells_of_module};
 use asn_plan::Planned;
-use asn_published::{Options, PublishedFault};
+use asn_published::Options;
 use asn_request::asking::Asking;
 use asn_rules::Counted;
 use asn_values::Checked;
-use std::io::{BufRead, BufReader, BufWriter, ErrorKind, IsTerminal, Write};
+use std::alloc::AllocError;
+use std::io::{BufRead, BufReader, BufWriter, ErrorKind, Write};
 use std::{fs, io};
 
 /// How many octets of answers are held back at once, until there is nothing more to be read.
@@ -41,11 +37,6 @@ pub fn run_job<'a>(
     }
 }
 
-/// Whether standard error tells why a module is refused: where that is asked for, or standard error is a terminal.
-pub fn tells_of_module(rt: &HostRuntime, asking: &Asking<'_>) -> bool {
-    asking.is_explained || rt.stderr().is_terminal()
-}
-
 /// Does the job, its module standing on standard input.
 fn run_given<'a>(
     rt: &HostRuntime,
@@ -54,20 +45,8 @@ fn run_given<'a>(
     asking: &Asking<'a>,
 ) -> Result<u8, Stop<'a>> {
     let given = read_all(rt.alloc(), &mut Counted::new(rt.reader()))?;
-    let instead = instead_of(rt.alloc(), given.as_slice(), options, job)?;
-    tell_remarks(rt, instead.remarks.as_str(), tells_of_module(rt, asking));
-    match &instead.octets {
-        Some(octets) => run_text(rt, job, octets.as_slice(), options, asking),
-        None => run_text(rt, job, given.as_slice(), options, asking),
-    }
-}
-
-/// Writes the remarks on published modules to standard error, and where that is told of a module, that it is one of several.
-pub fn tell_remarks(rt: &HostRuntime, remarks: &str, is_told: bool) {
-    let _ = rt.eprint(remarks);
-    if is_told {
-        let _ = rt.eprint(imports_told(remarks));
-    }
+    let octets = input_given(rt, given, options, job, tells_of_module(rt, asking))?;
+    run_text(rt, job, octets.as_slice(), options, asking)
 }
 
 /// Does the job on these octets, the text of the module and the lines after the mark.
@@ -81,8 +60,7 @@ fn run_text<'a>(
     let (text, lines) = cut_input(octets);
     if tells_of_module(rt, asking) {
         let is_all = text.len() == octets.len() && asking.messages.is_empty();
-        let told = text_told(rt.alloc(), text, options, job, is_all)?;
-        let _ = rt.eprint(told.as_str());
+        tell_text(rt, text, options, job, is_all)?;
     }
     let mut lines = lines;
     match run_asked(rt, job, text, asking, &mut lines)? {
@@ -106,9 +84,20 @@ fn run_asked<'a, R: BufRead>(
     let Some(module) = module_of(rt.alloc(), text)? else {
         return Ok(None);
     };
-    let Some(ty) = type_for(job, &module) else {
-        return Ok(None);
-    };
+    match type_for(job, &module) {
+        Some(ty) => run_for(rt, job, ty, asking, lines),
+        None => Ok(None),
+    }
+}
+
+/// The same for this type, by a plan of it.
+fn run_for<'a, R: BufRead>(
+    rt: &HostRuntime,
+    job: &Job,
+    ty: &Checked,
+    asking: &Asking<'a>,
+    lines: &mut R,
+) -> Result<Option<u8>, Stop<'a>> {
     let planned = Planned::new(rt.alloc(), ty.copy()?)?;
     match Asked::of(asking, job, &planned) {
         Some(asked) => Ok(Some(answer_all(rt, asking, asked, lines)?)),
@@ -142,18 +131,19 @@ fn answer_all<'a, R: BufRead>(
     } else {
         answer_files(rt, &mut answers, files, asked)?
     };
-    let Answers {
-        mut output,
-        counts,
-        mut progress,
-    } = answers;
-    progress.clear(rt);
-    let answer = flushed(&mut output, answer);
+    answers.progress.clear(rt);
+    let answer = flushed(&mut answers.output, answer);
     if asking.is_counted && answer.is_ok() {
-        let told = counts.text(rt.alloc())?;
-        let _ = rt.eprint(told.as_str());
+        tell_counts(rt, &answers.counts)?;
     }
-    Ok(ended(rt, &answer, output.into_inner().is_closed()))
+    Ok(ended(rt, &answer, answers.output.into_inner().is_closed()))
+}
+
+/// Tells on standard error what was counted.
+fn tell_counts(rt: &HostRuntime, counts: &Counts) -> Result<(), AllocError> {
+    let told = counts.text(rt.alloc())?;
+    let _ = rt.eprint(told.as_str());
+    Ok(())
 }
 
 /// How a job ended whose messages were answered so, once the writer holds nothing back.
@@ -214,51 +204,10 @@ fn run_with_files<'a>(
     options: Options,
     asking: &Asking<'a>,
 ) -> Result<u8, Stop<'a>> {
-    let texts = texts_of(rt, files)?;
-    let views = views_of(rt, texts.as_slice())?;
-    let Instead { octets, remarks } = match input_with(
-        rt.alloc(),
-        files,
-        views.as_slice(),
-        b"".as_slice(),
-        options,
-        job,
-    ) {
-        Ok(instead) => instead,
-        Err(fault) => {
-            return stopped(
-                rt,
-                files,
-                views.as_slice(),
-                fault,
-                tells_of_module(rt, asking),
-            );
-        }
-    };
-    tell_remarks(rt, remarks.as_str(), tells_of_module(rt, asking));
-    match octets {
+    match input_of_files(rt, files, options, job, tells_of_module(rt, asking))? {
         Some(head) => run_coming(rt, job, head.as_slice(), options, asking),
         None => Ok(2),
     }
-}
-
-/// What stops the program where the texts of the files become no module, after the line of the fault, where that is told.
-pub fn stopped<'a>(
-    rt: &HostRuntime,
-    files: &[&'a str],
-    texts: &[&str],
-    fault: PublishedFault,
-    is_told: bool,
-) -> Result<u8, Stop<'a>> {
-    if is_told {
-        if let PublishedFault::Text { text, line, .. } = &fault {
-            if let Some(text) = texts.get(*text) {
-                let told = line_told(rt.alloc(), *text, *line)?;
-                let _ = rt.eprint(told.as_str());
-            }
-        }
-    }
-    Err(Stop::of(files, fault))
 }
 
 /// The exit status of the job on the messages of the files or of standard input, the text of its module and the mark being
@@ -272,8 +221,7 @@ fn run_coming<'a>(
 ) -> Result<u8, Stop<'a>> {
     let (text, _) = cut_input(head);
     if tells_of_module(rt, asking) {
-        let told = text_told(rt.alloc(), text, options, job, false)?;
-        let _ = rt.eprint(told.as_str());
+        tell_text(rt, text, options, job, false)?;
     }
     if !asking.is_plain() {
         let Ok(mut lines) = BufReader::new(rt.alloc(), rt.reader()) else {
@@ -283,6 +231,11 @@ fn run_coming<'a>(
             return Ok(status);
         }
     }
+    run_lines(rt, job, head)
+}
+
+/// The exit status of the job on the lines of standard input, as they come.
+fn run_lines<'a>(rt: &HostRuntime, job: &Job, head: &[u8]) -> Result<u8, Stop<'a>> {
     let Ok(held) = BufWriter::with_capacity(rt.alloc(), HELD, Piped::new(io::writer(rt))) else {
         return Err(Stop::Memory);
     };

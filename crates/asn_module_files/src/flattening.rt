@@ -1,0 +1,89 @@
+//! Published modules as one module of the profile.
+use crate::sources::MOST;
+use crate::stop::Stop;
+use crate::texts::{texts_of, views_of};
+use asn_published::{
+    Flattened, Options, Status, TypeReport, flatten_within, missing_json, missing_text,
+    report_json, report_text, summary_of,
+};
+use asn_request::request::Form;
+use std::alloc::{AllocError, Global};
+
+/// Writes the module that the published modules of these files become to standard output, and what became of each type
+/// to standard error. The exit status is 0, or 1 where a type is refused.
+pub fn flatten_files<'a>(
+    rt: &HostRuntime,
+    files: &[&'a str],
+    options: Options,
+    form: Form,
+) -> Result<u8, Stop<'a>> {
+    let flattened = flattened_of(rt, files, options)?;
+    let told = told_in(rt.alloc(), files, &flattened, form)?;
+    write_both(rt, flattened.text.as_str(), told.as_str())?;
+    Ok(flatten_ending(flattened.report.as_slice()))
+}
+
+/// The module that the published modules of these files become.
+fn flattened_of<'a>(
+    rt: &HostRuntime,
+    files: &[&'a str],
+    options: Options,
+) -> Result<Flattened, Stop<'a>> {
+    let texts = texts_of(rt, files)?;
+    let views = views_of(rt, texts.as_slice())?;
+    match flatten_within(rt.alloc(), views.as_slice(), options, MOST) {
+        Ok(flattened) => Ok(flattened),
+        Err(fault) => Err(Stop::of(files, fault)),
+    }
+}
+
+/// Writes the one text to standard output, and the other to standard error.
+fn write_both(rt: &HostRuntime, text: &str, told: &str) -> Result<(), Stop<'static>> {
+    if let Err(fault) = rt.print(text) {
+        return Err(Stop::of_print(&fault));
+    }
+    match rt.eprint(told) {
+        Ok(()) => Ok(()),
+        Err(_) => Err(Stop::Write),
+    }
+}
+
+/// The modules that are not given, and what became of the types, in this form.
+fn told_in(
+    alloc: Global,
+    files: &[&str],
+    flattened: &Flattened,
+    form: Form,
+) -> Result<String, AllocError> {
+    let missing = flattened.missing.as_slice();
+    let mut told = match form {
+        Form::Summary | Form::Text => missing_text(alloc, files, missing)?,
+        Form::Json => missing_json(alloc, files, missing)?,
+    };
+    let report = report_in(alloc, files, flattened.report.as_slice(), form)?;
+    told.push_str(report.as_str())?;
+    Ok(told)
+}
+
+/// What became of the types, in this form.
+fn report_in(
+    alloc: Global,
+    files: &[&str],
+    report: &[TypeReport],
+    form: Form,
+) -> Result<String, AllocError> {
+    match form {
+        Form::Summary => summary_of(alloc, report),
+        Form::Text => report_text(alloc, files, report),
+        Form::Json => report_json(alloc, files, report),
+    }
+}
+
+/// The exit status: 1 where a type is refused.
+fn flatten_ending(report: &[TypeReport]) -> u8 {
+    if report.iter().any(|one| one.status == Status::Refused) {
+        1
+    } else {
+        0
+    }
+}

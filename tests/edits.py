@@ -3,7 +3,7 @@
 
 usage: tests/edits.py [CRATE..]      at the top of the repository: tries all edits of these crates, or of all
        tests/edits.py CRATE/NAME..   tries these edits alone (NAME without its ending), and notes nothing
-       tests/edits.py --due          as the gate does: those of the crates that changed, and of a sixteenth of the others
+       tests/edits.py --due          as the gate does: those of the crates that changed, and some of a sixteenth of the others
        tests/edits.py --due --beside the same beside `rt ci`: reads from its input the name of each crate as it is proved,
                                      and tries the crate's edits then; half of the processors are left to the proofs
        tests/edits.py --anew CRATE.. tries those of these crates as in a clone where nothing is kept, and notes nothing
@@ -36,12 +36,12 @@ there where every edit was refused, and tests/edits/alone.txt says which edits h
 the edits of every crate due. It takes crates in this order, and passes over one that has more edits than are left:
 1. those whose own text or edits changed since they were tried, or were never noted;
 2. those for which only a contract or a definition below them changed;
-3. of the others those of one part of sixteen (`TURNS`; by estimate each takes about as long), so that a sum that was noted
-   wrongly shows in time.
-Which of the first two kinds come first where not all have room, and which part is the third, is drawn from the sums of all
-crates (`drawn`). So it is the same wherever this text is tried, another as soon as a text changes that an edit rests on,
-and does not follow the number or the words of commits. What a merge has no time for is told; it is not noted, and so stays
-due.
+3. of the others those of one part of sixteen (`TURNS`; by estimate each takes about as long), and of their edits no more
+   than `MOST_IN_TURN`, so that a sum that was noted wrongly shows in time.
+Which of the first two kinds come first where not all have room, which part is the third, and which of its edits are tried,
+is drawn from the sums of all crates (`drawn`). So it is the same wherever this text is tried, another as soon as a text
+changes that an edit rests on, and does not follow the number or the words of commits. What a merge has no time for is told;
+it is not noted, and so stays due.
 """
 import functools
 import hashlib
@@ -54,6 +54,7 @@ import sys
 import tempfile
 import threading
 from concurrent.futures import ThreadPoolExecutor
+from types import SimpleNamespace
 
 sys.dont_write_bytecode = True
 sys.path.insert(0, os.path.dirname(os.path.abspath(__file__)))
@@ -85,6 +86,8 @@ TURNS = (
 ARCHIVES = TURNS.index(["asn_published_types", "asn_published_text"])
 # how many edits one merge has the time for, beside the proofs of all crates
 MOST = 450
+# how many edits of crates that did not change one merge tries
+MOST_IN_TURN = 48
 # the seconds that a check of edits may take, and three times as many beside proofs, which come first
 LIMIT = 1200
 # whether nothing that earlier checks kept is taken
@@ -596,16 +599,26 @@ def in_order(changed, below, others, counts, number):
     return taken, [it for it in [*changed, *below] if it not in taken]
 
 
+def some_of(names, edits, number):
+    """The edits of crates that have their turn that are tried, by a number that was drawn: each comes at times."""
+    order = lambda it: hashlib.sha256(f"{number} {it.label}".encode()).digest()
+    some = sorted((it for name in names for it in edits[name]), key=order)[:MOST_IN_TURN]
+    return {name: [it for it in edits[name] if it in some] for name in names}
+
+
 def due_of(chosen, edits, sums):
-    """The crates that --due tries, those that it leaves to their turn, and those that are due and have to wait."""
+    """The crates that --due tries with their edits that it tries, those that it leaves to their turn, and those that are due
+    and have to wait."""
     known, names = noted(), [it.name for it in chosen]
     due = [it for it in names if known.get(it, ())[:1] != sums[it][:1]]
     changed = [it for it in due if known.get(it, ())[1:] != sums[it][1:]]
     below, others = [it for it in due if it not in changed], [it for it in names if it not in due]
     counts = {name: len(found) for name, found in edits.items()}
     taken, waiting = in_order(changed, below, others, counts, drawn(sums))
-    left = [it for it in names if it not in taken and it not in waiting]
-    return [it for it in chosen if it.name in taken], left, waiting
+    some = some_of([it for it in taken if it in others], edits, drawn(sums))
+    tried = {name: found for name in taken if (found := some.get(name, edits[name]))}
+    left = [it for it in names if it not in tried and it not in waiting]
+    return [it for it in chosen if it.name in tried], tried, left, waiting
 
 
 def lanes():
@@ -755,7 +768,11 @@ def order_is_shown():
     first = {in_order(["a", "b", "c"], [], [], dict.fromkeys("abc", MOST), it)[0][0] for it in range(100)}
     parts = {it for number in range(100) for it in in_order([], [], others, dict.fromkeys(others, 1), number)[0]}
     one, two = {"a": ("1", "1"), "b": ("2", "2")}, {"a": ("1", "1"), "b": ("3", "2")}
-    well = not wrong and first == {*"abc"} and parts == {*others} and drawn(one) != drawn(two)
+    # so has each edit of a part of more edits than are tried
+    named = {name: [SimpleNamespace(label=f"{name}/{it}") for it in range(MOST_IN_TURN)] for name in "ab"}
+    some = [[it.label for found in some_of("ab", named, number).values() for it in found] for number in range(100)]
+    is_some = {*map(len, some)} == {MOST_IN_TURN} and {it for found in some for it in found} == {it.label for found in named.values() for it in found}
+    well = not wrong and is_some and first == {*"abc"} and parts == {*others} and drawn(one) != drawn(two)
     say(f"the order in which crates are tried: {'what changed comes first' if well else f'FAILED: {wrong[:1] or [first, parts]}'}")
     return well
 
@@ -816,12 +833,12 @@ def main(words):
                 say(f"{edit.label}: {edit.fault or ', '.join(name for name, _ in edit.functions) or 'more than bodies of functions'}")
         return 0
     sums = {it.name: (sum_of(it, edits[it.name]), own_sum_of(it, edits[it.name])) for it in crates if it.name in edits}
-    left, waiting = [], []
+    tried, left, waiting = edits, [], []
     if "--due" in words:
-        chosen, left, waiting = due_of(chosen, edits, sums)
+        chosen, tried, left, waiting = due_of(chosen, edits, sums)
         part = part_of(drawn(sums))
         say(f"the turn: part {part + 1} of {len(TURNS) + 1}{', with the archives' if part == ARCHIVES else ''}")
-    results = try_all(chosen, edits, "--beside" in words)
+    results = try_all(chosen, tried, "--beside" in words)
     if "--due" not in words and not single and not ANEW:
         note(results, sums)
     return summary(results, edits, left, waiting)

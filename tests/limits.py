@@ -4,7 +4,7 @@ examples/reference.py.
 
     tests/limits.py PROGRAM [COUNT [SEED]]
 
-The limits are those of crates/asn_values/src/profile.rt, and the reference has to have the same. The types are INTEGER with
+The limits are those of crates/asn_limits/src/lib.rt, and the reference has to have the same. The types are INTEGER with
 bounds at and beside powers of two and the ends of the profile's integers, marked and not, and as components with a
 DEFAULT; CHOICE and ENUMERATED of the most alternatives and items, one less, and around the forms of their indexes and
 tags; SEQUENCE of the most components and additions; and these inside one another. Of each type values are made at random
@@ -28,7 +28,7 @@ CHANGED = 40
 
 def of_the_program():
     """The limits of the program, as its source has them."""
-    with open(f'{TOP}/crates/asn_values/src/profile.rt') as file:
+    with open(f'{TOP}/crates/asn_limits/src/lib.rt') as file:
         text = file.read()
     names = 'HIGHEST_INTEGER', 'MAX_ALTERNATIVES', 'MAX_ITEM_ADDITIONS', 'MAX_COMPONENTS', 'MAX_ADDITIONS', 'MAX_ITEMS'
     return [int(re.search(rf'const {name}: \w+ = ([0-9_]+);', text)[1].replace('_', '')) for name in names]

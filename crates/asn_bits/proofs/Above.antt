@@ -5,7 +5,7 @@ use Rattle.std.specs.Int.RustNames.{int_le}
 use Rattle.std.specs.Int.Signed.{le_z_yes}
 use mir.Syntax.{w128}
 use mir.Val.{to_z, of_z}
-use Rattle.asn_values.specs.Fits.{lowest_integer, highest_integer}
+use Rattle.asn_limits.specs.Limits.{lowest_integer, highest_integer}
 use Rattle.asn_bits.specs.Numbers.{above}
 
 -- ---- tests as facts

@@ -4,7 +4,7 @@ use Rattle.std.proofs.lemmas.Bool.{le-leb, cases_lt}
 use Rattle.std.proofs.lemmas.Nat.{leading_length}
 use Rattle.std.proofs.Math.Nat.{pow-zero, pow-le-pow_right, two-pow-succ}
 use Rattle.std.proofs.lemmas.Int.{ints}
-use Rattle.asn_values.specs.Fits.{lowest_integer, highest_integer}
+use Rattle.asn_limits.specs.Limits.{lowest_integer, highest_integer}
 use lib.Count.{count_leading_zeros}
 use Rattle.asn_bits.specs.Numbers.{width, octet_count, magnitude, signed_octet_count, most_signed_octets}
 use Rattle.asn_bits.proofs.Octets.{octet_count_below, octet_count_fits, least_from_below, signed_count_below, signed_count_some, signed_fits}

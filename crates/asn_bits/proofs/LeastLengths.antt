@@ -7,7 +7,7 @@ use Rattle.asn_bits.specs.Lengths.{last_length, lengths_within, lengths, joined,
 use Rattle.asn_bits.proofs.GeneralLengths.{last_cases, map_same}
 use lib.IntN.{nat_abs}
 use Rattle.std.proofs.lemmas.Int.{ints}
-use Rattle.asn_values.specs.Fits.{lowest_integer, highest_integer}
+use Rattle.asn_limits.specs.Limits.{lowest_integer, highest_integer}
 use Rattle.asn_bits.proofs.Octets.{length-digits, signed_count_below}
 use Rattle.asn_bits.proofs.Splits.{unpacked-octets, digits-add, digits-mod, digits-join}
 

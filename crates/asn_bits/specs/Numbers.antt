@@ -1,6 +1,6 @@
 -- Numbers as bits and as octets.
 use Rattle.std.specs.Prelude.{◌+◌, ◌-◌, ◌*◌, ◌/◌, ◌%◌, ◌^◌, ◌==◌, ℕ, zero, suc, ℤ, pos, negsuc, Bool, true, false, List, [], ◌∷◌, ◌++◌, replicate, nat_le, nat_lt}
-use Rattle.asn_values.specs.Fits.{highest_integer}
+use Rattle.asn_limits.specs.Limits.{highest_integer}
 
 -- ---- a given number of digits
 

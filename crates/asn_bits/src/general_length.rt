@@ -10,7 +10,7 @@ ghost use Rattle.asn_bits.specs.declared.general_length.LengthState.TheVariants.
 
 use crate::cursor::BitCursor;
 use crate::number_field::FieldState;
-use asn_values::profile::{BLOCK, MAX_BLOCKS};
+use asn_limits::{BLOCK, MAX_BLOCKS};
 use std::marker::Model;
 
 /// Counts from `low` to `high`.

@@ -1,14 +1,15 @@
 //! General lengths, and octets under them (X.691, "general length determinant").
 ghost use Rattle.std.specs.Prelude.{◌≡◌, ◌+◌, ◌*◌, ◌/◌, ◌%◌, ◌^◌, ◌<◌, ◌≤◌, ◌≤ℤ◌, ◌++◌, length, IfOk, OnOk, OnErr, vec_len, vec_capacity};
-ghost use Rattle.asn_values.specs.Fits.{lowest_integer, highest_integer};
+ghost use Rattle.asn_limits.specs.Limits.{lowest_integer, highest_integer};
 ghost use Rattle.asn_bits.specs.LengthBits.{first_length};
 ghost use Rattle.asn_bits.specs.Lengths.{general_octets};
 ghost use Rattle.asn_bits.specs.Numbers.{bits, least, least_signed, unpacked};
 ghost use Rattle.asn_bits.specs.Sink.{IsPut, AddsFilled};
 
 use crate::numbers::{least_signed_parts, octet_count};
-use crate::sink::{BitSink, put, put_octets};
-use asn_values::profile::{BLOCK, MAX_BLOCKS};
+use crate::pending::{put, put_octets};
+use crate::sink::BitSink;
+use asn_limits::{BLOCK, MAX_BLOCKS};
 use std::alloc::AllocError;
 
 impl BitSink {

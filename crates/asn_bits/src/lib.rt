@@ -11,6 +11,7 @@ mod number_field;
 mod numbers;
 mod octet_lengths;
 mod offsets;
+mod pending;
 mod shifts;
 mod sink;
 mod words;

@@ -1,6 +1,6 @@
 //! How many bits and octets a number needs.
 ghost use Rattle.std.specs.Prelude.{◌≡◌, ℕ, pos, ◌+◌, ◌-◌, ◌*◌, ◌^◌, ◌<◌, ◌≤◌, ◌≤ℤ◌, ◌<ℤ◌, ◌++◌};
-ghost use Rattle.asn_values.specs.Fits.{lowest_integer, highest_integer};
+ghost use Rattle.asn_limits.specs.Limits.{lowest_integer, highest_integer};
 ghost use Rattle.asn_bits.specs.Lengths.{general_octets};
 ghost use Rattle.asn_bits.specs.Numbers.{bits, least, least_signed, octet_count, width, octets, signed_octets, signed_octet_count, most_signed_octets, magnitude};
 

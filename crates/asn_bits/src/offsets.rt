@@ -1,6 +1,6 @@
 //! How far integers lie above one another.
 ghost use Rattle.std.specs.Prelude.{◌≡◌, ◌<◌, ◌^◌, ◌≤ℤ◌, ◌+ℤ◌, pos};
-ghost use Rattle.asn_values.specs.Fits.{lowest_integer, highest_integer};
+ghost use Rattle.asn_limits.specs.Limits.{lowest_integer, highest_integer};
 ghost use Rattle.asn_bits.specs.Numbers.{above};
 
 /// The integer that lies `n` above `low`, an integer of the profile.

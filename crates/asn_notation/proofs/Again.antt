@@ -4,7 +4,7 @@ use Rattle.std.proofs.lemmas.List.{append-nil, length-append}
 use Rattle.std.proofs.lemmas.Bool.Decides.{nat_tests}
 use Rattle.std.specs.Prelude.{IfSome, ◌&&◌, negsuc, nat_lt, nat_le}
 use Rattle.std.specs.List.{AllByRecursion}
-use Rattle.asn_values.specs.Fits.{highest_number}
+use Rattle.asn_limits.specs.Limits.{highest_number}
 use Rattle.asn_notation.specs.declared.token.Word.TheVariants as words
 use Rattle.asn_notation.specs.declared.token.Sign.TheVariants as signs
 use Rattle.asn_notation.specs.declared.notation.Limits.{Limits}

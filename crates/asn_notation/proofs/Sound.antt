@@ -3,7 +3,7 @@ use Rattle.std.proofs.Common.{◌≡◌, ℕ, zero, suc, ◌<◌, ◌+◌, ◌^�
 use Rattle.std.proofs.lemmas.List.{append-nil}
 use Rattle.std.specs.Prelude.{IfSome, ◌&&◌, nat_lt, nat_le}
 use denote.Enum.Bare.{same_true}
-use Rattle.asn_values.specs.Fits.{highest_number}
+use Rattle.asn_limits.specs.Limits.{highest_number}
 use Rattle.asn_notation.specs.contracts.token.Word as word_type
 use Rattle.asn_notation.specs.contracts.token.Sign as sign_type
 use Rattle.asn_notation.specs.declared.token.Word.{Word}

@@ -1,7 +1,7 @@
 -- Which trees a text may have: numbers of the profile, lists that are not empty, and no more levels than allowed.
 use Rattle.std.specs.Prelude.{ℕ, zero, suc, ◌<◌, ◌+◌, ⊤, ℤ, pos, negsuc, length, IfSome}
 use Rattle.std.specs.List.{AllByRecursion}
-use Rattle.asn_values.specs.Fits.{highest_number, offset_of_zero}
+use Rattle.asn_limits.specs.Limits.{highest_number, offset_of_zero}
 use Rattle.asn_notation.specs.declared.notation.Limits.{Limits}
 use Rattle.asn_notation.specs.declared.notation.Limits.TheVariants.{One, Between}
 use Rattle.asn_notation.specs.declared.notation.SizeNotation.{SizeNotation}

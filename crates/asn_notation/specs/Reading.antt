@@ -2,7 +2,7 @@
 use Rattle.std.specs.Prelude.{◌≡◌, ℕ, zero, suc, ◌+◌, ◌^◌, ◌<◌, ℤ, pos, neg_ℤ, Bool, true, false, not, ◌&&◌, List, [], ◌∷◌}
 use Rattle.std.specs.Prelude.{◌++◌, length, drop, Option, Some, None, Result, MatchResult, nat_lt, nat_le}
 use Rattle.std.specs.Prelude.{if◌then◌else◌, IfOk}
-use Rattle.asn_values.specs.Fits.{highest_number, offset_of_zero}
+use Rattle.asn_limits.specs.Limits.{highest_number, offset_of_zero}
 use Rattle.std.specs.Borrow.{Bor}
 use denote.Enum.Bare.{sameb}
 use Rattle.asn_notation.specs.declared.token.Word.{Word}

@@ -9,7 +9,7 @@ use crate::fault::SyntaxFault;
 use crate::lexer::{after_first, first_token};
 use crate::notation::{Constraint, Limits, ListSize, RangeNotation, SizeEnd, SizeNotation};
 use crate::token::{Lexeme, Sign, Word};
-use asn_values::profile::{HIGHEST_INTEGER, OFFSET_OF_ZERO};
+use asn_limits::{HIGHEST_INTEGER, OFFSET_OF_ZERO};
 
 /// The largest number of the profile.
 const LARGEST: u64 = HIGHEST_INTEGER as u64;

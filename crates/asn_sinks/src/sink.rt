@@ -1,13 +1,13 @@
 //! The trait of what encoders write into.
 ghost use Rattle.std.specs.Prelude.{◌≡◌, ◌<◌, ◌≤◌, ◌≤ℤ◌, ◌^◌, ◌*◌, ◌∷◌, ◌++◌, ℕ, Bool, List, [], length, map, IfOk, OnOk};
-ghost use Rattle.asn_values.specs.Fits.{lowest_integer, highest_integer};
+ghost use Rattle.asn_limits.specs.Limits.{lowest_integer, highest_integer};
 ghost use Rattle.asn_bits.specs.LengthBits.{first_length};
 ghost use Rattle.asn_bits.specs.Lengths.{general_octets};
 ghost use Rattle.asn_bits.specs.Numbers.{bits, least, least_signed, unpacked};
 ghost use Rattle.asn_bits.specs.Sink.{bit_of};
 
 use asn_bits::internal::{last_octets, least_signed_parts, next_length, octet_count, word_of_bits};
-use asn_values::profile::BLOCK;
+use asn_limits::BLOCK;
 
 /// How the length of an open type field is told.
 #[derive(Clone, Copy, Debug, PartialEq, Eq)]

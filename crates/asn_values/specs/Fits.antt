@@ -2,31 +2,12 @@
 use Rattle.std.specs.Prelude.{◌≤◌, ◌<◌, ◌+◌, ◌-◌, ℕ, zero, suc, ℤ, pos, negsuc, ◌≤ℤ◌, Bool, true, ◌&&◌, ◌||◌, List, [], ◌∷◌, length, take, drop, Option, Some, None, IsTrue, nat_lt, nat_le, IsUtf8, MatchBool, ⊤, ◌==◌, unsigned_abs}
 use Rattle.std.specs.List.{AllByRecursion}
 use Rattle.std.specs.Int.RustNames.{int_le}
+pub use Rattle.asn_limits.specs.Limits.{max_len, lowest_integer, highest_integer, highest_number, offset_of_zero, integer_count}
+use Rattle.asn_limits.specs.Limits.{most_alternatives, most_item_additions}
 use Rattle.asn_values.specs.Datum.{Datum, truth, nothing, number, item, bit_list, octet_list, characters, unicode, components, elements, alternative, component_list, element_list}
 use Rattle.asn_values.specs.Shape.{Range, SizeRange, Alphabet, ia5, numeric, visible, Shape, boolean, null, integer, enumerated, bit_string, octet_string, restricted, utf8_string, sequence, sequence_of, choice, Demand, must, optional, default, more_labels, Fields, no_fields, field, MoreFields, closed, marked, demands, count, Alternatives, no_alternatives, one_of, MoreAlternatives, closed_choice, marked_choice}
 
 -- ---- limits
-
--- the most items of a string or list, and the most octets of an open field: 2 ^ 28 - 1
-abbrev pub max_len : ℕ
-max_len = 268435455
-
--- the integers of the profile: those of 64 bits, in two's complement or without a sign
-abbrev pub lowest_integer : ℤ
-lowest_integer = negsuc 9223372036854775807
-
-abbrev pub highest_integer : ℤ
-highest_integer = pos 18446744073709551615
-
--- the highest as a number without a sign, how far 0 lies above the lowest, and how many there are
-abbrev pub highest_number : ℕ
-highest_number = unsigned_abs highest_integer
-
-abbrev pub offset_of_zero : ℕ
-offset_of_zero = unsigned_abs lowest_integer
-
-abbrev pub integer_count : ℕ
-integer_count = offset_of_zero + highest_number + 1
 
 -- the limits that another profile may have higher
 pub record Limits : Type 0 where
@@ -44,7 +25,7 @@ pub record AreWider (l m : Limits) : Type 0 where
 
 -- those of this profile
 abbrev pub limits : Limits
-limits = record { highest = highest_integer; alternatives = 200; item_additions = 200 }
+limits = record { highest = highest_integer; alternatives = most_alternatives; item_additions = most_item_additions }
 
 -- ---- numbers and lengths
 

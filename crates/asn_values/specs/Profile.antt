@@ -2,6 +2,7 @@
 use Rattle.std.specs.Prelude.{◌+◌, ℕ, ℤ, pos, negsuc, Bool, true, false, not, ◌&&◌, ◌||◌, List, [], ◌∷◌, ◌++◌, map, length, Option, Some, None, IsFalse, nat_lt, nat_le, is_some, ◌==◌, bytes_eq}
 use Rattle.std.specs.List.{list_all, list_any}
 use Rattle.std.specs.Int.RustNames.{int_le, int_lt}
+pub use Rattle.asn_limits.specs.Limits.{largest_size_bound, most_items, most_components, most_additions, most_item_additions, most_alternatives, most_nodes, most_levels}
 use Rattle.asn_values.specs.Datum.{Datum, truth, number, item}
 use Rattle.asn_values.specs.Shape.{Range, SizeRange, Shape, boolean, null, integer, enumerated, bit_string, octet_string, restricted, utf8_string, sequence, sequence_of, choice, Demand, must, optional, default, MoreLabels, closed_labels, marked_labels, more_labels, Fields, no_fields, field, MoreFields, closed, marked, more_fields, demands, field_names, Alternatives, no_alternatives, one_of, MoreAlternatives, closed_choice, marked_choice, more_alternatives, alternative_names, count}
 use Rattle.asn_values.specs.Measures.{depth, nodes}
@@ -81,9 +82,6 @@ size_of (octet_string s) = Some s
 size_of (restricted k s) = Some s
 size_of (sequence_of t s) = Some s
 size_of _ = None
-
-abbrev pub largest_size_bound : ℕ
-largest_size_bound = 65535
 
 abbrev pub is_large : Option ℕ → Bool
 is_large None = false
@@ -280,29 +278,6 @@ addition_not_optional (sequence root more) = not (list_all is_optional (demands 
 addition_not_optional _ = false
 
 -- ---- TooMany: more parts than the profile allows
-
-abbrev pub most_items : ℕ
-most_items = 256
-
-abbrev pub most_components : ℕ
-most_components = 64
-
--- extension additions of a SEQUENCE, and of an ENUMERATED
-abbrev pub most_additions : ℕ
-most_additions = 64
-
-abbrev pub most_item_additions : ℕ
-most_item_additions = limits.item_additions
-
-abbrev pub most_alternatives : ℕ
-most_alternatives = limits.alternatives
-
--- of the types inside a type, itself counted, and of levels of them
-abbrev pub most_nodes : ℕ
-most_nodes = 10000
-
-abbrev pub most_levels : ℕ
-most_levels = 32
 
 abbrev pub too_many_here_under : Limits → Shape → Bool
 too_many_here_under l (enumerated root more) =

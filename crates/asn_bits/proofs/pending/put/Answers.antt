@@ -1,7 +1,7 @@
 -- Either all bits wait, or a word of them goes out.
 use Rattle.std.proofs.Common.{◌+◌, ◌-◌, arith}
 use Rattle.asn_bits.proofs.Packing.{waiting_view, word_alone, word_view}
-use Rattle.asn_bits.proofs.sink.put.Goals as goal
+use Rattle.asn_bits.proofs.pending.put.Goals as goal
 
 pub returns-then-total-lt64-clause-bits : goal.returns-then-total-lt64-clause-bits
 returns-then-total-lt64-clause-bits c =

@@ -3,7 +3,7 @@ use Rattle.std.proofs.Common.{◌≡◌, ◌++◌, ◌%◌, ap, ◌∙◌, arith
 use Rattle.asn_bits.specs.Numbers.{unpacked}
 use Rattle.asn_bits.proofs.Moving.{pushed_shifted}
 use Rattle.asn_bits.proofs.Packing.{octets_out, whole_after}
-use Rattle.asn_bits.proofs.sink.put_octets.Goals as goal
+use Rattle.asn_bits.proofs.pending.put_octets.Goals as goal
 
 pub returns-then-left-ne0-clause-bits : goal.returns-then-left-ne0-clause-bits
 returns-then-left-ne0-clause-bits c =

@@ -8,13 +8,13 @@ usage: tests/gate.py [PART..]      the parts are proofs, edits and tests; all th
 1. proofs: `rt ci` proves every crate from nothing, as many side by side as there are processors where memory holds them
    (`of_proofs`), and runs the programs as two compilers build them.
 2. edits: tests/edits.py tries itself on a tiny crate, and then the wrong bodies of the crates that changed since they
-   were tried, and some of a sixteenth of the others. In a clone with no out/, where all parts are asked for, it goes beside the
-   proofs: a crate's edits begin when the crate is proved, on processors that no proof takes.
+   were tried, and some of a sixteenth of the others. In a clone with no out/, where all parts are asked for, it goes
+   beside the proofs: a crate's edits begin when the crate is proved, on processors that no proof takes.
 3. tests: the programs of tests/programs are built without a proof of their own (tests/room.py), and what they write is
    compared; tests/refused_allocations.sh refuses in turn each allocation of programs; tests/first.py runs `asn_first`,
    and examples/run.sh, tests/versions.py, limits.py, published.py, published_commands.py, published_sets.py,
    published_tags.py, published_sequences.py, streaming.py, forms.py, shown.py and tests/installed.sh `asn_tool`, as the gate
-   has built them;
+   has built them, side by side;
    tests/octet_counts.py and tests/published_rows.py look at rows without a program;
    bindings/tests.sh calls the library for C from four languages, and skips a language whose compiler is not there: each
    time as LLVM compiles it with the test programs, without a second proof, and in one merge of sixteen, drawn as the
@@ -255,21 +255,17 @@ def tests_of_archives(part, turn):
 
 
 def tests_of_programs(part, room):
-    """The tests of the programs that `rt ci` has built."""
-    step(part, ["tests/refused_allocations.sh", room])
-    step(part, ["tests/first.py", FIRST])
-    step(part, ["tests/streaming.py", TOOL])
-    step(part, ["tests/forms.py", TOOL])
-    step(part, ["tests/shown.py", TOOL])
-    step(part, ["examples/run.sh", TOOL])
-    step(part, ["tests/versions.py", TOOL])
-    step(part, ["tests/limits.py", TOOL])
-    step(part, ["tests/published.py", TOOL])
-    step(part, ["tests/published_commands.py", TOOL])
-    step(part, ["tests/published_sets.py", TOOL])
-    step(part, ["tests/published_tags.py", TOOL])
-    step(part, ["tests/published_sequences.py", TOOL])
-    step(part, ["tests/installed.sh", TOOL])
+    """The tests of the programs that `rt ci` has built, side by side, those first that take longest."""
+    scripts = ["published", "limits", "shown", "versions", "streaming", "published_commands", "published_sets", "published_tags", "published_sequences", "forms"]
+    steps = [
+        ["tests/refused_allocations.sh", room],
+        *([f"tests/{it}.py", TOOL] for it in scripts),
+        ["examples/run.sh", TOOL],
+        ["tests/first.py", FIRST],
+        ["tests/installed.sh", TOOL],
+    ]
+    with ThreadPoolExecutor(rt.processors()) as pool:
+        [*pool.map(lambda words: step(part, words), steps)]
 
 
 def tests(part, turn):

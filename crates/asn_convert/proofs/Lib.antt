@@ -2,7 +2,6 @@ pub mod Answered
 pub mod Converting
 pub mod DigitPairs
 pub mod HexDigits
-pub mod Lines
 pub mod Modules
 pub mod PlainJson
 pub mod Putting

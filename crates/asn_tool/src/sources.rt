@@ -3,7 +3,7 @@ ghost use Rattle.std.specs.Prelude.{◌≡◌, ◌≢◌, ◌∷◌, ◌++◌, [
 ghost use Rattle.asn_module.specs.ModuleView.{types_view};
 ghost use Rattle.asn_module.specs.Accepted.{Accepted};
 ghost use Rattle.asn_module.specs.declared.fault.ModuleFault.{ModuleFault};
-ghost use Rattle.asn_convert.specs.Lines.{job_lines, lines_of, module_text};
+ghost use Rattle.asn_jobs.specs.Lines.{job_lines, lines_of, module_text};
 ghost use Rattle.asn_convert.specs.Text.{IsModule};
 ghost use Rattle.asn_request.specs.Request.{texts_of};
 ghost use Rattle.asn_tool.specs.Sources.{IsInput, IsInputOf, IsOwn, IsOwnInput, IsRead, IsReadWithin, IsNotLarge, mark};

@@ -1,6 +1,6 @@
 use Rattle.std.proofs.Common.{rules}
-use Rattle.asn_convert.proofs.Lines.{line_passed}
-use Rattle.asn_convert.proofs.cut.cut_input.Goals as goal
+use Rattle.asn_jobs.proofs.Lines.{line_passed}
+use Rattle.asn_jobs.proofs.cut.cut_input.Goals as goal
 
 pub loop-line-preserved : goal.loop-line-preserved
 loop-line-preserved c =

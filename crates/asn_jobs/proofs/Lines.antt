@@ -4,7 +4,7 @@ use Rattle.std.proofs.lemmas.Bool.{eqb-true}
 use Rattle.std.proofs.lemmas.Bool.Decides.{nat_tests}
 use Rattle.std.proofs.lemmas.Grind.{common_steps}
 use Rattle.memchr.specs.Find.{IsFirstByte, is_byte}
-use Rattle.asn_convert.specs.Lines.{lines_of, is_mark_line, cut_at_mark, IsFirstLine}
+use Rattle.asn_jobs.specs.Lines.{lines_of, is_mark_line, cut_at_mark, IsFirstLine}
 
 -- an octet that is no LF begins the first line
 begins : (x : ℕ) (xs line : List ℕ) (rest : List (List ℕ)) → x ≢ 10 → lines_of xs ≡ line ∷ rest → lines_of (x ∷ xs) ≡ (x ∷ line) ∷ rest

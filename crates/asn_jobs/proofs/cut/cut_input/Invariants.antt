@@ -1,7 +1,7 @@
 use Rattle.std.proofs.Common.{◌≡◌, ℕ, List, ◌++◌, length}
 use Rattle.std.specs.Prelude.{option_map}
-use Rattle.asn_convert.specs.Lines.{lines_of, cut_at_mark}
-use Rattle.asn_convert.proofs.cut.cut_input.Given as goal
+use Rattle.asn_jobs.specs.Lines.{lines_of, cut_at_mark}
+use Rattle.asn_jobs.proofs.cut.cut_input.Given as goal
 
 -- the lines in front of the rest are no mark
 abbrev pub invariant-loop-line : goal.invariant-loop-line

@@ -1,6 +1,6 @@
 use Rattle.std.proofs.Common.{◌≡◌, ◌<◌, length, [], rules, ◌∙◌}
-use Rattle.asn_convert.proofs.Lines.{cut_at, cut_nowhere, take_whole, drop_whole}
-use Rattle.asn_convert.proofs.cut.next_line.Goals as goal
+use Rattle.asn_jobs.proofs.Lines.{cut_at, cut_nowhere, take_whole, drop_whole}
+use Rattle.asn_jobs.proofs.cut.next_line.Goals as goal
 
 pub returns-clause-some : goal.returns-clause-some
 returns-clause-some c =

@@ -1,8 +1,8 @@
-//! How the program ends.
+//! How a program ends that does a job.
 ghost use Rattle.std.specs.Prelude.{◌≡◌};
-ghost use Rattle.asn_tool.specs.Ending.{end_of, refusal_end_of};
+ghost use Rattle.asn_jobs.specs.Ending.{end_of, refusal_end_of};
 
-use asn_convert::{RunFault, Status};
+use crate::job::{RunFault, Status};
 
 /// The exit status, and the line for standard error, which is empty where there is none.
 ///

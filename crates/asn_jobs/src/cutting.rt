@@ -1,6 +1,6 @@
 //! The texts of messages, cut one after the other from an input.
-use asn_convert::RunFault;
-use asn_jobs::OctetForm;
+use crate::job::RunFault;
+use crate::texts::OctetForm;
 use std::io;
 use std::io::{BufRead, ErrorKind};
 

@@ -1,6 +1,6 @@
 //! The input as lines, and the module text before the mark.
 ghost use Rattle.std.specs.Prelude.{◌≡◌, ◌<◌, [], IfNone, IfSome, length};
-ghost use Rattle.asn_convert.specs.Lines.{lines_of, module_text, job_lines, IsFirstLine, is_mark_line};
+ghost use Rattle.asn_jobs.specs.Lines.{lines_of, module_text, job_lines, IsFirstLine, is_mark_line};
 
 use memchr::memchr;
 

@@ -3,7 +3,6 @@ pub mod Converting
 pub mod DigitPairs
 pub mod HexDigits
 pub mod Modules
-pub mod PlainJson
 pub mod Putting
 pub mod Replying
 pub mod Skipping

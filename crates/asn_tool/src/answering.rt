@@ -1,18 +1,13 @@
 //! The answer to one message, in the form and the layout that is asked for, while standard error tells why it is refused.
 use crate::budget::{Answered, answer_within};
-use crate::counting::Counts;
-use crate::explaining::{over_words, why_refused};
-use crate::laying::laid_text;
-use crate::newer_json::{TakenBack, newer_line, taken_back};
-use crate::progress::Progress;
 use asn_convert::{Job, Order, RuleName, RunFault, answer_line};
-use asn_jobs::{CountFault, OctetForm, octets_in, text_of};
+use asn_jobs::{CountFault, OctetForm, Place, Progress, octets_in, place_text, text_of};
 use asn_json_layout::Layout;
+use asn_look::{Counts, TakenBack, laid_text, newer_line, over_words, taken_back, why_refused};
 use asn_plan::Planned;
 use asn_request::asking::{Asking, Forms, Versions};
 use asn_rules::Counted;
 use asn_values::Checked;
-use std::alloc::{AllocError, Global};
 use std::io::Write;
 
 /// What is made of messages.

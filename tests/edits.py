@@ -70,7 +70,7 @@ TURNS = (
     ["asn_per"],
     ["asn_walk_write"],
     ["asn_walk_feed"],
-    "asn_tool asn_request asn_examples".split(),
+    "asn_tool asn_look asn_module_files asn_request asn_examples".split(),
     "asn_published_types asn_published_text".split(),
     "asn_rules asn_published asn_published_report asn_published_write".split(),
     "tulvorn_c asn_walk".split(),

@@ -2,9 +2,7 @@ pub mod Answered
 pub mod Converting
 pub mod DigitPairs
 pub mod HexDigits
-pub mod Lines
 pub mod Modules
-pub mod PlainJson
 pub mod Putting
 pub mod Replying
 pub mod Skipping

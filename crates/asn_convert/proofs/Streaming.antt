@@ -16,7 +16,7 @@ use Rattle.asn_jobs.specs.declared.job.Order.{Order}
 use Rattle.asn_jobs.specs.declared.job.RuleName.{RuleName}
 use Rattle.asn_jobs.specs.declared.job.Status.{Status}
 use Rattle.asn_jobs.specs.declared.job.Status.TheVariants as status
-use Rattle.asn_convert.specs.Lines.{lines_of, module_text, begun}
+use Rattle.asn_jobs.specs.Lines.{lines_of, module_text, begun}
 use Rattle.asn_convert.specs.Text.{Told, IsBegun, HasAnswer, Writes, Stops, Tells, TellsBegun, IsFront, IsModule, IsRefusal, ended, status_of, terms}
 use Rattle.asn_jobs.specs.declared.job.RunFault.{RunFault}
 use Rattle.asn_jobs.specs.declared.job.RunFault.TheVariants as fault

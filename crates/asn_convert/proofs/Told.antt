@@ -14,7 +14,7 @@ use Rattle.asn_jobs.specs.declared.job.Job.{Job}
 use Rattle.asn_jobs.specs.declared.job.Job.TheVariants as job
 use Rattle.asn_jobs.specs.declared.job.RunFault.{RunFault}
 use Rattle.asn_jobs.specs.declared.job.RunFault.TheVariants as fault
-use Rattle.asn_convert.specs.Lines.{lines_of, IsFirstLine, module_text, job_lines}
+use Rattle.asn_jobs.specs.Lines.{lines_of, IsFirstLine, module_text, job_lines}
 use Rattle.asn_convert.specs.Text.{Told, IsBegun, HasAnswer, IsAnswered, IsAnswerBegun, IsFront, ended, Writes, Stops, Fails, Text, Tells, TellsBegun, Begun, IsGiven, IsReadFault, IsModule, IsRefusal, no_type, terms}
 use Rattle.asn_jobs.specs.declared.job.Status.{Status}
 use Rattle.asn_jobs.specs.declared.job.Status.TheVariants as status

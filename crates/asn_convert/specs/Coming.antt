@@ -10,7 +10,7 @@ use Rattle.asn_module.specs.Accepted.{ModuleTypes, type_in}
 use Rattle.asn_module.specs.declared.module.Module.{Module}
 use Rattle.asn_newer.specs.Loose.{LooseCoding}
 use Rattle.asn_convert.specs.Answers.{Rulings, rulings}
-use Rattle.asn_convert.specs.Lines.{lines_of, module_text}
+use Rattle.asn_jobs.specs.Lines.{lines_of, module_text}
 use Rattle.asn_convert.specs.Parts.{Known, ModuleTold, ModuleBegun, LinesTold, LinesBegun}
 use Rattle.asn_convert.specs.Text.{IsFront, IsModule, IsRefusal, Tells, TellsBegun, IsGiven, Writes, Stops}
 use Rattle.asn_jobs.specs.declared.job.Job.{Job}

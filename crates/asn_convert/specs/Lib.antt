@@ -2,7 +2,6 @@ pub mod Answers
 pub mod Coming
 pub mod Converted
 pub mod HexHeld
-pub mod Lines
 pub mod Named
 pub mod Parts
 pub mod Put

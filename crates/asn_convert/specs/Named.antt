@@ -8,7 +8,7 @@ use Rattle.asn_oer.specs.Rules.{oer_ruling}
 use Rattle.asn_newer.specs.Rules.{per_loose, oer_loose}
 use Rattle.asn_convert.specs.Answers.{Rulings, rulings}
 use Rattle.asn_convert.specs.Coming.{Ended, Stopped, TextOf, BegunOf}
-use Rattle.asn_convert.specs.Lines.{module_text}
+use Rattle.asn_jobs.specs.Lines.{module_text}
 use Rattle.asn_jobs.specs.declared.job.Job.{Job}
 use Rattle.asn_jobs.specs.declared.job.Job.TheVariants as job
 use Rattle.asn_jobs.specs.declared.job.Order.{Order}

@@ -14,7 +14,7 @@ use Rattle.asn_jobs.specs.declared.job.RuleName.{RuleName}
 use Rattle.asn_jobs.specs.declared.job.RunFault.{RunFault}
 use Rattle.asn_jobs.specs.declared.job.Status.{Status}
 use Rattle.asn_convert.specs.Answers.{Rulings, Terms, Answers, rulings}
-use Rattle.asn_convert.specs.Lines.{lines_of}
+use Rattle.asn_jobs.specs.Lines.{lines_of}
 use Rattle.asn_convert.specs.Text.{Text, Begun, Tells, TellsBegun, Told, HasAnswer, IsBegun, IsAnswered, IsAnswerBegun, Writes, Stops, Runs, Fails, terms}
 
 -- what a reader has left, or a writer holds, where it is known

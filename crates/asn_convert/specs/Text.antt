@@ -7,7 +7,7 @@ use Rattle.asn_rules.specs.Faults.{Rose, State}
 use Rattle.asn_module.specs.Accepted.{ModuleTypes, Accepted, type_in}
 use Rattle.asn_module.specs.Printing.{printed}
 use Rattle.asn_convert.specs.Answers.{Rulings, Terms, Answers}
-use Rattle.asn_convert.specs.Lines.{module_text, job_lines}
+use Rattle.asn_jobs.specs.Lines.{module_text, job_lines}
 use Rattle.asn_jobs.specs.declared.job.Order.{Order}
 use Rattle.asn_jobs.specs.declared.job.RuleName.{RuleName}
 use Rattle.asn_jobs.specs.declared.job.Job.{Job}

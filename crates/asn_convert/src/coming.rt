@@ -4,11 +4,10 @@ ghost use Rattle.asn_module.specs.ModuleView.{types_view};
 ghost use Rattle.asn_convert.specs.Coming.{AreWholeLines, HasNoEnd, HasNoTypeFor, IsTypeFor, Ended, Stopped, TextBy, BegunBy, ModuleBy, ModuleBegunBy, LinesBy, LinesBegunBy, Took, TookPart};
 ghost use Rattle.asn_convert.specs.Parts.{Wrote, Broke, LinesTold, LinesBegun};
 
-use crate::cut::cut_input;
 use crate::laws::lines_have_answers;
 use crate::put::put;
 use crate::running::{answer_lines, answer_module, module_in, with_plan};
-use asn_jobs::{Job, Order, RuleName, RunFault, Status};
+use asn_jobs::{Job, Order, RuleName, RunFault, Status, cut_input};
 use asn_module::Module;
 use asn_newer::ReadNewer;
 use asn_plan::{PlanRules, Planned};

@@ -5,7 +5,6 @@ mod answers;
 mod by_name;
 mod coming;
 mod conversion;
-mod cut;
 mod digits;
 mod hex_writer;
 pub mod laws;
@@ -15,8 +14,7 @@ mod reading;
 mod running;
 mod texts;
 
-pub use asn_jobs::{Job, Order, RuleName, RunFault, Status};
+pub use asn_jobs::{Job, Order, RuleName, RunFault, Status, cut_input, next_line};
 pub use by_name::{answer_line, run, run_on_lines};
 pub use conversion::{ConvertFault, convert};
-pub use cut::{cut_input, next_line};
 pub use reading::read_all;

@@ -6,12 +6,11 @@ ghost use Rattle.asn_convert.specs.Parts.{Wrote, Broke, JobTold, JobBegun, Modul
 ghost use Rattle.asn_convert.specs.Text.{IsModule, IsOneLine, IsRefusal};
 
 use crate::answers::answer_to;
-use crate::cut::{cut_input, next_line};
 use crate::laws::lines_have_answers;
 use crate::put::{put, put_answer, put_octets};
 use crate::reading::read_all;
 use crate::texts::Reply;
-use asn_jobs::{Job, Order, RuleName, RunFault, Status};
+use asn_jobs::{Job, Order, RuleName, RunFault, Status, cut_input, next_line};
 use asn_module::{Module, ModuleFault, read};
 use asn_newer::ReadNewer;
 use asn_plan::{PlanRules, Planned};

@@ -1,4 +1,5 @@
 pub mod Back
 pub mod Counts
 pub mod Lengths
+pub mod Lines
 pub mod Steps

@@ -1,3 +1,5 @@
 pub mod Counts
+pub mod Ending
 pub mod Lengths
+pub mod Lines
 pub mod Texts

@@ -4,6 +4,7 @@ pub mod LeavesBack
 pub mod MembersBack
 pub mod TwoLists
 pub mod OneMember
+pub mod PlainJson
 pub mod ReadBack
 pub mod ReadKinds
 pub mod ReadParts

@@ -1,3 +1,1 @@
 pub mod Budgets
-pub mod Laid
-pub mod Sourced

@@ -1,18 +1,13 @@
 //! The answer to one message, in the form and the layout that is asked for, while standard error tells why it is refused.
 use crate::budget::{Answered, answer_within};
-use crate::counting::Counts;
-use crate::explaining::{over_words, why_refused};
-use crate::laying::laid_text;
-use crate::newer_json::{TakenBack, newer_line, taken_back};
-use crate::progress::Progress;
 use asn_convert::{Job, Order, RuleName, RunFault, answer_line};
-use asn_jobs::{CountFault, OctetForm, octets_in, text_of};
+use asn_jobs::{CountFault, OctetForm, Place, Progress, octets_in, place_text, text_of};
 use asn_json_layout::Layout;
+use asn_look::{Counts, TakenBack, laid_text, newer_line, over_words, taken_back, why_refused};
 use asn_plan::Planned;
 use asn_request::asking::{Asking, Forms, Versions};
 use asn_rules::Counted;
 use asn_values::Checked;
-use std::alloc::{AllocError, Global};
 use std::io::Write;
 
 /// What is made of messages.
@@ -78,17 +73,6 @@ pub struct Answers<W> {
     pub output: Counted<W>,
     pub counts: Counts,
     pub progress: Progress,
-}
-
-/// Where a message stands.
-#[derive(Clone, Copy)]
-pub struct Place<'a> {
-    /// The name of the file; empty for standard input.
-    pub file: &'a str,
-    /// The line at which its text begins, from 1.
-    pub line: u64,
-    /// Which message of that text it is, from 1; 0 where it is the only one.
-    pub message: u64,
 }
 
 /// Answers one line of hexadecimal or JSON, and tells whether that is no refusal.
@@ -330,23 +314,4 @@ fn tell(rt: &HostRuntime, place: Place<'_>, words: &str) -> Result<(), RunFault>
     let told = place_text(rt.alloc(), place)?;
     let _ = eprintln!(rt; "{told}: {words}");
     Ok(())
-}
-
-/// Where a message stands, in words.
-pub fn place_text(alloc: Global, place: Place<'_>) -> Result<String, AllocError> {
-    let Place {
-        file,
-        line,
-        message,
-    } = place;
-    let mut told = if file.is_empty() {
-        format!(in alloc; "line {line}")?
-    } else {
-        format!(in alloc; "{file}:{line}")?
-    };
-    if message > 0 {
-        let which = format!(in alloc; ", message {message}")?;
-        told.push_str(which.as_str())?;
-    }
-    Ok(told)
 }

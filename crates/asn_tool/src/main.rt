@@ -4,38 +4,19 @@
 
 mod answering;
 mod budget;
-mod counting;
-mod cutting;
-mod ending;
-mod examples;
-mod explaining;
-mod field_lines;
-mod flattening;
-mod fronts;
-mod laying;
 mod looking;
 mod messages;
-mod newer_json;
-mod paths;
-mod piped;
-mod progress;
-mod refused;
 mod running;
-mod sources;
-mod stop;
 mod streaming;
-mod texts;
-mod typed;
 
+use asn_jobs::refusal_ending;
+use asn_module_files::{Stop, flatten_files};
 use asn_request::request::{LineFault, Request, request_of};
-use ending::refusal_ending;
-use flattening::flatten_files;
 use looking::show;
 use running::run_job;
 use std::io::ErrorKind;
 use std::process::ExitCode;
 use std::{env, io};
-use stop::Stop;
 
 /// Does what the words after the program's name ask for. The exit status is 0 where all is well, after help and the
 /// version too; 1 where a line or a type is refused; 2 where the words, a text or the module is; and 3 where reading,

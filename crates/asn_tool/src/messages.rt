@@ -1,10 +1,8 @@
 //! Messages that are answered one after the other.
-use crate::answering::{Answers, Asked, Place, answer_one, refuse_text};
-use crate::cutting::next_text;
-use crate::fronts::front_len;
+use crate::answering::{Answers, Asked, answer_one, refuse_text};
 use crate::streaming::answer_stream;
-use asn_convert::RunFault;
-use asn_jobs::{OctetForm, octets_in};
+use asn_jobs::{OctetForm, Place, RunFault, next_text, octets_in};
+use asn_look::front_len;
 use std::io::{BufRead, Write};
 
 /// Answers the messages of an input, whose name is that of its file, or empty for standard input. Tells whether no answer

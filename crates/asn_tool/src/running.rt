@@ -1,22 +1,17 @@
 //! Jobs on standard input and output.
 use crate::answering::{Answers, Asked};
-use crate::counting::Counts;
-use crate::ending::ending;
 use crate::messages::answer_input;
-use crate::piped::Piped;
-use crate::progress::Progress;
-use crate::refused::{imports_told, line_told, text_told};
-use crate::sources::{Instead, input_with, instead_of, module_of};
-use crate::stop::Stop;
-use crate::texts::{texts_of, views_of};
 use asn_convert::{Job, RunFault, Status, cut_input, read_all, run, run_on_lines};
+use asn_jobs::{Piped, Progress, ending};
+use asn_look::Counts;
 use asn_module::Module;
+use asn_module_files::{Stop, input_given, input_of_files, module_of, tell_text, tells_of_module};
 use asn_plan::Planned;
-use asn_published::{Options, PublishedFault};
+use asn_published::Options;
 use asn_request::asking::Asking;
 use asn_rules::Counted;
 use asn_values::Checked;
-use std::io::{BufRead, BufReader, BufWriter, ErrorKind, IsTerminal, Write};
+use std::io::{BufRead, BufReader, BufWriter, ErrorKind, Write};
 use std::{fs, io};
 
 /// How many octets of answers are held back at once, until there is nothing more to be read.
@@ -41,11 +36,6 @@ pub fn run_job<'a>(
     }
 }
 
-/// Whether standard error tells why a module is refused: where that is asked for, or standard error is a terminal.
-pub fn tells_of_module(rt: &HostRuntime, asking: &Asking<'_>) -> bool {
-    asking.is_explained || rt.stderr().is_terminal()
-}
-
 /// Does the job, its module standing on standard input.
 fn run_given<'a>(
     rt: &HostRuntime,
@@ -54,20 +44,8 @@ fn run_given<'a>(
     asking: &Asking<'a>,
 ) -> Result<u8, Stop<'a>> {
     let given = read_all(rt.alloc(), &mut Counted::new(rt.reader()))?;
-    let instead = instead_of(rt.alloc(), given.as_slice(), options, job)?;
-    tell_remarks(rt, instead.remarks.as_str(), tells_of_module(rt, asking));
-    match &instead.octets {
-        Some(octets) => run_text(rt, job, octets.as_slice(), options, asking),
-        None => run_text(rt, job, given.as_slice(), options, asking),
-    }
-}
-
-/// Writes the remarks on published modules to standard error, and where that is told of a module, that it is one of several.
-pub fn tell_remarks(rt: &HostRuntime, remarks: &str, is_told: bool) {
-    let _ = rt.eprint(remarks);
-    if is_told {
-        let _ = rt.eprint(imports_told(remarks));
-    }
+    let octets = input_given(rt, given, options, job, tells_of_module(rt, asking))?;
+    run_text(rt, job, octets.as_slice(), options, asking)
 }
 
 /// Does the job on these octets, the text of the module and the lines after the mark.
@@ -81,8 +59,7 @@ fn run_text<'a>(
     let (text, lines) = cut_input(octets);
     if tells_of_module(rt, asking) {
         let is_all = text.len() == octets.len() && asking.messages.is_empty();
-        let told = text_told(rt.alloc(), text, options, job, is_all)?;
-        let _ = rt.eprint(told.as_str());
+        tell_text(rt, text, options, job, is_all)?;
     }
     let mut lines = lines;
     match run_asked(rt, job, text, asking, &mut lines)? {
@@ -214,51 +191,10 @@ fn run_with_files<'a>(
     options: Options,
     asking: &Asking<'a>,
 ) -> Result<u8, Stop<'a>> {
-    let texts = texts_of(rt, files)?;
-    let views = views_of(rt, texts.as_slice())?;
-    let Instead { octets, remarks } = match input_with(
-        rt.alloc(),
-        files,
-        views.as_slice(),
-        b"".as_slice(),
-        options,
-        job,
-    ) {
-        Ok(instead) => instead,
-        Err(fault) => {
-            return stopped(
-                rt,
-                files,
-                views.as_slice(),
-                fault,
-                tells_of_module(rt, asking),
-            );
-        }
-    };
-    tell_remarks(rt, remarks.as_str(), tells_of_module(rt, asking));
-    match octets {
+    match input_of_files(rt, files, options, job, tells_of_module(rt, asking))? {
         Some(head) => run_coming(rt, job, head.as_slice(), options, asking),
         None => Ok(2),
     }
-}
-
-/// What stops the program where the texts of the files become no module, after the line of the fault, where that is told.
-pub fn stopped<'a>(
-    rt: &HostRuntime,
-    files: &[&'a str],
-    texts: &[&str],
-    fault: PublishedFault,
-    is_told: bool,
-) -> Result<u8, Stop<'a>> {
-    if is_told {
-        if let PublishedFault::Text { text, line, .. } = &fault {
-            if let Some(text) = texts.get(*text) {
-                let told = line_told(rt.alloc(), *text, *line)?;
-                let _ = rt.eprint(told.as_str());
-            }
-        }
-    }
-    Err(Stop::of(files, fault))
 }
 
 /// The exit status of the job on the messages of the files or of standard input, the text of its module and the mark being
@@ -272,8 +208,7 @@ fn run_coming<'a>(
 ) -> Result<u8, Stop<'a>> {
     let (text, _) = cut_input(head);
     if tells_of_module(rt, asking) {
-        let told = text_told(rt.alloc(), text, options, job, false)?;
-        let _ = rt.eprint(told.as_str());
+        tell_text(rt, text, options, job, false)?;
     }
     if !asking.is_plain() {
         let Ok(mut lines) = BufReader::new(rt.alloc(), rt.reader()) else {

@@ -1,5 +1,5 @@
 use Rattle.asn_values.specs.View.{shape_of, datum_of}
-use Rattle.asn_convert.proofs.PlainJson.{text_plain}
+use Rattle.asn_json.proofs.PlainJson.{text_plain}
 use Rattle.asn_convert.proofs.answers.json_text.Goals as goal
 
 pub returns-in-Ok : goal.returns-in-Ok

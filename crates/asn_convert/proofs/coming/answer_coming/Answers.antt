@@ -5,7 +5,7 @@ use Rattle.asn_rules.specs.Faults.{state_of}
 use Rattle.asn_module.specs.ModuleView.{types_view}
 use Rattle.asn_convert.specs.Answers.{rulings}
 use Rattle.asn_convert.specs.Coming.{HasNoTypeFor, IsTypeFor}
-use Rattle.asn_convert.specs.Lines.{lines_of}
+use Rattle.asn_jobs.specs.Lines.{lines_of}
 use Rattle.asn_convert.specs.Text.{terms, IsBegun, TellsBegun}
 use Rattle.asn_convert.proofs.Streaming.{begun_lines, module_stopped, module_told, within_so}
 use Rattle.asn_convert.proofs.coming.answer_coming.Goals as goal

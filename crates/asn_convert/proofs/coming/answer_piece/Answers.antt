@@ -4,7 +4,7 @@ use Rattle.asn_values.specs.View.{shape_of}
 use Rattle.asn_rules.specs.Faults.{state_of}
 use Rattle.asn_convert.specs.Answers.{rulings}
 use Rattle.asn_convert.specs.Coming.{AreWholeLines}
-use Rattle.asn_convert.specs.Lines.{lines_of}
+use Rattle.asn_jobs.specs.Lines.{lines_of}
 use Rattle.asn_convert.specs.Text.{terms, Told, IsBegun, Writes, Stops}
 use Rattle.asn_convert.proofs.Streaming.{cut_held, held_whole, stops_at_memory}
 use Rattle.asn_convert.proofs.coming.answer_piece.Goals as goal

@@ -3,7 +3,7 @@ use Rattle.std.proofs.lemmas.Result.{err_from_is_err_and}
 use Rattle.asn_values.specs.View.{shape_of}
 use Rattle.asn_rules.specs.Faults.{state_of}
 use Rattle.asn_convert.specs.Answers.{rulings}
-use Rattle.asn_convert.specs.Lines.{lines_of}
+use Rattle.asn_jobs.specs.Lines.{lines_of}
 use Rattle.asn_convert.specs.Text.{terms, Told, IsBegun, Writes, Stops}
 use Rattle.asn_jobs.specs.declared.job.RunFault.TheVariants as fault
 use Rattle.asn_convert.proofs.Streaming.{HasCome, none_come, reading_failed, last_stopped, all_come, piece_stopped, piece_taken, out_of_memory}

@@ -6,7 +6,7 @@ use Rattle.asn_module.specs.ModuleView.{types_view}
 use Rattle.asn_jobs.specs.declared.job.Status.TheVariants as status
 use Rattle.asn_convert.specs.Answers.{rulings}
 use Rattle.asn_convert.specs.Coming.{TextOf, BegunOf}
-use Rattle.asn_convert.specs.Lines.{lines_of, module_text}
+use Rattle.asn_jobs.specs.Lines.{lines_of, module_text}
 use Rattle.asn_convert.specs.Text.{IsFront, IsModule, IsRefusal, TellsBegun}
 use Rattle.asn_convert.proofs.Streaming.{ends_at_once, err_within_so, module_begun, refusal_begun, refusal_text, stopped_after, within_at_once, written_then_nothing}
 use Rattle.asn_convert.proofs.Told.{whole_front}

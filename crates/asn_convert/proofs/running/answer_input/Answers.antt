@@ -4,7 +4,7 @@ use Rattle.std.proofs.lemmas.Result.{err_from_is_err_and}
 use Rattle.asn_module.specs.ModuleView.{types_view}
 use Rattle.asn_jobs.specs.declared.job.Status.TheVariants as status
 use Rattle.asn_convert.specs.Answers.{rulings}
-use Rattle.asn_convert.specs.Lines.{lines_of}
+use Rattle.asn_jobs.specs.Lines.{lines_of}
 use Rattle.asn_convert.specs.Text.{Text, Begun, TellsBegun, IsFront, IsModule, IsRefusal}
 use Rattle.asn_convert.proofs.Told.{stops_memory, stops_so, writes_so, err_stops_so, begun_refusal, begun_module, text_refusal}
 use Rattle.asn_convert.proofs.running.answer_input.Goals as goal

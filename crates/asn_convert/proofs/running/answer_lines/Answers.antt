@@ -3,7 +3,7 @@ use Rattle.std.proofs.lemmas.Result.{err_from_is_err_and}
 use Rattle.asn_values.specs.View.{shape_of}
 use Rattle.asn_rules.specs.Faults.{state_of}
 use Rattle.asn_convert.specs.Answers.{rulings}
-use Rattle.asn_convert.specs.Lines.{lines_of, IsFirstLine}
+use Rattle.asn_jobs.specs.Lines.{lines_of, IsFirstLine}
 use Rattle.asn_convert.specs.Text.{terms, HasAnswer}
 use Rattle.asn_convert.proofs.Told.{none_yet, one_more, all_told, stopped}
 use Rattle.asn_convert.proofs.running.answer_lines.Goals as goal

@@ -2,7 +2,7 @@ use Rattle.std.proofs.Common.{length}
 use Rattle.asn_values.specs.View.{shape_of}
 use Rattle.asn_rules.specs.Faults.{state_of}
 use Rattle.asn_convert.specs.Answers.{rulings}
-use Rattle.asn_convert.specs.Lines.{lines_of}
+use Rattle.asn_jobs.specs.Lines.{lines_of}
 use Rattle.asn_convert.specs.Text.{terms}
 use Rattle.asn_convert.proofs.Told.{IsSoFar}
 use Rattle.asn_convert.proofs.running.answer_lines.Given as goal

@@ -5,7 +5,7 @@ use Rattle.asn_module.specs.Accepted.{type_in}
 use Rattle.asn_module.specs.ModuleView.{types_view}
 use Rattle.asn_module.specs.Printing.{printed}
 use Rattle.asn_convert.specs.Answers.{rulings}
-use Rattle.asn_convert.specs.Lines.{lines_of}
+use Rattle.asn_jobs.specs.Lines.{lines_of}
 use Rattle.asn_convert.specs.Text.{TellsBegun, IsFront, ended, no_type}
 use Rattle.asn_convert.proofs.Told.{stops_memory, stops_so, begun_no_type, begun_printed}
 use Rattle.asn_convert.proofs.running.answer_module.Goals as goal

@@ -1,7 +1,7 @@
 use Rattle.std.proofs.Common.{rules}
 use Rattle.std.proofs.lemmas.Result.{err_from_is_err_and}
 use Rattle.asn_values.specs.View.{shape_of}
-use Rattle.asn_tool.specs.Budget.{IsLineOver}
+use Rattle.asn_look.specs.Budget.{IsLineOver}
 use Rattle.asn_tool.proofs.Budgets.{over_begun, over_told}
 use Rattle.asn_tool.proofs.budget.answer_within.Goals as goal
 

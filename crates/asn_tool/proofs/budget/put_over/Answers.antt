@@ -3,7 +3,7 @@ use Rattle.std.proofs.lemmas.Result.{err_from_is_err_and}
 use Rattle.asn_convert.specs.Parts.{Broke, Wrote}
 use Rattle.asn_convert.specs.Text.{IsFront, ended}
 use Rattle.asn_convert.proofs.Told.{stops_memory}
-use Rattle.asn_tool.specs.Budget.{over_text}
+use Rattle.asn_look.specs.Budget.{over_text}
 use Rattle.asn_tool.proofs.budget.put_over.Goals as goal
 
 pub returns-in_err-push_str-clause-begun : goal.returns-in_err-push_str-clause-begun

@@ -4,7 +4,7 @@ use Rattle.std.specs.Prelude.{IfOk, string_bytes}
 use Rattle.serde_json.specs.Written.{compact_text}
 use Rattle.asn_values.specs.View.{shape_of, datum_of}
 use Rattle.asn_json.specs.Written.{json_of}
-use Rattle.asn_convert.proofs.PlainJson.{text_plain}
+use Rattle.asn_json.proofs.PlainJson.{text_plain}
 use Rattle.tulvorn_c.proofs.json.json_text.Goals as goal
 
 pub returns-in-Ok-clause-text : goal.returns-in-Ok-clause-text

@@ -1,0 +1,5 @@
+pub mod Budget
+pub mod Fronts
+pub mod Laying
+pub mod Looking
+pub mod Named

@@ -1,0 +1,185 @@
+//! Why a line is refused, in words.
+use crate::typed::{json_words, type_at, type_words};
+use asn_explain::{Explanation, explain};
+use asn_jobs::{Order, RuleName};
+use asn_json::{JsonFault, value_shown};
+use asn_newer::{NewerFault, ReadNewer};
+use asn_oer::Oer;
+use asn_per::Per;
+use asn_plan::Taken;
+use asn_rules::{DecodeFault, Why};
+use asn_values::{Checked, Value};
+use asn_view::misfit;
+use hex::FromHexError;
+use serde_json::{Category, Value as Json};
+use std::alloc::{AllocError, Global};
+
+/// What is said of an encoding that is longer than any.
+const TOO_LONG: &str = "the encoding has more than 268,435,455 octets";
+
+/// Why a line was refused, in words: of octets the component in which the refused unit lies, with its type, of a value the
+/// first part that does not fit.
+///
+/// # Errors
+/// `AllocError` where an allocation failed.
+pub fn why_refused(
+    alloc: Global,
+    ty: &Checked,
+    order: Order,
+    rules: RuleName,
+    line: &[u8],
+) -> Result<String, AllocError> {
+    match order {
+        Order::Encode => why_no_value(alloc, ty, line),
+        Order::Show | Order::Check | Order::Convert | Order::Newer => {
+            match hex::decode(alloc, line) {
+                Ok(octets) => why_no_message(alloc, ty, order, rules, octets.as_slice()),
+                Err(fault) => why_no_octets(alloc, &fault),
+            }
+        }
+    }
+}
+
+/// Why a message is refused whose value takes so much, which is over the budget.
+pub fn over_words(alloc: Global, taken: &Taken) -> Result<String, AllocError> {
+    let Taken { entries, octets } = *taken;
+    format!(in alloc;
+        "the value takes {entries} entries and {octets} octets of strings, and --budget allows less"
+    )
+}
+
+/// Why a text is no hexadecimal.
+fn why_no_octets(alloc: Global, fault: &FromHexError) -> Result<String, AllocError> {
+    match fault {
+        FromHexError::InvalidHexCharacter { index, .. } => {
+            let column = (*index).saturating_add(1);
+            format!(in alloc; "column {column}: no hexadecimal digit")
+        }
+        FromHexError::OddLength | FromHexError::InvalidStringLength => {
+            String::from_str(alloc, "an odd number of hexadecimal digits")
+        }
+        FromHexError::OutOfMemory => Err(AllocError),
+    }
+}
+
+/// Why octets are answered with a refusal.
+fn why_no_message(
+    alloc: Global,
+    ty: &Checked,
+    order: Order,
+    rules: RuleName,
+    octets: &[u8],
+) -> Result<String, AllocError> {
+    if let Order::Newer = order {
+        return match rules {
+            RuleName::Per => why_not_newer::<Per>(alloc, ty, octets),
+            RuleName::Oer => why_not_newer::<Oer>(alloc, ty, octets),
+        };
+    }
+    let told = match rules {
+        RuleName::Per => explain::<Per>(alloc, ty, octets)?,
+        RuleName::Oer => explain::<Oer>(alloc, ty, octets)?,
+    };
+    match told {
+        Some(explanation) => words_of(alloc, ty, &explanation),
+        None => String::from_str(alloc, TOO_LONG),
+    }
+}
+
+/// Why octets are the message of no version of the type.
+fn why_not_newer<R: ReadNewer>(
+    alloc: Global,
+    ty: &Checked,
+    octets: &[u8],
+) -> Result<String, AllocError> {
+    let words = match R::read_newer(alloc, ty, octets) {
+        Ok(_) => "",
+        Err(NewerFault::Refused) => "no message of any version of the type begins so",
+        Err(NewerFault::Truncated) => "more octets are wanted",
+        Err(NewerFault::TooManyAdditions) => "more additions or alternatives than are read",
+        Err(NewerFault::TooLong) => TOO_LONG,
+        Err(NewerFault::Memory) => return Err(AllocError),
+    };
+    String::from_str(alloc, words)
+}
+
+/// An explanation in words.
+fn words_of(alloc: Global, ty: &Checked, explanation: &Explanation) -> Result<String, AllocError> {
+    if let DecodeFault::Rest { used } = explanation.fault {
+        return format!(in alloc; "the message ends after {used} octets, and more octets follow it");
+    }
+    let place = place_words(alloc, ty, explanation.path.as_str())?;
+    let reason = match explanation.fault {
+        DecodeFault::Refused { why, .. } => reason_words(why),
+        DecodeFault::Truncated { .. } => "more octets are wanted",
+        _ => TOO_LONG,
+    };
+    format!(in alloc; "in {place}: {reason}")
+}
+
+/// A path, and the type of the part to which it leads.
+fn place_words(alloc: Global, ty: &Checked, path: &str) -> Result<String, AllocError> {
+    match type_at(ty.get(), path) {
+        Some(part) => {
+            let words = type_words(alloc, part)?;
+            format!(in alloc; "{path}, {words}")
+        }
+        None => String::from_str(alloc, path),
+    }
+}
+
+/// What the word for the reason of a refusal means.
+fn reason_words(why: Why) -> &'static str {
+    match why {
+        Why::Sealed => "what is inside the field is no encoding of its type",
+        Why::Default => "the DEFAULT is written out, and the canonical encoding leaves it out",
+        Why::Length => "no length of the type begins so, or it is not written as shortly as can be",
+        Why::Extension => "an extension bit, or a count of additions, that no encoding has",
+        Why::Character => "no character of the string type",
+        Why::Padding => "the bits that fill up an octet are not all 0",
+        Why::Number => "no number of the type begins so, or it is not written as shortly as can be",
+    }
+}
+
+/// Why a text is no JSON of a value of the type that has an encoding.
+fn why_no_value(alloc: Global, ty: &Checked, line: &[u8]) -> Result<String, AllocError> {
+    match Json::from_slice(alloc, line) {
+        Ok(json) => match value_shown(alloc, ty, &json) {
+            Ok(value) => why_no_encoding(alloc, ty, &value),
+            Err(JsonFault::Shape { path }) => wanted_words(alloc, ty, path.as_str()),
+            Err(_) => Err(AllocError),
+        },
+        Err(fault) => {
+            let column = fault.column();
+            match fault.classify() {
+                Category::Memory => Err(AllocError),
+                Category::Eof => format!(in alloc; "column {column}: the JSON ends too early"),
+                _ => format!(in alloc; "column {column}: no JSON goes on so"),
+            }
+        }
+    }
+}
+
+/// What is wanted at a path of JSON.
+fn wanted_words(alloc: Global, ty: &Checked, path: &str) -> Result<String, AllocError> {
+    let place = place_words(alloc, ty, path)?;
+    match type_at(ty.get(), path) {
+        Some(part) => {
+            let wanted = json_words(alloc, part)?;
+            format!(in alloc; "in {place}: {wanted} is wanted")
+        }
+        None => Ok(place),
+    }
+}
+
+/// Why a value has no encoding.
+fn why_no_encoding(alloc: Global, ty: &Checked, value: &Value) -> Result<String, AllocError> {
+    match misfit(alloc, ty, value)? {
+        Some(wrong) => {
+            let place = place_words(alloc, ty, wrong.path.as_str())?;
+            let reason = wrong.reason.as_str();
+            format!(in alloc; "in {place}: {reason}")
+        }
+        None => String::from_str(alloc, TOO_LONG),
+    }
+}

@@ -1,0 +1,242 @@
+//! Messages field by field.
+ghost use Rattle.std.specs.Prelude.{IfOk};
+ghost use Rattle.asn_values.specs.View.{shape_of};
+ghost use Rattle.asn_fields.specs.Tells.{Tells};
+ghost use Rattle.asn_look.specs.Named.{ruling_of};
+
+use crate::explaining::why_refused;
+use crate::fronts::front_len;
+use crate::looking::written;
+use asn_fields::{MessageFields, PAGE_END, fields, page_head, page_note};
+use asn_jobs::{OctetForm, Order, Place, RuleName, RunFault, next_text, octets_in, place_text};
+use asn_module_files::Stop;
+use asn_oer::Oer;
+use asn_per::Per;
+use asn_request::asking::Forms;
+use asn_values::Checked;
+use hex::FromHexError;
+use std::alloc::{AllocError, Global};
+use std::fs;
+use std::io::{BufRead, BufReader, ErrorKind};
+
+/// How messages are shown.
+#[derive(Clone, Copy)]
+pub struct Shown<'t> {
+    /// The type of the messages, and its name.
+    pub ty: &'t Checked,
+    pub name: &'t str,
+    pub rules: RuleName,
+    pub forms: Forms,
+    /// Whether they are shown as a page of HTML.
+    pub is_page: bool,
+    /// Whether standard error tells why a message is refused.
+    pub is_explained: bool,
+}
+
+/// What was shown so far.
+#[derive(Drop)]
+struct SoFar {
+    /// How many messages.
+    count: u64,
+    /// Whether each is the encoding of a value.
+    all_good: bool,
+}
+
+/// Shows the messages of the files, or of these lines where there are none. Gives the exit status: 0, or 1 where one is no
+/// message.
+pub fn show_messages<'a, R: BufRead>(
+    rt: &HostRuntime,
+    shown: Shown<'_>,
+    files: &[&'a str],
+    lines: &mut R,
+) -> Result<u8, Stop<'a>> {
+    let mut so_far = SoFar {
+        count: 0,
+        all_good: true,
+    };
+    if shown.is_page {
+        written(rt, page_head(rt.alloc(), shown.name)?.as_str())?;
+    }
+    if files.is_empty() {
+        show_input(rt, shown, "", lines, &mut so_far)?;
+    }
+    for file in files {
+        show_file(rt, shown, *file, &mut so_far)?;
+    }
+    if shown.is_page {
+        written(rt, PAGE_END)?;
+    }
+    Ok(if so_far.all_good { 0 } else { 1 })
+}
+
+/// Shows the messages of this file.
+fn show_file<'a>(
+    rt: &HostRuntime,
+    shown: Shown<'_>,
+    file: &'a str,
+    so_far: &mut SoFar,
+) -> Result<(), Stop<'a>> {
+    let opened = match fs::open(rt, file) {
+        Ok(opened) => opened,
+        Err(fault) if fault.kind() == ErrorKind::OutOfMemory => return Err(Stop::Memory),
+        Err(_) => return Err(Stop::Unread(file)),
+    };
+    let Ok(mut input) = BufReader::new(rt.alloc(), opened) else {
+        return Err(Stop::Memory);
+    };
+    show_input(rt, shown, file, &mut input, so_far)
+}
+
+/// Shows the messages of an input, whose name is that of its file, or empty for standard input.
+fn show_input<'a, R: BufRead>(
+    rt: &HostRuntime,
+    shown: Shown<'_>,
+    file: &'a str,
+    input: &mut R,
+    so_far: &mut SoFar,
+) -> Result<(), Stop<'a>> {
+    let mut text = Vec::new(rt.alloc());
+    let mut lines = 0;
+    for _ in 0..u64::MAX {
+        let line = match next_text(input, shown.forms.given, &mut text, &mut lines) {
+            Ok(Some(line)) => line,
+            Ok(None) => return Ok(()),
+            Err(RunFault::Read) if !file.is_empty() => return Err(Stop::Unread(file)),
+            Err(fault) => return Err(Stop::from(fault)),
+        };
+        let place = Place {
+            file,
+            line,
+            message: 0,
+        };
+        show_text(rt, shown, place, text.as_slice(), so_far)?;
+    }
+    // (more texts than 64 bits count)
+    Err(Stop::Memory)
+}
+
+/// Shows the message of a text, or the messages that stand in it one after the other.
+fn show_text<'a>(
+    rt: &HostRuntime,
+    shown: Shown<'_>,
+    place: Place<'_>,
+    text: &[u8],
+    so_far: &mut SoFar,
+) -> Result<(), Stop<'a>> {
+    let Some(octets) = octets_of(rt.alloc(), shown.forms, text)? else {
+        return show_none(rt, shown, place, so_far);
+    };
+    let octets = octets.as_slice();
+    if !shown.forms.is_split {
+        return show_message(rt, shown, place, octets, so_far);
+    }
+    let mut rest = octets;
+    for message in 1..u64::MAX {
+        if rest.is_empty() {
+            return Ok(());
+        }
+        let length = front_len(rt.alloc(), shown.ty, shown.rules, rest)?;
+        let (front, later) = rest.split_at(length);
+        let Place { file, line, .. } = place;
+        let here = Place {
+            file,
+            line,
+            message,
+        };
+        show_message(rt, shown, here, front, so_far)?;
+        rest = later;
+    }
+    Ok(())
+}
+
+/// The octets of a text of this form, if it is one.
+fn octets_of<'a>(alloc: Global, forms: Forms, text: &[u8]) -> Result<Option<Vec<u8>>, Stop<'a>> {
+    match forms.given {
+        Some(form) => Ok(octets_in(alloc, form, text)?),
+        None if forms.is_split => Ok(octets_in(alloc, OctetForm::Hex, text)?),
+        None => match hex::decode(alloc, text) {
+            Ok(octets) => Ok(Some(octets)),
+            Err(FromHexError::OutOfMemory) => Err(Stop::Memory),
+            Err(_) => Ok(None),
+        },
+    }
+}
+
+/// Tells that a text has no octets of its form.
+fn show_none<'a>(
+    rt: &HostRuntime,
+    shown: Shown<'_>,
+    place: Place<'_>,
+    so_far: &mut SoFar,
+) -> Result<(), Stop<'a>> {
+    let refusal = match shown.forms.given {
+        Some(OctetForm::Base64) => "! base64",
+        _ => "! hex",
+    };
+    let text = if shown.is_page {
+        page_note(rt.alloc(), place_text(rt.alloc(), place)?.as_str(), refusal)?
+    } else {
+        format!(in rt.alloc(); "{refusal}\n")?
+    };
+    so_far.all_good = false;
+    put(rt, shown, text.as_str(), so_far)
+}
+
+/// Shows the message that these octets are to be.
+fn show_message<'a>(
+    rt: &HostRuntime,
+    shown: Shown<'_>,
+    place: Place<'_>,
+    octets: &[u8],
+    so_far: &mut SoFar,
+) -> Result<(), Stop<'a>> {
+    let alloc = rt.alloc();
+    let told = fields_by(alloc, shown.ty, shown.rules, octets)?;
+    let text = if shown.is_page {
+        told.section(alloc, place_text(alloc, place)?.as_str(), octets)?
+    } else {
+        told.lines(alloc, octets)?
+    };
+    so_far.all_good &= told.answer.is_ok();
+    put(rt, shown, text.as_str(), so_far)?;
+    if told.answer.is_err() && shown.is_explained {
+        let digits = hex::encode(alloc, octets)?;
+        let words = why_refused(alloc, shown.ty, Order::Show, shown.rules, digits.as_bytes())?;
+        let place = place_text(alloc, place)?;
+        let _ = eprintln!(rt; "{place}: {words}");
+    }
+    Ok(())
+}
+
+/// Writes what is shown of one more message, as lines after an empty line.
+fn put<'a>(
+    rt: &HostRuntime,
+    shown: Shown<'_>,
+    text: &str,
+    so_far: &mut SoFar,
+) -> Result<(), Stop<'a>> {
+    if so_far.count > 0 && !shown.is_page {
+        written(rt, "\n")?;
+    }
+    so_far.count = so_far.count.saturating_add(1);
+    written(rt, text)
+}
+
+/// The fields of octets by the rules of this name: one after the other they are the units of the octets, up to the last or
+/// to the refused one, and say the value that the octets encode.
+///
+/// # Errors
+/// `AllocError` where an allocation failed.
+pub fn fields_by(
+    alloc: Global,
+    ty: &Checked,
+    rules: RuleName,
+    octets: &[u8],
+) -> Result<MessageFields, AllocError>
+    ensures { IfOk result (Tells (ruling_of rules) (shape_of ty.now) octets.now) }
+{
+    match rules {
+        RuleName::Per => fields::<Per>(alloc, ty, octets),
+        RuleName::Oer => fields::<Oer>(alloc, ty, octets),
+    }
+}

@@ -1,0 +1,27 @@
+//! What is told of a type and of messages: where each message ends, its value as JSON and its fields, why it is refused, what
+//! it takes, and what is counted of many; the types of a module, and values to begin from.
+#![tactic(auto)]
+
+mod budget;
+mod counting;
+mod examples;
+mod explaining;
+mod field_lines;
+mod fronts;
+mod laying;
+mod looking;
+mod newer_json;
+mod paths;
+mod streams;
+mod typed;
+
+pub use budget::{over_in_line, over_text};
+pub use counting::Counts;
+pub use examples::example_line;
+pub use explaining::{over_words, why_refused};
+pub use field_lines::fields_by;
+pub use fronts::front_len;
+pub use laying::laid_text;
+pub use looking::show_of;
+pub use newer_json::{TakenBack, newer_line, taken_back};
+pub use streams::{Next, next_message};

@@ -1,0 +1,99 @@
+//! What is shown of a module: its types, values of a type to begin from, and messages field by field.
+use crate::examples::example_line;
+use crate::field_lines::{Shown, show_messages};
+use asn_fields::outline;
+use asn_module::Module;
+use asn_module_files::{Stop, module_of};
+use asn_request::asking::Asking;
+use asn_request::look::{Look, Looking};
+use asn_values::Checked;
+use std::io::BufRead;
+
+/// Shows what is asked for of the module that is this text, and gives the exit status; `None` where it is none, or has no
+/// type of the name, and nothing is shown.
+///
+/// # Errors
+/// Where reading, writing or memory failed.
+pub fn show_of<'a, R: BufRead>(
+    rt: &HostRuntime,
+    look: &Look,
+    text: &[u8],
+    asking: &Asking<'a>,
+    lines: &mut R,
+) -> Result<Option<u8>, Stop<'a>> {
+    let Some(module) = module_of(rt.alloc(), text)? else {
+        return Ok(None);
+    };
+    let Some(name) = &look.type_name else {
+        return Ok(Some(show_names(rt, &module)?));
+    };
+    let name = name.as_str();
+    match module.type_named(name) {
+        Some(ty) => Ok(Some(show_type(rt, look, name, ty, asking, lines)?)),
+        None => Ok(None),
+    }
+}
+
+/// Shows what is asked for of this type.
+fn show_type<'a, R: BufRead>(
+    rt: &HostRuntime,
+    look: &Look,
+    name: &str,
+    ty: &Checked,
+    asking: &Asking<'a>,
+    lines: &mut R,
+) -> Result<u8, Stop<'a>> {
+    match look.what {
+        Looking::Fields => {
+            let shown = Shown {
+                ty,
+                name,
+                rules: look.rules,
+                forms: asking.forms,
+                is_page: look.is_page,
+                is_explained: asking.is_explained,
+            };
+            show_messages(rt, shown, asking.messages.as_slice(), lines)
+        }
+        Looking::Types => {
+            written(rt, outline(rt.alloc(), name, ty)?.as_str())?;
+            Ok(0)
+        }
+        Looking::Example => show_examples(rt, look, ty),
+    }
+}
+
+/// Writes the names of the types, a line each.
+fn show_names<'a>(rt: &HostRuntime, module: &Module) -> Result<u8, Stop<'a>> {
+    let mut text = String::new(rt.alloc());
+    for name in module.type_names() {
+        text.push_str(name)?;
+        text.push_str("\n")?;
+    }
+    written(rt, text.as_str())?;
+    Ok(0)
+}
+
+/// Writes as many values as are asked for, a line each: those of the seed and of the numbers after it, from 0 where none is
+/// given; where neither a seed nor a count is given, the least value.
+fn show_examples<'a>(rt: &HostRuntime, look: &Look, ty: &Checked) -> Result<u8, Stop<'a>> {
+    let Look { seed, count, .. } = *look;
+    if seed.is_none() && count.is_none() {
+        written(rt, example_line(rt.alloc(), ty, None)?.as_str())?;
+        return Ok(0);
+    }
+    let first = u64::from(seed.unwrap_or(0));
+    for later in 0..u64::from(count.unwrap_or(1)) {
+        let line = example_line(rt.alloc(), ty, Some(first.saturating_add(later)))?;
+        written(rt, line.as_str())?;
+    }
+    Ok(0)
+}
+
+/// Writes to standard output.
+pub fn written<'a>(rt: &HostRuntime, text: &str) -> Result<(), Stop<'a>> {
+    match rt.print(text) {
+        Ok(()) => Ok(()),
+        Err(fault) => Err(Stop::of_print(&fault)),
+    }
+}

@@ -1,0 +1,137 @@
+//! Messages of other versions of a type as JSON, with the fields that are skipped in them, and back.
+
+use crate::laying::value_text;
+use crate::paths::path_text;
+use asn_jobs::RuleName;
+use asn_json_layout::Layout;
+use asn_newer::{NewerFault, ReadNewer, SkippedAt};
+use asn_oer::Oer;
+use asn_per::Per;
+use asn_values::{AsnType, Checked};
+use hex::FromHexError;
+use serde_json::Value as Json;
+use std::alloc::{AllocError, Global};
+
+/// Why a line is refused that is no object as it is written here.
+const NO_OBJECT: &str =
+    "an object with the members value and skipped is wanted, as newer --json writes it";
+
+/// Why a line is refused of which something was skipped.
+const WOULD_BE_LOST: &str = "the type does not have what was skipped there, and it would be lost";
+
+/// The JSON of what is read of the message that a line of hexadecimal is: an object with its value, which has the order
+/// of members that is asked for, and with the fields that are skipped. `None` where the line is no such message.
+///
+/// # Errors
+/// `AllocError` where an allocation failed.
+pub fn newer_line(
+    alloc: Global,
+    ty: &Checked,
+    rules: RuleName,
+    line: &[u8],
+    is_declared: bool,
+) -> Result<Option<String>, AllocError> {
+    let octets = match hex::decode(alloc, line) {
+        Ok(octets) => octets,
+        Err(FromHexError::OutOfMemory) => return Err(AllocError),
+        Err(_) => return Ok(None),
+    };
+    let octets = octets.as_slice();
+    match rules {
+        RuleName::Per => newer_object::<Per>(alloc, ty, octets, is_declared),
+        RuleName::Oer => newer_object::<Oer>(alloc, ty, octets, is_declared),
+    }
+}
+
+/// The same of octets.
+fn newer_object<R: ReadNewer>(
+    alloc: Global,
+    ty: &Checked,
+    octets: &[u8],
+    is_declared: bool,
+) -> Result<Option<String>, AllocError> {
+    match R::read_newer_at(alloc, ty, octets) {
+        Ok(newer) => {
+            let layout = Layout {
+                is_declared,
+                is_pretty: false,
+            };
+            let value = value_text(alloc, ty, &newer.value, layout)?;
+            let skipped = fields_text(alloc, ty.get(), newer.skipped.as_slice())?;
+            let text = format!(in alloc; "{{\"value\":{value},\"skipped\":[{skipped}]}}")?;
+            Ok(Some(text))
+        }
+        Err(NewerFault::Memory) => Err(AllocError),
+        Err(_) => Ok(None),
+    }
+}
+
+/// The objects of the skipped fields, with a comma between two.
+fn fields_text(alloc: Global, ty: &AsnType, skipped: &[SkippedAt]) -> Result<String, AllocError> {
+    let [first, others @ ..] = skipped else {
+        return Ok(String::new(alloc));
+    };
+    let mut text = field_text(alloc, ty, first)?;
+    for field in others {
+        let more = field_text(alloc, ty, field)?;
+        let more = format!(in alloc; ",{more}")?;
+        text.push_str(more.as_str())?;
+    }
+    Ok(text)
+}
+
+/// The object of a skipped field.
+fn field_text(alloc: Global, ty: &AsnType, skipped: &SkippedAt) -> Result<String, AllocError> {
+    let path = path_text(alloc, ty, skipped.path.as_slice())?;
+    let index = skipped.field.place;
+    let octets = hex::encode(alloc, skipped.field.octets.as_slice())?;
+    format!(in alloc; "{{\"path\":\"{path}\",\"addition\":{index},\"octets\":\"{octets}\"}}")
+}
+
+/// What a line of `newer --json` is encoded as.
+#[derive(Drop)]
+pub enum TakenBack {
+    /// The JSON of its value, of which nothing was skipped.
+    Value(String),
+    /// It is refused by this line, for this reason.
+    Refused(String, &'static str),
+}
+
+/// What a line of `newer --json` is encoded as: its value, where nothing was skipped.
+///
+/// # Errors
+/// `AllocError` where an allocation failed.
+pub fn taken_back(alloc: Global, line: &[u8]) -> Result<TakenBack, AllocError> {
+    let whole = match Json::from_slice(alloc, line) {
+        Ok(whole) => whole,
+        Err(fault) if fault.is_memory() => return Err(AllocError),
+        Err(_) => return refused(alloc, "! json", "the line is no JSON"),
+    };
+    let Some(value) = whole.get("value") else {
+        return refused(alloc, "! shape $.value", NO_OBJECT);
+    };
+    let Some(Json::Array(skipped)) = whole.get("skipped") else {
+        return refused(alloc, "! shape $.skipped", NO_OBJECT);
+    };
+    match skipped.first() {
+        None => Ok(TakenBack::Value(value.to_string(alloc)?)),
+        Some(field) => refused_field(alloc, field),
+    }
+}
+
+/// The line that refuses a message of which this field was skipped.
+fn refused_field(alloc: Global, field: &Json) -> Result<TakenBack, AllocError> {
+    match field.get("path") {
+        Some(Json::String(path)) => {
+            let refusal = format!(in alloc; "! skipped {path}\n")?;
+            Ok(TakenBack::Refused(refusal, WOULD_BE_LOST))
+        }
+        _ => refused(alloc, "! shape $.skipped[0].path", NO_OBJECT),
+    }
+}
+
+/// These words refuse a line, for this reason.
+fn refused(alloc: Global, words: &str, reason: &'static str) -> Result<TakenBack, AllocError> {
+    let refusal = format!(in alloc; "{words}\n")?;
+    Ok(TakenBack::Refused(refusal, reason))
+}

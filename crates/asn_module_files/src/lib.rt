@@ -1,0 +1,16 @@
+//! The module of a job: read from files or from standard input, as it is or of published modules, written as one module of
+//! the profile, and told of where it is refused.
+#![tactic(auto)]
+
+mod flattening;
+mod refused;
+mod sources;
+mod stop;
+mod telling;
+mod texts;
+
+pub use flattening::flatten_files;
+pub use refused::text_told;
+pub use sources::{Instead, MOST, input_with, instead_of, module_of};
+pub use stop::Stop;
+pub use telling::{input_given, input_of_files, tell_text, tells_of_module};

@@ -1,0 +1,157 @@
+//! Why a module is refused, with its line and a mark under it, and why a text has no messages.
+use crate::sources::MOST;
+use asn_jobs::Job;
+use asn_module::{Module, ModuleFault, RefusedText, read_explained};
+use asn_published::{Options, PublishedFault, flatten_within};
+use std::alloc::{AllocError, Global};
+
+/// What is said where a text imports from modules that are not given.
+const ONE_OF_SEVERAL: &str = "\
+The text is one of several: it imports types from modules that are not given. Give the texts of all of them, one after
+the other in front of the line ====, or as files, --module FILE FILE ..
+";
+
+/// What is said where no line is the mark.
+const NO_MARK: &str = "\
+No line is ====, which ends the text of the module: so all is that text, and there are no messages.
+";
+
+/// What is said where the mark is not alone on its line.
+const NOT_ALONE: &str = "\
+A line that ends in ==== is not ==== alone, so it does not end the text of the module.
+";
+
+/// What is said where the line of the mark ends in a carriage return.
+const CARRIAGE_RETURN: &str = "\
+The line ==== ends in a carriage return, so it does not end the text of the module: only ==== and a line feed do.
+";
+
+/// What is to be told where the remarks on published modules name one that is not given.
+pub fn imports_told(remarks: &str) -> &'static str {
+    if remarks.contains(": a module that is not given\n") {
+        ONE_OF_SEVERAL
+    } else {
+        ""
+    }
+}
+
+/// What is to be told of the text of the module of a job: why it is refused, with its line and a mark under it, or which
+/// types it has where it has none of the name; and where all of standard input is that text, why it has no messages.
+///
+/// # Errors
+/// `AllocError` where an allocation failed.
+pub fn text_told(
+    alloc: Global,
+    text: &[u8],
+    options: Options,
+    job: &Job,
+    is_all: bool,
+) -> Result<String, AllocError> {
+    let Ok(text) = std::str::from_utf8(text) else {
+        return Ok(String::new(alloc));
+    };
+    let mut told = String::new(alloc);
+    if is_all && *job != Job::Module {
+        told.push_str(mark_words(text))?;
+    }
+    let words = match read_explained(alloc, text) {
+        Ok(module) => type_told(alloc, &module, job)?,
+        Err(refused) => refusal_told(alloc, text, options, refused)?,
+    };
+    told.push_str(words.as_str())?;
+    Ok(told)
+}
+
+/// Why no line of a text is the mark.
+fn mark_words(text: &str) -> &'static str {
+    for line in text.split('\n') {
+        if *line == *"====\r" {
+            return CARRIAGE_RETURN;
+        }
+        if line.trim_end().ends_with("====") {
+            return NOT_ALONE;
+        }
+    }
+    NO_MARK
+}
+
+/// The types of the module, where it has none of the name that the job has.
+fn type_told(alloc: Global, module: &Module, job: &Job) -> Result<String, AllocError> {
+    let Job::Lines { type_name, .. } = job else {
+        return Ok(String::new(alloc));
+    };
+    if module.type_named(type_name.as_str()).is_some() {
+        return Ok(String::new(alloc));
+    }
+    let mut told = String::from_str(alloc, "The types of the module:")?;
+    for name in module.type_names() {
+        told.push(' ')?;
+        told.push_str(name)?;
+    }
+    told.push('\n')?;
+    Ok(told)
+}
+
+/// Why a text is no module of the profile: what the reader of published modules says where it came further.
+fn refusal_told(
+    alloc: Global,
+    text: &str,
+    options: Options,
+    refused: RefusedText,
+) -> Result<String, AllocError> {
+    let RefusedText { fault, words } = refused;
+    if let ModuleFault::Memory = fault {
+        return Err(AllocError);
+    }
+    let own_line = line_of(text, &fault);
+    match (own_line, published_line(alloc, text, options)?) {
+        (Some(own), Some(line)) if own < line => line_told(alloc, text, line),
+        (Some(_), None) => Ok(String::new(alloc)),
+        _ => format!(in alloc; "{words}\n"),
+    }
+}
+
+/// The line, counted from 1, at which the reader of published modules finds a fault of the notation; 0 where what it reads
+/// is not taken, and `None` where it is.
+fn published_line(alloc: Global, text: &str, options: Options) -> Result<Option<u32>, AllocError> {
+    let flattened = flatten_within(alloc, &[text], options, MOST);
+    match &flattened {
+        Ok(_) => Ok(None),
+        Err(PublishedFault::Text { line, .. }) => Ok(Some(*line)),
+        Err(PublishedFault::Unread(_) | PublishedFault::TooLarge { .. }) => Ok(Some(0)),
+        Err(PublishedFault::Memory) => Err(AllocError),
+    }
+}
+
+/// The line, counted from 1, of a fault that has a place.
+fn line_of(text: &str, fault: &ModuleFault) -> Option<u32> {
+    let at = match fault {
+        ModuleFault::Character { at } | ModuleFault::Unexpected { at } => *at,
+        _ => return None,
+    };
+    let mut line: u32 = 1;
+    for (index, octet) in text.as_bytes().iter().enumerate() {
+        if index < at && *octet == b'\n' {
+            line = line.saturating_add(1);
+        }
+    }
+    Some(line)
+}
+
+/// The line of this number, counted from 1, of a text, behind its number.
+pub fn line_told(alloc: Global, text: &str, number: u32) -> Result<String, AllocError> {
+    let line = line_at(text, number);
+    format!(in alloc; "{number} | {line}\n")
+}
+
+/// The line of this number, counted from 1; an empty one after the last.
+fn line_at(text: &str, number: u32) -> &str {
+    let mut count: u32 = 0;
+    for line in text.lines() {
+        count = count.saturating_add(1);
+        if count == number {
+            return line;
+        }
+    }
+    ""
+}

@@ -1,0 +1,103 @@
+//! The input of a job, and what is told on standard error of its module.
+use crate::refused::{imports_told, line_told, text_told};
+use crate::sources::{Instead, input_with, instead_of};
+use crate::stop::Stop;
+use crate::texts::{texts_of, views_of};
+use asn_jobs::Job;
+use asn_published::{Options, PublishedFault};
+use asn_request::asking::Asking;
+use std::io::IsTerminal;
+
+/// Whether standard error tells why a module is refused: where that is asked for, or standard error is a terminal.
+pub fn tells_of_module(rt: &HostRuntime, asking: &Asking<'_>) -> bool {
+    asking.is_explained || rt.stderr().is_terminal()
+}
+
+/// The input of a job whose standard input is these octets, its module standing there; the remarks on published modules go
+/// to standard error.
+///
+/// # Errors
+/// Those of `instead_of`.
+pub fn input_given(
+    rt: &HostRuntime,
+    given: Vec<u8>,
+    options: Options,
+    job: &Job,
+    is_told: bool,
+) -> Result<Vec<u8>, Stop<'static>> {
+    let Instead { octets, remarks } = instead_of(rt.alloc(), given.as_slice(), options, job)?;
+    tell_remarks(rt, remarks.as_str(), is_told);
+    match octets {
+        Some(octets) => Ok(octets),
+        None => Ok(given),
+    }
+}
+
+/// The input of a job whose module is that of the files, up to the line ====; the remarks on published modules go to standard
+/// error, and the line of a fault too, where that is told. There is none where the job is to print the module, and a type is
+/// refused.
+///
+/// # Errors
+/// Where a file is not read, or the texts become no module.
+pub fn input_of_files<'a>(
+    rt: &HostRuntime,
+    files: &[&'a str],
+    options: Options,
+    job: &Job,
+    is_told: bool,
+) -> Result<Option<Vec<u8>>, Stop<'a>> {
+    let texts = texts_of(rt, files)?;
+    let views = views_of(rt, texts.as_slice())?;
+    let views = views.as_slice();
+    match input_with(rt.alloc(), files, views, b"".as_slice(), options, job) {
+        Ok(Instead { octets, remarks }) => {
+            tell_remarks(rt, remarks.as_str(), is_told);
+            Ok(octets)
+        }
+        Err(fault) => {
+            if is_told {
+                tell_line(rt, views, &fault)?;
+            }
+            Err(Stop::of(files, fault))
+        }
+    }
+}
+
+/// Writes the remarks on published modules to standard error, and where that is told of a module, that it is one of several.
+fn tell_remarks(rt: &HostRuntime, remarks: &str, is_told: bool) {
+    let _ = rt.eprint(remarks);
+    if is_told {
+        let _ = rt.eprint(imports_told(remarks));
+    }
+}
+
+/// Writes the line of a fault in one of these texts to standard error.
+fn tell_line(
+    rt: &HostRuntime,
+    texts: &[&str],
+    fault: &PublishedFault,
+) -> Result<(), Stop<'static>> {
+    if let PublishedFault::Text { text, line, .. } = fault {
+        if let Some(text) = texts.get(*text) {
+            let told = line_told(rt.alloc(), *text, *line)?;
+            let _ = rt.eprint(told.as_str());
+        }
+    }
+    Ok(())
+}
+
+/// Tells on standard error what `text_told` says of the text of the module of a job.
+///
+/// # Errors
+/// `Memory` where an allocation failed.
+pub fn tell_text(
+    rt: &HostRuntime,
+    text: &[u8],
+    options: Options,
+    job: &Job,
+    is_all: bool,
+) -> Result<(), Stop<'static>> {
+    let told = text_told(rt.alloc(), text, options, job, is_all)?;
+    let _ = rt.eprint(told.as_str());
+    Ok(())
+}

@@ -19,7 +19,7 @@ use std::alloc::Global;
 pub struct Flat;
 
 /// A SEQUENCE whose entries are not all there.
-#[derive(Debug, Drop)]
+#[derive(Drop)]
 pub struct Entries {
     /// Where its slot is.
     pub(crate) at: usize,
@@ -29,7 +29,7 @@ pub struct Entries {
 }
 
 /// A SEQUENCE OF whose elements are not all there.
-#[derive(Debug, Drop)]
+#[derive(Drop)]
 pub struct Elements {
     /// Where its slot is.
     pub(crate) at: usize,

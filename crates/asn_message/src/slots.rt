@@ -11,14 +11,14 @@ use asn_bits::internal::low_octet;
 use std::alloc::Global;
 
 /// Where a string stands among the octets of a message.
-#[derive(Clone, Copy, Debug, PartialEq, Eq)]
+#[derive(Clone, Copy)]
 pub struct Span {
     pub begin: u32,
     pub length: u32,
 }
 
 /// What a slot is of.
-#[derive(Clone, Copy, Debug, PartialEq, Eq)]
+#[derive(Clone, Copy)]
 pub enum Content {
     /// A BOOLEAN.
     Truth(bool),
@@ -47,7 +47,7 @@ pub enum Content {
 }
 
 /// A value, or one inside it: a slot of its own, and after it those of the values inside.
-#[derive(Clone, Copy, Debug, PartialEq, Eq)]
+#[derive(Clone, Copy)]
 pub struct Slot {
     pub content: Content,
     /// How many components of its SEQUENCE are absent between the present one before and this one.
@@ -57,7 +57,7 @@ pub struct Slot {
 }
 
 /// Slots, and the octets of the strings among them.
-#[derive(Debug, Drop)]
+#[derive(Drop)]
 pub struct Room {
     pub slots: Vec<Slot>,
     pub octets: Vec<u8>,

@@ -4,4 +4,5 @@ pub mod Types
 pub mod Walk
 pub mod Write
 pub mod Read
+pub mod Plan
 pub mod InPieces

@@ -1,5 +1,4 @@
 pub mod Oer
-pub mod FixedSizes
 pub mod Rules
 pub mod NumberVectors
 pub mod StringVectors
@@ -13,6 +12,7 @@ pub mod Preambles
 pub mod Sequences
 pub mod Reading
 pub mod Walk
+pub mod Parts
 pub mod BitsWritten
 pub mod ElementsAhead
 pub mod LeafReading

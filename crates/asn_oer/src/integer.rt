@@ -5,6 +5,7 @@ ghost use Rattle.asn_oer.specs.Words.{lowest_integer, highest_integer, FitsNumbe
 
 use asn_bits::BitCursor;
 use asn_bits::internal::{at_offset, at_wide_offset};
+use asn_plan::internal::{SIGNED_END, signed_size, unsigned_size};
 use asn_rules::internal::{
     Stop, numbers_of, offsets_of, read_counted, read_octets, read_signed_octets,
     read_wide_counted_signed, try_octets, try_signed_octets, write_fixed, write_least,
@@ -16,41 +17,8 @@ use asn_values::Bounds;
 use asn_values::internal::number_fits;
 use asn_values::profile::LOWEST_INTEGER;
 
-/// What the integers of 64 bits in two's complement are below.
-const SIGNED_END: i128 = 1 << 63;
-
-/// How many octets hold the numbers from 0 to `high` (X.696, "encoding of integer types").
-pub(crate) fn unsigned_size(high: i128) -> u32
-    requires { high <ℤ pos (2 ^ 64) }
-    ensures { unsigned_octets high ≡ Some result }
-{
-    if high < 1 << 8 {
-        1
-    } else if high < 1 << 16 {
-        2
-    } else if high < 1 << 32 {
-        4
-    } else {
-        8
-    }
-}
-
-/// How many octets of two's complement hold the numbers from `low` to `high`, where it is a fixed number: as many as
-/// hold twice the one that is farthest from zero, beside whose bits stands the sign.
-pub(crate) fn signed_size(low: i128, high: i128) -> Option<u32>
-    requires low { lowest_integer ≤ℤ low }
-    requires high { high ≤ℤ highest_integer }
-    ensures { result ≡ signed_size low high }
-{
-    let farthest = high.max(-1 - low).max(0);
-    if farthest < SIGNED_END {
-        Some(unsigned_size(2 * farthest))
-    } else {
-        None
-    }
-}
-
-/// The same of bounds of which either may be missing, and then there is none.
+/// How many octets of two's complement hold the numbers between two bounds, where it is a fixed number; none where one
+/// of the bounds is missing.
 fn size_between(low: Option<i128>, high: Option<i128>) -> Option<u32>
     requires of_profile { InProfile (integer (unmarked low high)) }
     ensures { result ≡ signed_size_of low high }

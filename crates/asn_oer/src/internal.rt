@@ -1,3 +1,2 @@
 //! What the crates of this repository need of this one, and its users do not.
-pub use crate::fixed_sizes::fixed_size;
 pub use crate::read_leaves::marks;

@@ -3,11 +3,11 @@
 
 mod bit_items;
 mod enumerated;
-mod fixed_sizes;
 mod in_pieces;
 mod integer;
 pub mod internal;
 pub mod laws;
+mod plan_leaves;
 mod read_leaves;
 mod rules;
 mod session;

@@ -1,7 +1,6 @@
 -- Each kind of type in PER as a language.
 pub mod BooleanAndNull
 pub mod BooleanLanguage
-pub mod IntegerRanges
 pub mod IntegerLanguages
 pub mod MarkedIntegers
 pub mod SmallNumbers

@@ -1,10 +1,8 @@
 -- Indexes of the items of an ENUMERATED and of the alternatives of a CHOICE, as they are read and written.
-use Rattle.std.specs.Prelude.{◌≡◌, ◌<◌, ◌≤◌, ◌⊎◌, ℕ, Bool, false, List, ◌∷◌, ◌++◌, length, map, Option, Some, None, ⊤}
+use Rattle.std.specs.Prelude.{◌<◌, ◌⊎◌, ℕ, Bool, false, List, ◌∷◌, ◌++◌, length, Option, Some, None, ⊤}
 use mathlib.Core.Logic.{inl, inr}
-use Rattle.std.specs.List.{list_any}
 use Rattle.std.specs.Option.{option_map}
 use Rattle.asn_values.specs.Shape.{Label, MoreLabels, closed_labels, marked_labels}
-use Rattle.asn_values.specs.Profile.{int_eq, has_twice, is_not_32_bits, most_items}
 use Rattle.asn_bits.specs.Numbers.{width}
 use Rattle.asn_rules.specs.Chunks.{Chunk}
 use Rattle.asn_rules.specs.Components.{number_at, extension_bit}
@@ -12,6 +10,8 @@ use Rattle.asn_rules.specs.Forks.{Fork}
 use Rattle.asn_rules.specs.Languages.{Map}
 use Rattle.asn_per.specs.Kinds.{Below, SmallBelow}
 use Rattle.asn_per.specs.Per.{rank, constrained, small}
+-- the root of an ENUMERATED of the profile
+pub use Rattle.asn_plan.specs.Ranks.{AreRootItems}
 
 -- ---- indexes of the root or of the additions
 
@@ -26,13 +26,6 @@ index_bits root marked (inl n) = extension_bit marked false ++ constrained root 
 index_bits root marked (inr n) = 1 ∷ small n
 
 -- ---- ENUMERATED
-
--- the root of an ENUMERATED of the profile: some items, and not too many, of distinct numbers of 32 signed bits
-pub record AreRootItems (root : List Label) : Type 0 where
-  pub some : 0 < length root
-  pub few : length root ≤ most_items
-  pub once : has_twice int_eq (map (λ l. l.number) root) ≡ false
-  pub narrow : list_any is_not_32_bits (map (λ l. l.number) root) ≡ false
 
 -- an item that may be left out is one of the root, and there is no mark
 abbrev pub IsItemWithin : List Label → MoreLabels → Option ℕ → Type 0

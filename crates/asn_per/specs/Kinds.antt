@@ -22,6 +22,8 @@ use Rattle.asn_rules.specs.Spellings.{SpelledBy}
 use Rattle.asn_walk.specs.Coding.{absent_entries}
 use Rattle.asn_per.specs.Per.{per, rank}
 use Rattle.asn_per.specs.Rules.{per_ruling}
+-- ranges with two bounds
+pub use Rattle.asn_plan.specs.Bounds.{root_of, between}
 
 -- ---- what the kinds are put together from
 
@@ -66,14 +68,6 @@ abbrev pub Nulls : Datum → List Chunk → Type 0
 Nulls = Nothing nothing
 
 -- ---- INTEGER
-
--- the range without its extension mark
-abbrev pub root_of : Range → Range
-root_of b = record { low = b.low; high = b.high; extensible = false }
-
--- between two bounds, after an extension mark or without
-abbrev pub between : ℤ → ℤ → Bool → Range
-between low high m = record { low = Some low; high = Some high; extensible = m }
 
 -- a number that does not lie between two bounds
 abbrev pub IsNotBetween : Range → ℤ → Type 0

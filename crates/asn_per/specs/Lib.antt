@@ -12,6 +12,7 @@ pub mod Indexes
 pub mod StringItems
 pub mod ListsAhead
 pub mod Walk
+pub mod Parts
 pub mod RowsAhead
 pub mod Following
 pub mod FragmentsAhead

@@ -1,6 +1,5 @@
 -- The spelling of a value in CANONICAL-PER UNALIGNED (X.691), in bits. Each clause names its subject there.
-use Rattle.std.specs.Prelude.{◌-◌, ◌==◌, ℕ, zero, suc, ℤ, Bool, true, false, List, [], ◌∷◌, ◌++◌, map, length, take, drop, replicate, Option, Some, None, nat_lt, count_by}
-use Rattle.std.specs.Int.RustNames.{int_lt}
+use Rattle.std.specs.Prelude.{◌-◌, ◌==◌, ℕ, zero, suc, ℤ, Bool, true, false, List, [], ◌∷◌, ◌++◌, map, length, take, drop, replicate, Option, Some, None, nat_lt}
 use Rattle.asn_values.specs.Datum.{Datum, truth, number, item, bit_list, octet_list, characters, unicode}
 use Rattle.asn_values.specs.Shape.{Range, SizeRange, Alphabet, ia5, numeric, visible, Shape, boolean, null, integer, enumerated, bit_string, octet_string, restricted, utf8_string, sequence, sequence_of, choice, Label, Demand, MoreLabels, has_more_labels, Fields, no_fields, field, MoreFields, closed, marked, is_marked, demands, Alternatives, no_alternatives, one_of, MoreAlternatives, closed_choice, marked_choice, is_marked_choice, count}
 use Rattle.asn_values.specs.Fits.{in_range, in_size}
@@ -9,6 +8,8 @@ use Rattle.asn_bits.specs.Lengths.{joined, general, general_octets}
 use Rattle.asn_rules.specs.Chunks.{Kind, open_field, utf8_field, rest_of, Chunk, one, sealed, ones, flat}
 use Rattle.asn_rules.specs.Components.{bit_of, number_at, presence, if_spelled, any_present, at_components, at_elements, at_alternative, extension_bit}
 use Rattle.asn_rules.specs.Live.{Fielding}
+-- the index of an item: how many of the items have a lower number
+pub use Rattle.asn_plan.specs.Ranks.{rank}
 
 -- ---- sealed fields and whole encodings
 
@@ -93,10 +94,6 @@ abbrev pub character_bits : Alphabet → ℕ → List ℕ
 character_bits ia5 c = bits 7 c
 character_bits visible c = bits 7 c
 character_bits numeric c = bits 4 (elim (c == 32) [ true ↦ 0 | false ↦ c - 47 ])
-
--- the index of an item: how many of the items have a lower number
-abbrev pub rank : List Label → ℤ → ℕ
-rank labels z = count_by (λ l. int_lt l.number z) labels
 
 -- the index in the root by number, or the index among the additions ("encoding the enumerated type")
 abbrev pub enumeration : List Label → MoreLabels → ℕ → List ℕ

@@ -9,6 +9,7 @@ mod integers;
 pub mod internal;
 mod items;
 pub mod laws;
+mod plan_leaves;
 mod read_leaves;
 mod rules;
 mod session;

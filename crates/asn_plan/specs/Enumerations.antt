@@ -6,7 +6,7 @@ use Rattle.asn_values.specs.View.{shape_of}
 use Rattle.asn_bits.specs.Numbers.{width}
 use Rattle.asn_bits.specs.Sink.{bit_of}
 use Rattle.asn_rules.specs.Components.{number_at}
-use Rattle.asn_per.specs.Per.{rank}
+use Rattle.asn_plan.specs.Ranks.{rank}
 use Rattle.asn_plan.specs.declared.enumeration.Enumeration.{Enumeration}
 
 -- the items of the root of an ENUMERATED, and those after the extension mark

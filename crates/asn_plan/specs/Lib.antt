@@ -1,10 +1,12 @@
+pub mod Bounds
 pub mod Enumerations
 pub mod Fields
+pub mod FixedSizes
 pub mod FixedStrings
 pub mod Placed
 pub mod Plans
 pub mod Ranged
-pub mod Rules
+pub mod Ranks
 pub mod SimpleTypes
 pub mod Taken
 pub mod Within

@@ -4,7 +4,7 @@ use Rattle.asn_values.specs.Profile.{InProfile}
 use Rattle.asn_values.specs.Shape.{Shape, integer}
 use Rattle.asn_bits.specs.Numbers.{above, width}
 use Rattle.asn_bits.specs.Sink.{bit_of}
-use Rattle.asn_oer.specs.FixedSizes.{fixed_size}
+use Rattle.asn_plan.specs.FixedSizes.{fixed_size}
 use Rattle.asn_plan.specs.declared.ranged.Ranged.{Ranged}
 
 -- INTEGER (low..high) or INTEGER (low..high, ...)

@@ -3,7 +3,7 @@ use asn_rules::DecodeFault;
 use thiserror::Error;
 
 /// What a value takes where it is kept as a `Value`.
-#[derive(Debug, Clone, Copy, PartialEq, Eq)]
+#[derive(Clone, Copy, PartialEq, Eq)]
 pub struct Taken {
     /// How many entries it has: itself, and those of its components, absent ones too, of its elements and of its
     /// alternative.
@@ -13,7 +13,7 @@ pub struct Taken {
 }
 
 /// The most that a value may take.
-#[derive(Debug, Clone, Copy, PartialEq, Eq)]
+#[derive(Clone, Copy)]
 pub struct Budget {
     /// The most entries, counted as in `Taken`.
     pub entries: u64,

@@ -4,7 +4,7 @@ ghost use Rattle.std.proofs.Props.{props};
 
 /// The numbers from `low` on, as far as `most` above it, each of which is told by a number in `bits` bits: `low` itself by
 /// `first`, and the next ones by the numbers after it.
-#[derive(Debug, Clone, Copy)]
+#[derive(Clone, Copy)]
 pub struct BitField {
     pub bits: u32,
     pub first: u32,
@@ -16,7 +16,7 @@ pub struct BitField {
 
 /// The fields that tell numbers: by rules that tell them by bits, as PER does, and by rules that tell them by octets, as OER
 /// does; where there is none, the numbers are not told by so little.
-#[derive(Debug, Clone, Copy)]
+#[derive(Clone, Copy)]
 pub struct BitFields {
     pub in_bits: Option<BitField>,
     pub in_octets: Option<BitField>,

@@ -85,7 +85,7 @@ fn count_in_octets(size: &Size) -> Option<BitField>
 /// Takes the number that a field tells; `None`, and the cursor stays, where the next bits are no number of the field or
 /// have not all come.
 #[inline(always)]
-pub(crate) fn take_told(field: &BitField, units: &mut BitCursor<'_>) -> Option<u32>
+pub fn take_told(field: &BitField, units: &mut BitCursor<'_>) -> Option<u32>
     ensures some { IfSome result (λ n. IsTold field.now n units.old units.new) }
     ensures none { IsNone result → units.new ≡ units.old }
 {

@@ -5,13 +5,13 @@ ghost use Rattle.asn_walk.specs.AtOnce.{IsOnlyLength};
 ghost use Rattle.asn_values.specs.View.{shape_of, size_range_of};
 ghost use Rattle.asn_plan.specs.FixedStrings.{IsFixedString};
 
-use crate::octets::MOST_OCTETS;
+use crate::word::MOST_OCTETS;
 use asn_rules::internal::greatest_of_width;
 use asn_values::{AsnType, Size};
 
 /// A BIT STRING, or an OCTET STRING without an extension mark, whose size leaves one length in the root, and what a
 /// reader would else work out of it for each value.
-#[derive(Debug, Clone, Copy)]
+#[derive(Clone, Copy)]
 pub struct FixedString {
     /// Whether it is an OCTET STRING.
     pub of_octets: bool,

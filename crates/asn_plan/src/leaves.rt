@@ -1,7 +1,7 @@
 //! What the rules read by themselves, for one node of a plan.
 ghost use Rattle.std.specs.Prelude.{◌≡◌, ◌*◌, ◌+◌, ◌≤◌, ◌<◌, ◌^◌, ◌≤ℤ◌, ◌<ℤ◌, pos, Some, IfSome, IsNone, IsSome, false, ◌-◌, ◌/◌};
 ghost use Rattle.asn_bits.specs.Numbers.{magnitude};
-ghost use Rattle.asn_oer.specs.FixedSizes.{fixed_size};
+ghost use Rattle.asn_plan.specs.FixedSizes.{fixed_size};
 ghost use Rattle.asn_values.specs.Fits.{lowest_integer, highest_integer};
 ghost use Rattle.asn_values.specs.Datum.{truth, item};
 ghost use Rattle.asn_values.specs.Profile.{InProfile};
@@ -18,13 +18,13 @@ ghost use Rattle.asn_plan.specs.Plans.{Builds, IsLeafPlan};
 use crate::build::Build;
 use crate::enumeration::Enumeration;
 use crate::fixed::FixedString;
+use crate::fixed_sizes::fixed_size;
 use crate::plan::{Between, Leaf, WithDefault};
 use crate::ranged::Ranged;
 use crate::rules::PlanLeaves;
 use crate::word::Run;
 use asn_bits::BitCursor;
 use asn_bits::internal::{wide_offset_from, width};
-use asn_oer::internal::fixed_size;
 use asn_rules::internal::greatest_of_width;
 use asn_values::{AsnType, Bounds, Value};
 use asn_walk::ReadLeaves;

@@ -17,21 +17,21 @@ use crate::word::Run;
 use asn_values::{AsnType, Size, Value};
 
 /// An INTEGER with two bounds, with what is worked out of them.
-#[derive(Debug, Clone, Copy)]
+#[derive(Clone, Copy)]
 pub struct Between {
     pub range: Ranged,
     ghost is_ranged: { IsRanged range },
 }
 
 /// An ENUMERATED whose items stand in the order of their numbers, with what is worked out of them.
-#[derive(Debug, Drop)]
+#[derive(Drop)]
 pub struct Items {
     pub of: Enumeration,
     ghost is_enumeration: { IsEnumeration of },
 }
 
 /// A type that is neither SEQUENCE, SEQUENCE OF nor CHOICE.
-#[derive(Debug, Drop)]
+#[derive(Drop)]
 pub struct Leaf {
     pub ty: AsnType,
     /// What is worked out of a string of one length, if it is one whose bits may be taken at once.
@@ -41,7 +41,7 @@ pub struct Leaf {
 }
 
 /// The type of a component, and its DEFAULT.
-#[derive(Debug, Drop)]
+#[derive(Drop)]
 pub struct WithDefault {
     pub ty: AsnType,
     pub default: Value,
@@ -50,7 +50,7 @@ pub struct WithDefault {
 }
 
 /// How many units may be taken at once from here on.
-#[derive(Debug, Clone, Copy)]
+#[derive(Clone, Copy)]
 pub struct Runs {
     /// Those of numbers alone.
     pub numbers: Run,
@@ -61,7 +61,7 @@ pub struct Runs {
 /// Where the nodes of the components of a SEQUENCE stand among those of the plan, counted from 0: those of the root
 /// from `begin` up to `middle`, those of the extension additions from there up to `end`. All that they need stands
 /// before `begin`. There may be none.
-#[derive(Debug, Clone, Copy)]
+#[derive(Clone, Copy)]
 pub struct ComponentRows {
     pub begin: usize,
     pub middle: usize,
@@ -79,7 +79,7 @@ pub struct ComponentRows {
 
 /// How many elements a SEQUENCE OF has, and where the node of their type stands among those of the plan, counted from
 /// 0. All that it needs stands before it.
-#[derive(Debug, Clone, Copy)]
+#[derive(Clone, Copy)]
 pub struct ElementRow {
     pub size: Size,
     /// Those of the counts of the root.
@@ -92,7 +92,7 @@ pub struct ElementRow {
 /// Where the nodes of the alternatives of a CHOICE stand among those of the plan, counted from 0: those of the root
 /// from `begin` up to `middle`, those of the extension additions from there up to `end`. All that they need stands
 /// before `begin`.
-#[derive(Debug, Clone, Copy)]
+#[derive(Clone, Copy)]
 pub struct AlternativeRows {
     pub begin: usize,
     pub middle: usize,
@@ -105,7 +105,7 @@ pub struct AlternativeRows {
 }
 
 /// What is to be read.
-#[derive(Debug, Drop)]
+#[derive(Drop)]
 pub enum Kind {
     /// An INTEGER with two bounds, whose numbers between them have few enough bits.
     Number(Between),
@@ -124,7 +124,7 @@ pub enum Kind {
 }
 
 /// Whether a component has to be there.
-#[derive(Debug, Drop)]
+#[derive(Drop)]
 pub enum Presence {
     Must,
     Optional,
@@ -132,7 +132,7 @@ pub enum Presence {
 }
 
 /// A node of a plan: a component, an alternative, or the type of elements.
-#[derive(Debug, Drop)]
+#[derive(Drop)]
 pub struct Node {
     pub presence: Presence,
     pub kind: Kind,
@@ -142,7 +142,7 @@ pub struct Node {
 }
 
 /// A plan of a type: the nodes of its parts, and what is to be read of the type, before which all of these stand.
-#[derive(Debug, Drop)]
+#[derive(Drop)]
 pub struct Plan {
     pub nodes: Vec<Node>,
     pub root: Kind,

@@ -2,7 +2,7 @@
 
 /// An INTEGER with two bounds, both counted in, with an extension mark or without, and what a reader would else work
 /// out of them for each number.
-#[derive(Debug, Clone, Copy)]
+#[derive(Clone, Copy)]
 pub struct Ranged {
     pub low: i128,
     pub high: i128,

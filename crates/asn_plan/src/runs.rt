@@ -3,12 +3,11 @@ ghost use Rattle.std.specs.Prelude.{◌≤◌};
 
 use crate::build::Build;
 use crate::fixed::fixed_of;
+use crate::fixed_sizes::fixed_size;
 use crate::items::{are_ordered, first_in_row};
-use crate::octets::MOST_OCTETS;
 use crate::plan::{Node, Presence, Runs};
-use crate::word::Run;
+use crate::word::{MOST_OCTETS, Run};
 use asn_bits::internal::width;
-use asn_oer::internal::fixed_size;
 use asn_values::profile::{HIGHEST_INTEGER, LOWEST_INTEGER};
 use asn_values::{AsnType, Bounds, Field, Item, Need};
 

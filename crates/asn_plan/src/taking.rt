@@ -1,8 +1,9 @@
 //! Numbers told one after the other by bits that were taken at once.
-ghost use Rattle.std.specs.Prelude.{◌≡◌, ◌+◌, ◌≤◌, ◌<◌, ◌^◌, ◌++◌, IfSome, IsTrue};
+ghost use Rattle.std.specs.Prelude.{◌≡◌, ◌+◌, ◌≤◌, ◌<◌, ◌%◌, ◌^◌, ◌++◌, IfSome, IsTrue};
 ghost use Rattle.asn_bits.specs.Numbers.{bits};
 
 use crate::word::Word;
+use asn_bits::BitCursor;
 
 impl Word {
     /// The bits of a number, the highest of `count` first; none where these are more than 63.
@@ -72,5 +73,26 @@ impl Word {
             left,
         };
         Some(number)
+    }
+}
+
+/// Takes this many bits, if it is 1 to 63 and they have all come; otherwise none.
+#[inline(always)]
+pub fn take_bits(count: u32, units: &mut BitCursor<'_>) -> Word
+    ensures whole { count % 8 ≡ 0 → result.left % 8 ≡ 0 }
+    ensures taken { units.old ≡ bits result.left result.bits ++ units.new }
+{
+    if count == 0 || count > 63 {
+        return Word::none();
+    }
+    let Some(bits) = units.peek_number(count) else {
+        return Word::none();
+    };
+    match Word::of(bits, count) {
+        Some(word) => {
+            units.pass(count);
+            word
+        }
+        None => Word::none(),
     }
 }

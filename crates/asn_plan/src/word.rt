@@ -1,9 +1,12 @@
 //! Units that are taken at once.
 ghost use Rattle.std.specs.Prelude.{◌≤◌};
 
+/// The most octets that are taken at once.
+pub const MOST_OCTETS: u32 = 7;
+
 /// How many units the values have that are taken at once: counted in bits by rules that tell a value by a number of bits,
 /// as PER does, and in octets by rules that tell it by octets, as OER does. There may be none.
-#[derive(Debug, Clone, Copy)]
+#[derive(Clone, Copy)]
 pub struct Run {
     pub bits: u32,
     pub octets: u32,
@@ -11,9 +14,9 @@ pub struct Run {
 
 /// Bits that were taken at once, and of which numbers are told one after the other: the lowest `left` of `bits`, the
 /// highest of them first.
-#[derive(Debug, Clone, Copy)]
+#[derive(Clone, Copy)]
 pub struct Word {
-    pub(crate) bits: u64,
-    pub(crate) left: u32,
+    pub bits: u64,
+    pub left: u32,
     ghost few: { left ≤ 63 },
 }

@@ -27,13 +27,14 @@ use Rattle.asn_per.specs.ListsAhead.{RootStart, Start, other_counts}
 use Rattle.asn_per.specs.Per.{per_fields, filling, small_length}
 use Rattle.asn_per.specs.Rules.{per_ruling}
 use Rattle.asn_per.specs.Walk.{per_coding}
-use Rattle.asn_per.proofs.Read.ItemIndexes.{root_items}
+use Rattle.asn_plan.proofs.RootItems.{root_items}
 use Rattle.asn_per.proofs.Read.ListsAhead.{high_small}
 use Rattle.asn_per.proofs.Types.BooleanAndNull.{booleans_compose, nulls_compose}
 use Rattle.asn_per.proofs.Types.EnumeratedLanguages.{items_compose, few_additions}
 use Rattle.asn_per.proofs.Types.IntegerLanguages.{offsets_below}
-use Rattle.asn_per.proofs.Types.IntegerRanges.{low_above_lowest, low_below_highest, high_below_highest, low_below_high}
-use Rattle.asn_per.proofs.Types.MarkedIntegers.{integers_compose, root_of_profile}
+use Rattle.asn_plan.proofs.IntegerRanges.{low_above_lowest, low_below_highest, high_below_highest, low_below_high}
+use Rattle.asn_plan.proofs.Bounds.{root_of_profile}
+use Rattle.asn_per.proofs.Types.MarkedIntegers.{integers_compose}
 use Rattle.asn_per.proofs.Types.SmallNumbers.{IsLarge, one_octet}
 use Rattle.asn_per.proofs.Walk.WalkChoices.{index_spelled}
 use Rattle.asn_walk.specs.Ahead.{Ahead, items, lengths, end}

@@ -1,7 +1,6 @@
 -- The items of an ENUMERATED are told by their bits in PER: each has its index, how many items have a lower number.
-use Rattle.std.proofs.Common.{◌≡◌, ◌≤◌, ◌<◌, ◌+◌, ◌-◌, ◌⊎◌, ℕ, zero, suc, ℤ, pos, negsuc, Bool, true, false, cond, List, [], ◌∷◌, length, inl, inr, refl, sym, ◌∙◌, ap, arith, nat_lt}
+use Rattle.std.proofs.Common.{◌≡◌, ◌≤◌, ◌<◌, ◌+◌, ◌-◌, ◌⊎◌, ℕ, zero, suc, ℤ, pos, negsuc, Bool, true, false, List, [], ◌∷◌, length, inl, inr, refl, sym, ◌∙◌, ap, arith, nat_lt}
 use Rattle.std.proofs.lemmas.Bool.{true≢false, ltb-true, ltb-false, lt-ltb, cases_lt}
-use Rattle.std.proofs.lemmas.List.Sums.{sum_by-cons}
 use Rattle.std.specs.Int.RustNames.{int_lt}
 use Rattle.asn_values.specs.Shape.{Label, MoreLabels, closed_labels, marked_labels, more_labels, has_more_labels}
 use Rattle.asn_values.specs.Profile.{int_eq, has_twice}
@@ -13,31 +12,9 @@ use Rattle.asn_rules.specs.Components.{number_at}
 use Rattle.asn_rules.proofs.Law.Items.{numbers, one_place}
 use Rattle.asn_per.proofs.Law.Numbers.{marked_code, small_code}
 use Rattle.asn_per.specs.Per.{constrained, small, rank, enumeration}
+pub use Rattle.asn_plan.proofs.Ranks.{lt_not_self, lt_also, rank_yes, rank_no}
 
 -- ---- numbers in order
-
--- no number is below itself
-pub lt_not_self : (z : ℤ) → int_lt z z ≡ false
-lt_not_self (pos n) = go (nat_lt n n) refl
-  where
-    go : (b : Bool) → nat_lt n n ≡ b → b ≡ false
-    go true e = absurd (omega (arith, ltb-true n n e))
-    go false e = refl
-lt_not_self (negsuc n) = go (nat_lt n n) refl
-  where
-    go : (b : Bool) → nat_lt n n ≡ b → b ≡ false
-    go true e = absurd (omega (arith, ltb-true n n e))
-    go false e = refl
-
--- below one that is below is below
-pub lt_also : (x y z : ℤ) → int_lt x y ≡ true → int_lt y z ≡ true → int_lt x z ≡ true
-lt_also (pos a) (pos b) (pos c) p q = lt-ltb a c (omega (arith, ltb-true a b p, ltb-true b c q))
-lt_also (pos a) (pos b) (negsuc c) p q = absurd (true≢false (sym q))
-lt_also (pos a) (negsuc b) z p q = absurd (true≢false (sym p))
-lt_also (negsuc a) (pos b) (pos c) p q = refl
-lt_also (negsuc a) (negsuc b) (pos c) p q = refl
-lt_also (negsuc a) (pos b) (negsuc c) p q = absurd (true≢false (sym q))
-lt_also (negsuc a) (negsuc b) (negsuc c) p q = lt-ltb c a (omega (arith, ltb-true b a p, ltb-true c b q))
 
 -- of two numbers one is below, or they are one
 pub compare : (y z : ℤ) → (int_lt y z ≡ true) ⊎ (y ≡ z) ⊎ (int_lt z y ≡ true)
@@ -53,18 +30,6 @@ compare (negsuc a) (negsuc b) = elim (cases_lt a b) [
 ]
 
 -- ---- indexes
-
--- the first item counts where its number is lower
-rank_step : (l : Label) (ls : List Label) (z : ℤ) → rank (l ∷ ls) z ≡ cond (int_lt l.number z) 1 0 + rank ls z
-rank_step l ls z = sum_by-cons (λ l. cond (int_lt l.number z) 1 0) l ls
-
--- an item with a lower number counts
-pub rank_yes : (l : Label) (ls : List Label) (z : ℤ) → int_lt l.number z ≡ true → rank (l ∷ ls) z ≡ suc (rank ls z)
-rank_yes l ls z e = let f : cond {A = ℕ} (int_lt l.number z) 1 0 ≡ 1 = ap (λ b. cond b 1 0) e in omega (arith, rank_step l ls z)
-
--- and no other
-pub rank_no : (l : Label) (ls : List Label) (z : ℤ) → int_lt l.number z ≡ false → rank (l ∷ ls) z ≡ rank ls z
-rank_no l ls z e = let f : cond {A = ℕ} (int_lt l.number z) 1 0 ≡ 0 = ap (λ b. cond b 1 0) e in omega (arith, rank_step l ls z)
 
 -- no more items are lower than there are
 pub rank_le : (ls : List Label) (z : ℤ) → rank ls z ≤ length ls

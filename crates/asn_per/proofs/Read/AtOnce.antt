@@ -23,7 +23,7 @@ use Rattle.asn_per.specs.Kinds.{position_of}
 use Rattle.asn_per.specs.Laws.{per_bits}
 use Rattle.asn_per.specs.Per.{per, per_fields, enumeration, spelled, constrained, sized, within, after_mark}
 use Rattle.asn_per.specs.StringItems.{row_bits}
-use Rattle.asn_per.proofs.Read.ItemIndexes.{root_items}
+use Rattle.asn_plan.proofs.RootItems.{root_items}
 use Rattle.asn_per.proofs.Read.StringReading.{bits_size, octets_size}
 use Rattle.asn_per.proofs.Types.Ranks.{place_there}
 use Rattle.asn_per.proofs.Write.IndexBits.{root_index_bits}

@@ -26,7 +26,8 @@ use Rattle.asn_rules.specs.IntegerSets.{AreOffsetsBut, IsOneBut, IsWithin, unmar
 use Rattle.asn_per.specs.Reading.{StopsAtMark}
 use Rattle.asn_per.proofs.Read.IndexReading.{fork_stops}
 use Rattle.asn_per.proofs.Types.LeftOut.{none_left_out, unbounded_but_one}
-use Rattle.asn_per.proofs.Types.MarkedIntegers.{integers_compose, ranged_compose, root_of_profile}
+use Rattle.asn_plan.proofs.Bounds.{root_of_profile}
+use Rattle.asn_per.proofs.Types.MarkedIntegers.{integers_compose, ranged_compose}
 use Rattle.asn_per.proofs.Read.SignedReading.{signed_leads}
 
 -- ---- without a low bound

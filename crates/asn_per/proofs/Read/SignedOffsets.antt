@@ -12,7 +12,7 @@ use Rattle.asn_per.specs.Kinds.{IsOutside}
 use Rattle.asn_rules.specs.OffsetSets.{HasOffset}
 use Rattle.asn_rules.specs.IntegerSets.{AreOffsets}
 use Rattle.asn_per.specs.Reading.{low_offset, high_offset}
-use Rattle.asn_per.proofs.Types.IntegerRanges.{inside}
+use Rattle.asn_plan.proofs.IntegerRanges.{inside}
 
 -- the bounds of a range of the profile
 pub bounds_inside : (b : Range) → InProfile (integer b) → (is_outside b.low ≡ false) × (is_outside b.high ≡ false)

@@ -26,7 +26,7 @@ use Rattle.asn_rules.proofs.Languages.Spellings.{same_after, same_map, set_spell
 use Rattle.asn_per.specs.Per.{per, per_fields}
 use Rattle.asn_rules.specs.NumberSets.{IsNot, Admits, up_to}
 use Rattle.asn_rules.specs.IntegerSets.{IsWithin}
-use Rattle.asn_per.proofs.Types.IntegerRanges.{ranging, low_above_lowest, low_below_highest, high_below_highest, low_below_high, number_above_low, number_below_high}
+use Rattle.asn_plan.proofs.IntegerRanges.{ranging, low_above_lowest, low_below_highest, high_below_highest, low_below_high, number_above_low, number_below_high}
 
 -- ---- the integer that is left out
 

@@ -4,7 +4,7 @@ use Rattle.std.proofs.lemmas.Int.{ints}
 use Rattle.asn_values.specs.Datum.{Datum, number}
 use Rattle.asn_values.specs.Shape.{Range, integer}
 use Rattle.asn_values.specs.Fits.{Fits, FitsNumber, lowest_integer, highest_integer, in_range}
-use Rattle.asn_values.specs.Profile.{InProfile, EmptyRange, SizeTooLarge, DuplicateName, BadEnumeration, UselessMark, BadDefault, ZeroWidthElement, AdditionNotOptional, TooMany, TooDeep}
+use Rattle.asn_values.specs.Profile.{InProfile}
 use Rattle.asn_bits.specs.Numbers.{above, magnitude, signed_octet_count}
 use Rattle.asn_bits.proofs.Octets.{signed_count_below}
 use Rattle.asn_rules.specs.Chunks.{Chunk, ones}
@@ -17,23 +17,11 @@ use Rattle.asn_rules.proofs.Languages.Spellings.{same_after, same_map, same_fork
 use Rattle.asn_per.specs.Per.{per, unconstrained}
 use Rattle.asn_per.specs.Kinds.{Values, of_either, root_of, IsOutside, Unconstrained, Ranged, Integers}
 use Rattle.asn_per.proofs.Types.BooleanAndNull.{below_spelled}
-use Rattle.asn_per.proofs.Types.IntegerRanges.{ranging}
+use Rattle.asn_plan.proofs.Bounds.{root_of_profile}
+use Rattle.asn_plan.proofs.IntegerRanges.{ranging}
 use Rattle.asn_per.proofs.Types.IntegerLanguages.{there, back, open_there, open_back, few_octets}
 
 -- ---- without a mark
-
--- what is said of a range of the profile is said of its root
-pub root_of_profile : (b : Range) → InProfile (integer b) → InProfile (integer (root_of b))
-root_of_profile b good EmptyRange = good EmptyRange
-root_of_profile b good SizeTooLarge = refl
-root_of_profile b good DuplicateName = refl
-root_of_profile b good BadEnumeration = refl
-root_of_profile b good UselessMark = refl
-root_of_profile b good BadDefault = refl
-root_of_profile b good ZeroWidthElement = refl
-root_of_profile b good AdditionNotOptional = refl
-root_of_profile b good TooMany = refl
-root_of_profile b good TooDeep = refl
 
 -- an integer of the profile has at most 9 octets
 signed_few : (z : ℤ) → lowest_integer ≤ℤ z → z ≤ℤ highest_integer → signed_octet_count z < 128

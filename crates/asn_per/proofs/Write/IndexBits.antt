@@ -14,11 +14,6 @@ use Rattle.asn_per.specs.Per.{constrained, small}
 pub few_index_bits : (values : ℕ) → values ≤ 256 → width values ≤ 8
 few_index_bits values h = least_from_below (λ k. nat_le values (2 ^ k)) values 0 8 (omega arith) (le-leb values (2 ^ 8) h)
 
--- a bit is at most one
-pub one_mark_bit : (b : Bool) → bit_of b ≤ 1
-one_mark_bit true = omega arith
-one_mark_bit false = omega arith
-
 -- the bits of one index
 pub same_index_bits : {m n : ℕ} {a b : Bool} {i j : ℕ ⊎ ℕ} → m ≡ n → a ≡ b → i ≡ j → index_bits m a i ≡ index_bits n b j
 same_index_bits {m} {n} {a} {b} {i} {j} e f g = ap (λ (k : ℕ). index_bits k a i) e ∙ ap (λ (c : Bool). index_bits n c i) f ∙ ap (index_bits n b) g

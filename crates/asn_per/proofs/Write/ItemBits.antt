@@ -1,5 +1,5 @@
 -- The bits of an item, as a writer puts them.
-use Rattle.std.proofs.Common.{◌≡◌, ◌≤◌, ◌<◌, ◌-◌, inl, inr, ℕ, List, ◌∷◌, Bool, true, map, length, Option, Some, None, is_some, refl, ap, ◌∙◌, arith}
+use Rattle.std.proofs.Common.{◌≡◌, ◌≤◌, ◌<◌, ◌-◌, inl, inr, ℕ, List, ◌∷◌, Bool, true, map, length, Option, Some, None, refl, ap, ◌∙◌, arith}
 use Rattle.std.proofs.lemmas.Bool.{lt-ltb, le-ltb}
 use Rattle.std.proofs.lemmas.List.{length-map}
 use Rattle.std.specs.Global.{Vec}
@@ -16,11 +16,6 @@ use Rattle.asn_per.specs.Indexes.{index_bits}
 use Rattle.asn_per.specs.Per.{spelled, constrained, small, rank, after_mark}
 use Rattle.asn_per.specs.Laws.{per_bits}
 use Rattle.asn_per.proofs.Types.EnumeratedLanguages.{few_additions}
-
--- whether there is a mark
-pub mark_there : (more : Option (Vec Item)) → is_some more ≡ has_more_labels (more_labels_of more)
-mark_there None = refl
-mark_there (Some v) = refl
 
 -- an item of the root has the bits of its index
 pub bits_of_root_item : (root : List Label) (more : MoreLabels) (p : ℕ) → p < length root

@@ -27,7 +27,7 @@ use Rattle.asn_plan.proofs.Rows.{row_begins, row_further, listed_starts, listed_
 use Rattle.asn_plan.specs.declared.plan.Kind.TheVariants as kind
 use Rattle.asn_plan.specs.Plans.{IsPlan, Builds}
 use Rattle.asn_plan.specs.Words.{before}
-use Rattle.asn_plan.proofs.WordsRead.{nothing_left}
+use Rattle.asn_plan.proofs.WordsTaken.{nothing_left}
 use Rattle.asn_plan.proofs.+walk.Goals as goal
 use Rattle.asn_plan.proofs.+walk.Goals.{component::build_component-in-Must, component::build_component-in-Optional+else-presence-eq0+else-not-next}
 

@@ -1,7 +1,7 @@
 use Rattle.std.proofs.Common.{rules, ◌≡◌, ◌<ℤ◌, pos, arith, to_z, of_z}
 use Rattle.std.proofs.lemmas.Int.{ints}
 use mir.Syntax.{w128}
-use Rattle.asn_oer.proofs.Law.Integers.{lt_of_test}
+use Rattle.asn_plan.proofs.FixedSizes.{lt_of_test}
 use Rattle.asn_oer.proofs.Write.WrittenNumbers.{narrow}
 use Rattle.asn_oer.proofs.integer.greatest.Goals as goal
 

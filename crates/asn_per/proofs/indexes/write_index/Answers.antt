@@ -8,7 +8,8 @@ use Rattle.asn_walk.specs.Views.{index_seen}
 use Rattle.asn_per.specs.Indexes.{index_bits}
 use Rattle.asn_per.specs.Per.{small}
 use Rattle.asn_per.proofs.Write.Doubled.{doubled_width}
-use Rattle.asn_per.proofs.Write.IndexBits.{few_index_bits, one_mark_bit, index_fits, root_index_bits}
+use Rattle.asn_plan.proofs.FieldBits.{one_mark_bit}
+use Rattle.asn_per.proofs.Write.IndexBits.{few_index_bits, index_fits, root_index_bits}
 use Rattle.asn_per.proofs.indexes.write_index.Goals as goal
 
 -- the count of bits of an index, as it was worked out

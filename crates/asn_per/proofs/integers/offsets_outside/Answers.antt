@@ -6,7 +6,7 @@ use Rattle.asn_bits.specs.Numbers.{above}
 use Rattle.asn_bits.proofs.Above.{kept}
 use Rattle.asn_rules.proofs.Plain.IntegerSets.{low_inside, low_is, high_is, high_inside}
 use Rattle.asn_per.specs.Reading.{low_offset, high_offset}
-use Rattle.asn_per.proofs.Types.MarkedIntegers.{root_of_profile}
+use Rattle.asn_plan.proofs.Bounds.{root_of_profile}
 use Rattle.asn_per.proofs.Read.SignedOffsets.{low_offset_is, high_offset_is, outside_offsets, some_outside}
 use Rattle.asn_per.proofs.integers.offsets_outside.Goals as goal
 

@@ -9,7 +9,7 @@ use Rattle.asn_rules.proofs.Components.Listed.{spelt_inhabited}
 use Rattle.asn_rules.specs.IntegerSets.{unmarked}
 use Rattle.asn_per.specs.Per.{per}
 use Rattle.asn_per.proofs.Read.IntegerForms.{none_out, mark_stops, root_leads, outside_leads}
-use Rattle.asn_per.proofs.Types.MarkedIntegers.{root_of_profile}
+use Rattle.asn_plan.proofs.Bounds.{root_of_profile}
 use Rattle.asn_per.proofs.integers.read_integer.Goals as goal
 
 pub read_ranged-requires-else-outside-clause-some : goal.read_ranged-requires-else-outside-clause-some

@@ -16,7 +16,7 @@ use Rattle.asn_per.specs.Per.{per, per_fields}
 use Rattle.asn_rules.specs.NumberSets.{Admits, up_to}
 use Rattle.asn_per.proofs.Types.IntegerLanguages.{offset_of, constrained_leads, constrained_some}
 use Rattle.asn_rules.specs.IntegerSets.{IsWithin}
-use Rattle.asn_per.proofs.Types.IntegerRanges.{ranging, low_above_lowest, low_below_highest, high_below_highest, low_below_high, low_kept, high_kept}
+use Rattle.asn_plan.proofs.IntegerRanges.{ranging, low_above_lowest, low_below_highest, high_below_highest, low_below_high, low_kept, high_kept}
 use Rattle.asn_bits.proofs.Above.{kept}
 use Rattle.asn_per.proofs.integers.read_ranged.Goals as goal
 

@@ -10,7 +10,7 @@ use Rattle.asn_rules.proofs.Languages.Leads.{stops_by}
 use Rattle.asn_per.specs.Per.{per_fields}
 use Rattle.asn_rules.specs.NumberSets.{Admits, up_to}
 use Rattle.asn_per.proofs.Types.IntegerLanguages.{offset_of, left_out_within, constrained_leads, constrained_some}
-use Rattle.asn_per.proofs.Types.IntegerRanges.{low_above_lowest, low_below_highest, high_below_highest, low_kept, high_kept}
+use Rattle.asn_plan.proofs.IntegerRanges.{low_above_lowest, low_below_highest, high_below_highest, low_kept, high_kept}
 use Rattle.asn_bits.proofs.Above.{kept}
 use Rattle.asn_per.proofs.integers.read_wide_between.Goals as goal
 

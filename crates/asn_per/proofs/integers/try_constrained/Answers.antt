@@ -9,7 +9,7 @@ use Rattle.asn_rules.proofs.Numbers.Sets.{first_spells}
 use Rattle.asn_per.specs.Per.{per_fields}
 use Rattle.asn_rules.specs.NumberSets.{Admits, up_to}
 use Rattle.asn_per.proofs.Types.IntegerLanguages.{constrained_leads}
-use Rattle.asn_per.proofs.Types.IntegerRanges.{low_above_lowest, low_below_highest, high_below_highest, low_below_high, low_kept, high_kept}
+use Rattle.asn_plan.proofs.IntegerRanges.{low_above_lowest, low_below_highest, high_below_highest, low_below_high, low_kept, high_kept}
 use Rattle.asn_per.proofs.integers.try_constrained.Goals as goal
 
 pub wide_offset_from-highest-requires-clause-ordered : goal.wide_offset_from-highest-requires-clause-ordered

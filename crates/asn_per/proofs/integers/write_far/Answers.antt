@@ -3,7 +3,7 @@ use Rattle.asn_values.specs.Fits.{FitsNumber}
 use Rattle.asn_values.specs.Profile.{InProfile}
 use Rattle.asn_values.specs.Shape.{integer}
 use Rattle.asn_per.specs.Kinds.{between}
-use Rattle.asn_per.proofs.Write.BetweenBounds.{between_fits}
+use Rattle.asn_plan.proofs.Bounds.{between_fits}
 use Rattle.asn_per.proofs.integers.write_far.Goals as goal
 
 pub returns-clause-of_type : goal.returns-clause-of_type

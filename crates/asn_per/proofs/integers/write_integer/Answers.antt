@@ -9,7 +9,8 @@ use Rattle.asn_rules.specs.Components.{extension_bit}
 use Rattle.asn_sinks.proofs.Pushing.{pushed_same}
 use Rattle.asn_per.specs.Kinds.{between}
 use Rattle.asn_per.specs.Per.{constrained}
-use Rattle.asn_per.proofs.Write.BetweenBounds.{bounds_within, below_by_offset, bits_between, between_fits}
+use Rattle.asn_plan.proofs.Bounds.{bounds_within, below_by_offset, between_fits}
+use Rattle.asn_per.proofs.Write.BetweenBounds.{bits_between}
 use Rattle.asn_per.proofs.integers.write_integer.Goals as goal
 
 pub wide_offset_from-highest-requires-clause-ordered : goal.wide_offset_from-highest-requires-clause-ordered

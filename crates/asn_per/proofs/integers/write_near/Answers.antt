@@ -3,7 +3,8 @@ use Rattle.asn_bits.specs.Numbers.{width}
 use Rattle.asn_bits.proofs.Prefixes.{bool_byte-is}
 use Rattle.asn_rules.specs.Components.{bit_of}
 use Rattle.asn_per.proofs.Write.Doubled.{doubled_width}
-use Rattle.asn_per.proofs.Write.IndexBits.{one_mark_bit, index_fits, root_index_bits}
+use Rattle.asn_plan.proofs.FieldBits.{one_mark_bit}
+use Rattle.asn_per.proofs.Write.IndexBits.{index_fits, root_index_bits}
 use Rattle.asn_per.proofs.integers.write_near.Goals as goal
 
 -- the count of bits, as it was worked out

@@ -8,8 +8,8 @@ use Rattle.asn_bits.specs.Numbers.{above}
 use Rattle.asn_rules.specs.Components.{extension_bit}
 use Rattle.asn_sinks.proofs.Pushing.{pushed_same}
 use Rattle.asn_per.specs.Per.{semi_constrained, unconstrained}
-use Rattle.asn_per.proofs.Types.IntegerRanges.{ranging, low_above_lowest, low_kept}
-use Rattle.asn_per.proofs.Types.MarkedIntegers.{root_of_profile}
+use Rattle.asn_plan.proofs.IntegerRanges.{ranging, low_above_lowest, low_kept}
+use Rattle.asn_plan.proofs.Bounds.{root_of_profile}
 use Rattle.asn_per.proofs.Write.Spellings.{bits_of_unconstrained, bits_of_semi_constrained}
 use Rattle.asn_per.proofs.integers.write_unbounded.Goals as goal
 use Rattle.asn_per.proofs.integers.write_unbounded.Goals.{in_default-via-in-Some+else-inside, in_default-via-in_default}

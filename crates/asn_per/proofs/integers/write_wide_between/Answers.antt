@@ -4,7 +4,8 @@ use Rattle.asn_values.specs.Fits.{lowest_integer, highest_integer}
 use Rattle.asn_bits.specs.Numbers.{above, width, bits}
 use Rattle.asn_rules.specs.Components.{extension_bit}
 use Rattle.asn_sinks.proofs.Pushing.{pushed_same}
-use Rattle.asn_per.proofs.Write.BetweenBounds.{low_within, high_within, number_within, low_stays, high_stays, number_stays, offset_fits, bits_between}
+use Rattle.asn_plan.proofs.Bounds.{low_within, high_within, number_within, low_stays, high_stays, number_stays, offset_fits}
+use Rattle.asn_per.proofs.Write.BetweenBounds.{bits_between}
 use Rattle.asn_per.proofs.integers.write_wide_between.Goals as goal
 
 pub wide_offset_from-requires-clause-within_low : goal.wide_offset_from-requires-clause-within_low

@@ -7,7 +7,7 @@ use Rattle.asn_rules.specs.Components.{number_at}
 use Rattle.asn_per.specs.Kinds.{IsRootPosition}
 use Rattle.asn_per.specs.Per.{rank}
 use Rattle.asn_per.specs.Indexes.{index_of}
-use Rattle.asn_per.proofs.Read.ItemIndexes.{item_kept}
+use Rattle.asn_plan.proofs.RootItems.{item_kept}
 use Rattle.asn_per.proofs.items.excluded_index.Goals as goal
 
 pub returns-in-Some : goal.returns-in-Some

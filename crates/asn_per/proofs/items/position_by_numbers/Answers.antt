@@ -7,7 +7,8 @@ use mir.Val.{to_z, of_z}
 use Rattle.asn_values.specs.View.{label_of}
 use Rattle.asn_rules.specs.Components.{number_at}
 use Rattle.asn_per.specs.Per.{rank}
-use Rattle.asn_per.proofs.Read.ItemIndexes.{item_kept, just_below, IsSought, sought_starts, sought_found, sought_not_above, sought_not_below, sought_above, sought_below, sought_under, sought_over, sought_ends}
+use Rattle.asn_plan.proofs.RootItems.{item_kept}
+use Rattle.asn_per.proofs.Read.ItemIndexes.{just_below, IsSought, sought_starts, sought_found, sought_not_above, sought_not_below, sought_above, sought_below, sought_under, sought_over, sought_ends}
 use Rattle.asn_per.proofs.items.position_by_numbers.Goals as goal
 use Rattle.asn_per.proofs.items.position_by_numbers.Goals.{then-above-next+then-next-below+then-rank-index, then-above-next+then-next-below+else-rank-index, else-above-next, then-above-item+then-item-below+else-lower-index+then-lower-index-2, then-above-item+then-item-below+else-lower-index+else-lower-index-2, else-above-item, else-above-item-via-then-above-item+else-item-below, else-above-item-via-else-above-item}
 

@@ -5,7 +5,8 @@ use mir.Val.{to_z, of_z}
 use Rattle.asn_values.specs.View.{label_of}
 use Rattle.asn_rules.specs.Components.{number_at}
 use Rattle.asn_per.specs.Per.{rank}
-use Rattle.asn_per.proofs.Read.ItemIndexes.{item_kept, sought_found}
+use Rattle.asn_plan.proofs.RootItems.{item_kept}
+use Rattle.asn_per.proofs.Read.ItemIndexes.{sought_found}
 use Rattle.asn_per.proofs.items.position_of_index.Goals as goal
 
 pub returns-then-rank-index : goal.returns-then-rank-index

@@ -11,7 +11,7 @@ use Rattle.asn_rules.specs.Listed.{Spelt}
 use Rattle.asn_rules.proofs.Languages.Leads.{stops_by}
 use Rattle.asn_per.specs.Per.{per}
 use Rattle.asn_per.specs.Indexes.{IsItemWithin}
-use Rattle.asn_per.proofs.Read.ItemIndexes.{root_items}
+use Rattle.asn_plan.proofs.RootItems.{root_items}
 use Rattle.asn_per.proofs.Read.ItemReading.{closed_leads, closed_some, marked_leads, no_item_left_out}
 use Rattle.asn_per.proofs.items.read_item.Goals as goal
 

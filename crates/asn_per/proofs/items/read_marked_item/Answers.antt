@@ -14,7 +14,7 @@ use Rattle.asn_walk.specs.Views.{index_seen}
 use Rattle.asn_per.specs.Kinds.{Items}
 use Rattle.asn_per.specs.Per.{per_fields}
 use Rattle.asn_per.proofs.Types.EnumeratedLanguages.{few_additions}
-use Rattle.asn_per.proofs.Read.ItemIndexes.{root_items}
+use Rattle.asn_plan.proofs.RootItems.{root_items}
 use Rattle.asn_per.proofs.Read.ItemReading.{index_leads}
 use Rattle.asn_per.proofs.items.read_marked_item.Goals as goal
 

@@ -8,9 +8,9 @@ use Rattle.asn_bits.specs.Sink.{bit_of}
 use Rattle.asn_bits.proofs.Weights.{bits_only}
 use Rattle.asn_per.specs.Indexes.{AreRootItems}
 use Rattle.asn_per.proofs.Read.AtOnce.{item_first}
-use Rattle.asn_per.proofs.Read.ItemIndexes.{root_items}
-use Rattle.asn_per.proofs.Write.IndexBits.{few_index_bits, one_mark_bit}
-use Rattle.asn_per.proofs.Write.ItemBits.{mark_there}
+use Rattle.asn_plan.proofs.RootItems.{root_items, mark_there}
+use Rattle.asn_plan.proofs.FieldBits.{one_mark_bit}
+use Rattle.asn_per.proofs.Write.IndexBits.{few_index_bits}
 use Rattle.asn_per.proofs.items.try_item.Goals as goal
 
 pub overflow_sub-highest : goal.overflow_sub-highest

@@ -8,8 +8,8 @@ use Rattle.asn_walk.specs.Views.{index_seen}
 use Rattle.asn_per.specs.Per.{rank}
 use Rattle.asn_per.proofs.Law.Enumerations.{rank_inside}
 use Rattle.asn_per.proofs.Write.IndexBits.{same_index_bits}
-use Rattle.asn_per.proofs.Read.ItemIndexes.{item_kept, root_items}
-use Rattle.asn_per.proofs.Write.ItemBits.{mark_there, bits_of_root_item, bits_of_addition, addition_there}
+use Rattle.asn_plan.proofs.RootItems.{item_kept, root_items, mark_there}
+use Rattle.asn_per.proofs.Write.ItemBits.{bits_of_root_item, bits_of_addition, addition_there}
 use Rattle.asn_per.proofs.items.write_item.Goals as goal
 use Rattle.asn_per.proofs.items.write_item.Goals.{then-position-root, else-position-root}
 

@@ -1,7 +1,7 @@
 use Rattle.std.proofs.Common.{ℕ, List}
 use Rattle.asn_values.specs.View.{datum_of}
 use Rattle.asn_plan.proofs.NodeKinds.{if_some}
-use Rattle.asn_plan.proofs.WordsRead.{nothing_left}
+use Rattle.asn_plan.proofs.WordsTaken.{nothing_left}
 use Rattle.asn_plan.proofs.component.build_other.Goals as goal
 
 pub returns-then-not-is_empty-clause-some : goal.returns-then-not-is_empty-clause-some

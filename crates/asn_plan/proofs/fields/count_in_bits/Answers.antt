@@ -2,8 +2,7 @@ use Rattle.std.proofs.Common.{◌≡◌, ◌+◌, suc, Some, refl, ap, ◌∙◌
 use Rattle.asn_bits.specs.Numbers.{width}
 use Rattle.asn_bits.specs.Sink.{bit_of}
 use Rattle.asn_bits.proofs.Prefixes.{bool_byte-is}
-use Rattle.asn_per.proofs.Write.IndexBits.{one_mark_bit}
-use Rattle.asn_plan.proofs.FieldsRead.{width_below}
+use Rattle.asn_plan.proofs.FieldBits.{width_below, one_mark_bit}
 use Rattle.asn_plan.proofs.fields.count_in_bits.Goals as goal
 
 pub invariant_of-result : goal.invariant_of-result

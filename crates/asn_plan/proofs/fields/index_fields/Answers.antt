@@ -1,8 +1,7 @@
 use Rattle.std.proofs.Common.{◌≡◌, ap, ◌∙◌, refl, is_some, arith}
 use Rattle.asn_bits.specs.Sink.{bit_of}
 use Rattle.asn_bits.proofs.Prefixes.{bool_byte-is}
-use Rattle.asn_per.proofs.Write.IndexBits.{one_mark_bit}
-use Rattle.asn_plan.proofs.FieldsRead.{width_below}
+use Rattle.asn_plan.proofs.FieldBits.{width_below, one_mark_bit}
 use Rattle.asn_plan.proofs.fields.index_fields.Goals as goal
 
 pub invariant_of-result-2 : goal.invariant_of-result-2

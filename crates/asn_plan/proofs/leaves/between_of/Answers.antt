@@ -8,9 +8,9 @@ use Rattle.asn_bits.proofs.Above.{kept}
 use Rattle.asn_bits.proofs.Prefixes.{bool_byte-is}
 use Rattle.asn_bits.proofs.Widths.{width_fits}
 use Rattle.asn_rules.specs.Components.{bit_of}
-use Rattle.asn_per.specs.Kinds.{between}
-use Rattle.asn_per.proofs.Write.BetweenBounds.{bounds_within}
-use Rattle.asn_per.proofs.Write.IndexBits.{one_mark_bit}
+use Rattle.asn_plan.specs.Bounds.{between}
+use Rattle.asn_plan.proofs.Bounds.{bounds_within}
+use Rattle.asn_plan.proofs.FieldBits.{one_mark_bit}
 use Rattle.asn_plan.proofs.leaves.between_of.Goals as goal
 
 -- numbers that 64 bits tell apart have no more

@@ -1,6 +1,6 @@
 use Rattle.std.proofs.Common.{◌≡◌, ◌≤◌, ◌-◌, ◌/◌, ◌^◌, bit_and, arith, ap, ◌∙◌}
 use Rattle.std.proofs.lemmas.Nat.{and_mask}
-use Rattle.asn_plan.proofs.WordsRead.{taken_first}
+use Rattle.asn_plan.proofs.WordsTaken.{taken_first}
 use Rattle.asn_plan.proofs.word.Word.take_below.Goals as goal
 
 pub returns-clause-some : goal.returns-clause-some

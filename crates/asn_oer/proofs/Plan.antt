@@ -1,0 +1,5 @@
+-- What a plan reads by OER.
+pub mod OctetsRead
+pub mod StringsHeld
+pub mod FieldsRead
+pub mod OpenOctets

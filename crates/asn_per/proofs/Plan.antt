@@ -1,0 +1,6 @@
+-- What a plan reads by PER.
+pub mod WordsRead
+pub mod RangedRead
+pub mod StringsRead
+pub mod FieldsRead
+pub mod OpenHere

@@ -1,5 +1,0 @@
-use Rattle.asn_plan.proofs.OctetsRead.{offset_held}
-use Rattle.asn_plan.proofs.octets.offset_from.Goals as goal
-
-pub returns : goal.returns
-returns c = offset_held c.args.least c.args.octets c.args.count c.args.mask c.requires.few c.requires.mask c.requires.least c.requires.octets

@@ -144,11 +144,7 @@ fn reason_words(why: Why) -> &'static str {
 /// Why a text is no JSON of a value of the type that has an encoding.
 fn why_no_value(alloc: Global, ty: &Checked, line: &[u8]) -> Result<String, AllocError> {
     match Json::from_slice(alloc, line) {
-        Ok(json) => match value_shown(alloc, ty, &json) {
-            Ok(value) => why_no_encoding(alloc, ty, &value),
-            Err(JsonFault::Shape { path }) => wanted_words(alloc, ty, path.as_str()),
-            Err(_) => Err(AllocError),
-        },
+        Ok(json) => why_not_shown(alloc, ty, &json),
         Err(fault) => {
             let column = fault.column();
             match fault.classify() {
@@ -157,6 +153,15 @@ fn why_no_value(alloc: Global, ty: &Checked, line: &[u8]) -> Result<String, Allo
                 _ => format!(in alloc; "column {column}: no JSON goes on so"),
             }
         }
+    }
+}
+
+/// Why JSON shows no value of the type that has an encoding.
+fn why_not_shown(alloc: Global, ty: &Checked, json: &Json) -> Result<String, AllocError> {
+    match value_shown(alloc, ty, json) {
+        Ok(value) => why_no_encoding(alloc, ty, &value),
+        Err(JsonFault::Shape { path }) => wanted_words(alloc, ty, path.as_str()),
+        Err(_) => Err(AllocError),
     }
 }
 

@@ -126,10 +126,21 @@ fn show_text<'a>(
     let Some(octets) = octets_of(rt.alloc(), shown.forms, text)? else {
         return show_none(rt, shown, place, so_far);
     };
-    let octets = octets.as_slice();
-    if !shown.forms.is_split {
-        return show_message(rt, shown, place, octets, so_far);
+    if shown.forms.is_split {
+        show_each(rt, shown, place, octets.as_slice(), so_far)
+    } else {
+        show_message(rt, shown, place, octets.as_slice(), so_far)
     }
+}
+
+/// Shows messages that stand one after the other: each begins where the last ended.
+fn show_each<'a>(
+    rt: &HostRuntime,
+    shown: Shown<'_>,
+    place: Place<'_>,
+    octets: &[u8],
+    so_far: &mut SoFar,
+) -> Result<(), Stop<'a>> {
     let mut rest = octets;
     for message in 1..u64::MAX {
         if rest.is_empty() {
@@ -190,21 +201,43 @@ fn show_message<'a>(
     octets: &[u8],
     so_far: &mut SoFar,
 ) -> Result<(), Stop<'a>> {
-    let alloc = rt.alloc();
+    let (text, is_good) = message_text(rt.alloc(), shown, place, octets)?;
+    so_far.all_good &= is_good;
+    put(rt, shown, text.as_str(), so_far)?;
+    if !is_good && shown.is_explained {
+        tell_why(rt, shown, place, octets)?;
+    }
+    Ok(())
+}
+
+/// What is shown of the message that these octets are to be, and whether they are one.
+fn message_text(
+    alloc: Global,
+    shown: Shown<'_>,
+    place: Place<'_>,
+    octets: &[u8],
+) -> Result<(String, bool), AllocError> {
     let told = fields_by(alloc, shown.ty, shown.rules, octets)?;
     let text = if shown.is_page {
         told.section(alloc, place_text(alloc, place)?.as_str(), octets)?
     } else {
         told.lines(alloc, octets)?
     };
-    so_far.all_good &= told.answer.is_ok();
-    put(rt, shown, text.as_str(), so_far)?;
-    if told.answer.is_err() && shown.is_explained {
-        let digits = hex::encode(alloc, octets)?;
-        let words = why_refused(alloc, shown.ty, Order::Show, shown.rules, digits.as_bytes())?;
-        let place = place_text(alloc, place)?;
-        let _ = eprintln!(rt; "{place}: {words}");
-    }
+    Ok((text, told.answer.is_ok()))
+}
+
+/// Tells on standard error why these octets are no message.
+fn tell_why(
+    rt: &HostRuntime,
+    shown: Shown<'_>,
+    place: Place<'_>,
+    octets: &[u8],
+) -> Result<(), AllocError> {
+    let alloc = rt.alloc();
+    let digits = hex::encode(alloc, octets)?;
+    let words = why_refused(alloc, shown.ty, Order::Show, shown.rules, digits.as_bytes())?;
+    let place = place_text(alloc, place)?;
+    let _ = eprintln!(rt; "{place}: {words}");
     Ok(())
 }
 

@@ -4,7 +4,7 @@ use crate::laying::value_text;
 use crate::paths::path_text;
 use asn_jobs::RuleName;
 use asn_json_layout::Layout;
-use asn_newer::{NewerFault, ReadNewer, SkippedAt};
+use asn_newer::{NewerAt, NewerFault, ReadNewer, SkippedAt};
 use asn_oer::Oer;
 use asn_per::Per;
 use asn_values::{AsnType, Checked};
@@ -51,19 +51,26 @@ fn newer_object<R: ReadNewer>(
     is_declared: bool,
 ) -> Result<Option<String>, AllocError> {
     match R::read_newer_at(alloc, ty, octets) {
-        Ok(newer) => {
-            let layout = Layout {
-                is_declared,
-                is_pretty: false,
-            };
-            let value = value_text(alloc, ty, &newer.value, layout)?;
-            let skipped = fields_text(alloc, ty.get(), newer.skipped.as_slice())?;
-            let text = format!(in alloc; "{{\"value\":{value},\"skipped\":[{skipped}]}}")?;
-            Ok(Some(text))
-        }
+        Ok(newer) => Ok(Some(object_text(alloc, ty, &newer, is_declared)?)),
         Err(NewerFault::Memory) => Err(AllocError),
         Err(_) => Ok(None),
     }
+}
+
+/// The object of what was read.
+fn object_text(
+    alloc: Global,
+    ty: &Checked,
+    newer: &NewerAt,
+    is_declared: bool,
+) -> Result<String, AllocError> {
+    let layout = Layout {
+        is_declared,
+        is_pretty: false,
+    };
+    let value = value_text(alloc, ty, &newer.value, layout)?;
+    let skipped = fields_text(alloc, ty.get(), newer.skipped.as_slice())?;
+    format!(in alloc; "{{\"value\":{value},\"skipped\":[{skipped}]}}")
 }
 
 /// The objects of the skipped fields, with a comma between two.
@@ -102,11 +109,15 @@ pub enum TakenBack {
 /// # Errors
 /// `AllocError` where an allocation failed.
 pub fn taken_back(alloc: Global, line: &[u8]) -> Result<TakenBack, AllocError> {
-    let whole = match Json::from_slice(alloc, line) {
-        Ok(whole) => whole,
-        Err(fault) if fault.is_memory() => return Err(AllocError),
-        Err(_) => return refused(alloc, "! json", "the line is no JSON"),
-    };
+    match Json::from_slice(alloc, line) {
+        Ok(whole) => taken_of(alloc, &whole),
+        Err(fault) if fault.is_memory() => Err(AllocError),
+        Err(_) => refused(alloc, "! json", "the line is no JSON"),
+    }
+}
+
+/// The same of the JSON of the line.
+fn taken_of(alloc: Global, whole: &Json) -> Result<TakenBack, AllocError> {
     let Some(value) = whole.get("value") else {
         return refused(alloc, "! shape $.value", NO_OBJECT);
     };

@@ -48,8 +48,17 @@ fn next_by<S: Rules, R: BufRead>(
         return Ok(Next::Message);
     }
     let mut session = opened::<S>(alloc, ty)?;
+    feed_message::<S, R>(input, &mut session, octets)
+}
+
+/// Feeds the session what is read until it is known what stands there, and appends that to the octets.
+fn feed_message<S: Rules, R: BufRead>(
+    input: &mut R,
+    session: &mut Session<S>,
+    octets: &mut Vec<u8>,
+) -> Result<Next, RunFault> {
     for _ in 0..u64::MAX {
-        let (used, next) = fed::<S, R>(input, &mut session)?;
+        let (used, next) = fed::<S, R>(input, session)?;
         take::<R>(input, used, octets)?;
         match next {
             Some(Next::End) if !octets.is_empty() => return Ok(Next::Last),

@@ -17,19 +17,33 @@ pub fn flatten_files<'a>(
     options: Options,
     form: Form,
 ) -> Result<u8, Stop<'a>> {
+    let flattened = flattened_of(rt, files, options)?;
+    let told = told_in(rt.alloc(), files, &flattened, form)?;
+    write_both(rt, flattened.text.as_str(), told.as_str())?;
+    Ok(flatten_ending(flattened.report.as_slice()))
+}
+
+/// The module that the published modules of these files become.
+fn flattened_of<'a>(
+    rt: &HostRuntime,
+    files: &[&'a str],
+    options: Options,
+) -> Result<Flattened, Stop<'a>> {
     let texts = texts_of(rt, files)?;
     let views = views_of(rt, texts.as_slice())?;
-    let flattened = match flatten_within(rt.alloc(), views.as_slice(), options, MOST) {
-        Ok(flattened) => flattened,
-        Err(fault) => return Err(Stop::of(files, fault)),
-    };
-    let told = told_in(rt.alloc(), files, &flattened, form)?;
-    match rt.print(flattened.text.as_str()) {
-        Ok(()) => {}
-        Err(fault) => return Err(Stop::of_print(&fault)),
+    match flatten_within(rt.alloc(), views.as_slice(), options, MOST) {
+        Ok(flattened) => Ok(flattened),
+        Err(fault) => Err(Stop::of(files, fault)),
     }
-    match rt.eprint(told.as_str()) {
-        Ok(()) => Ok(flatten_ending(flattened.report.as_slice())),
+}
+
+/// Writes the one text to standard output, and the other to standard error.
+fn write_both(rt: &HostRuntime, text: &str, told: &str) -> Result<(), Stop<'static>> {
+    if let Err(fault) = rt.print(text) {
+        return Err(Stop::of_print(&fault));
+    }
+    match rt.eprint(told) {
+        Ok(()) => Ok(()),
         Err(_) => Err(Stop::Write),
     }
 }

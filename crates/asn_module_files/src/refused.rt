@@ -50,16 +50,26 @@ pub fn text_told(
     let Ok(text) = std::str::from_utf8(text) else {
         return Ok(String::new(alloc));
     };
-    let mut told = String::new(alloc);
-    if is_all && *job != Job::Module {
-        told.push_str(mark_words(text))?;
+    let words = module_told(alloc, text, options, job)?;
+    if !is_all || matches!(job, Job::Module) {
+        return Ok(words);
     }
-    let words = match read_explained(alloc, text) {
-        Ok(module) => type_told(alloc, &module, job)?,
-        Err(refused) => refusal_told(alloc, text, options, refused)?,
-    };
+    let mut told = String::from_str(alloc, mark_words(text))?;
     told.push_str(words.as_str())?;
     Ok(told)
+}
+
+/// Why the text is refused, or which types its module has where it has none of the name.
+fn module_told(
+    alloc: Global,
+    text: &str,
+    options: Options,
+    job: &Job,
+) -> Result<String, AllocError> {
+    match read_explained(alloc, text) {
+        Ok(module) => type_told(alloc, &module, job),
+        Err(refused) => refusal_told(alloc, text, options, &refused),
+    }
 }
 
 /// Why no line of a text is the mark.
@@ -97,13 +107,13 @@ fn refusal_told(
     alloc: Global,
     text: &str,
     options: Options,
-    refused: RefusedText,
+    refused: &RefusedText,
 ) -> Result<String, AllocError> {
     let RefusedText { fault, words } = refused;
     if let ModuleFault::Memory = fault {
         return Err(AllocError);
     }
-    let own_line = line_of(text, &fault);
+    let own_line = line_of(text, fault);
     match (own_line, published_line(alloc, text, options)?) {
         (Some(own), Some(line)) if own < line => line_told(alloc, text, line),
         (Some(_), None) => Ok(String::new(alloc)),
@@ -114,12 +124,18 @@ fn refusal_told(
 /// The line, counted from 1, at which the reader of published modules finds a fault of the notation; 0 where what it reads
 /// is not taken, and `None` where it is.
 fn published_line(alloc: Global, text: &str, options: Options) -> Result<Option<u32>, AllocError> {
-    let flattened = flatten_within(alloc, &[text], options, MOST);
-    match &flattened {
+    match flatten_within(alloc, &[text], options, MOST) {
         Ok(_) => Ok(None),
-        Err(PublishedFault::Text { line, .. }) => Ok(Some(*line)),
-        Err(PublishedFault::Unread(_) | PublishedFault::TooLarge { .. }) => Ok(Some(0)),
-        Err(PublishedFault::Memory) => Err(AllocError),
+        Err(fault) => Ok(Some(fault_line(&fault)?)),
+    }
+}
+
+/// The line of a fault of the notation, counted from 1; 0 of another, but for want of memory.
+fn fault_line(fault: &PublishedFault) -> Result<u32, AllocError> {
+    match fault {
+        PublishedFault::Text { line, .. } => Ok(*line),
+        PublishedFault::Unread(_) | PublishedFault::TooLarge { .. } => Ok(0),
+        PublishedFault::Memory => Err(AllocError),
     }
 }
 

@@ -216,7 +216,7 @@ fn flattened_input(
     ensures { IfOk result (λ i. IfSome i.octets (λ o. IsInput rest.now o.items)) }
 {
     let remarks = remarks(alloc, files, flattened, job)?;
-    if *job == Job::Module && !is_whole(flattened.report.as_slice()) {
+    if matches!(job, Job::Module) && !is_whole(flattened.report.as_slice()) {
         return Ok(Instead {
             octets: None,
             remarks,

@@ -6,6 +6,7 @@ use crate::texts::{texts_of, views_of};
 use asn_jobs::Job;
 use asn_published::{Options, PublishedFault};
 use asn_request::asking::Asking;
+use std::alloc::AllocError;
 use std::io::IsTerminal;
 
 /// Whether standard error tells why a module is refused: where that is asked for, or standard error is a terminal.
@@ -54,12 +55,7 @@ pub fn input_of_files<'a>(
             tell_remarks(rt, remarks.as_str(), is_told);
             Ok(octets)
         }
-        Err(fault) => {
-            if is_told {
-                tell_line(rt, views, &fault)?;
-            }
-            Err(Stop::of(files, fault))
-        }
+        Err(fault) => Err(stop_told(rt, files, views, fault, is_told)),
     }
 }
 
@@ -71,18 +67,30 @@ fn tell_remarks(rt: &HostRuntime, remarks: &str, is_told: bool) {
     }
 }
 
-/// Writes the line of a fault in one of these texts to standard error.
-fn tell_line(
+/// Why the texts of these files become no module, after the line of the fault, where that is told.
+fn stop_told<'a>(
     rt: &HostRuntime,
+    files: &[&'a str],
     texts: &[&str],
-    fault: &PublishedFault,
-) -> Result<(), Stop<'static>> {
-    if let PublishedFault::Text { text, line, .. } = fault {
-        if let Some(text) = texts.get(*text) {
-            let told = line_told(rt.alloc(), *text, *line)?;
-            let _ = rt.eprint(told.as_str());
-        }
+    fault: PublishedFault,
+    is_told: bool,
+) -> Stop<'a> {
+    if is_told && tell_line(rt, texts, &fault).is_err() {
+        return Stop::Memory;
     }
+    Stop::of(files, fault)
+}
+
+/// Writes the line of a fault in one of these texts to standard error.
+fn tell_line(rt: &HostRuntime, texts: &[&str], fault: &PublishedFault) -> Result<(), AllocError> {
+    let PublishedFault::Text { text, line, .. } = fault else {
+        return Ok(());
+    };
+    let Some(text) = texts.get(*text) else {
+        return Ok(());
+    };
+    let told = line_told(rt.alloc(), *text, *line)?;
+    let _ = rt.eprint(told.as_str());
     Ok(())
 }
 

@@ -81,10 +81,10 @@ choice_copied ty root more copied also et er em = shape_of-Choice copied (Some a
 
 -- ---- types that are built
 
-part_of_component : (x : ComponentNotation) → tree.part_view x ≡ record { name = x.name.now; tree = tree.tree_view x.ty; need = tree.need_view x.need }
+pub part_of_component : (x : ComponentNotation) → tree.part_view x ≡ record { name = x.name.now; tree = tree.tree_view x.ty; need = tree.need_view x.need }
 part_of_component x = search (rules, notation.the_lemmas)
 
-branch_of_alternative : (x : AlternativeNotation) → tree.branch_view x ≡ record { name = x.name.now; tree = tree.tree_view x.ty }
+pub branch_of_alternative : (x : AlternativeNotation) → tree.branch_view x ≡ record { name = x.name.now; tree = tree.tree_view x.ty }
 branch_of_alternative x = search (rules, notation.the_lemmas)
 
 part_built : (look : List ℕ → Option Meant) (ps : List Part) (p : Part) (q : tree.Part) (rest : List tree.Part) (all : Option Fields) (m : Meant)

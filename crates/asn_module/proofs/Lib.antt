@@ -14,3 +14,4 @@ pub mod Counts
 pub mod Lookups
 pub mod ItemIndexes
 pub mod UsedNames
+pub mod UsedInTypes

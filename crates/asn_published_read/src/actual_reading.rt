@@ -1,4 +1,5 @@
 //! Reads the parameters of parameterized assignments, and what references give for them (X.683).
+use crate::brackets::past_comma;
 use crate::reading::{Reading, Work};
 use crate::value_kinds::values_at;
 use crate::value_sets::leads_to_type;
@@ -7,7 +8,6 @@ use asn_published_text::token::{Kind, Sign};
 use asn_published_text::tokens::{Tokens, next};
 use asn_published_text::values::Values;
 use asn_published_text::wrong::TextFault;
-use std::alloc::Global;
 
 /// How many lexical items of a parameter are looked at.
 const MOST_ITEMS: u32 = 200;
@@ -71,7 +71,7 @@ struct Place {
 
 impl<'a, 't> Reading<'a, 't> {
     /// Reads the parameters of an assignment, in the braces at `braces`: names, each after what governs it.
-    pub(crate) fn read_formal(self, todo: &mut Vec<Work>, braces: usize) -> Result<(), TextFault> {
+    pub(crate) fn read_formal(&self, todo: &mut Vec<Work>, braces: usize) -> Result<(), TextFault> {
         let tokens = self.tokens;
         let end = tokens.other(braces);
         let mut at = next(braces);
@@ -88,15 +88,14 @@ impl<'a, 't> Reading<'a, 't> {
             if at >= end {
                 break;
             }
-            at = tokens.past(at, Sign::Comma, ", or }")?;
+            at = past_comma(tokens, at)?;
         }
         Ok(())
     }
 
     /// Reads what the reference at `at` gives for the parameters of what it stands for, in the braces at `braces`.
     pub(crate) fn read_actual(
-        self,
-        alloc: Global,
+        &self,
         todo: &mut Vec<Work>,
         at: usize,
         braces: usize,
@@ -108,19 +107,19 @@ impl<'a, 't> Reading<'a, 't> {
         for _ in 0..tokens.len() {
             let asked = self.next_formal(&mut formal);
             at = match asked {
-                Some(asked) => self.read_for(alloc, todo, asked, at)?,
-                None => self.read_any_setting(alloc, todo, at)?,
+                Some(asked) => self.read_for(todo, asked, at)?,
+                None => self.read_any_setting(todo, at)?,
             };
             if at >= end {
                 break;
             }
-            at = tokens.past(at, Sign::Comma, ", or }")?;
+            at = past_comma(tokens, at)?;
         }
         Ok(())
     }
 
     /// The place of the first parameter of what the name at `at` stands for.
-    fn first_place(self, at: usize) -> Option<Place> {
+    fn first_place(&self, at: usize) -> Option<Place> {
         let (module, braces) = parameters_of(self.world, self.module, at)?;
         let tokens = self.world.tokens_of(module)?;
         Some(Place {
@@ -131,7 +130,7 @@ impl<'a, 't> Reading<'a, 't> {
     }
 
     /// The parameter at a place, which becomes that of the next one.
-    fn next_formal(self, place: &mut Option<Place>) -> Option<Formal> {
+    fn next_formal(&self, place: &mut Option<Place>) -> Option<Formal> {
         let it = (*place)?;
         let tokens = self.world.tokens_of(it.module)?;
         match formal_at(tokens, it.module, it.at, it.end) {
@@ -148,8 +147,7 @@ impl<'a, 't> Reading<'a, 't> {
 
     /// Reads what is given at `at` for a parameter, and gives the index after it.
     fn read_for(
-        self,
-        alloc: Global,
+        &self,
         todo: &mut Vec<Work>,
         formal: Formal,
         at: usize,
@@ -158,9 +156,9 @@ impl<'a, 't> Reading<'a, 't> {
         match formal.governor {
             // a type, or a class
             None if formal.is_capital => self.push_type(todo, at),
-            None => self.read_any_setting(alloc, todo, at),
+            None => self.read_any_setting(todo, at),
             Some((start, end)) if !formal.is_capital => {
-                self.read_governed(alloc, todo, (formal.module, start, end), at)
+                self.read_governed(todo, (formal.module, start, end), at)
             }
             Some((start, end)) if is_braces => {
                 let work = self.set_of((formal.module, start, end), at);
@@ -174,8 +172,7 @@ impl<'a, 't> Reading<'a, 't> {
     /// Reads the value or the object at `at` of what governs it, which stands in a module from one index to before
     /// another, and gives the index after it.
     pub(crate) fn read_governed(
-        self,
-        alloc: Global,
+        &self,
         todo: &mut Vec<Work>,
         governor: (usize, usize, usize),
         at: usize,
@@ -196,11 +193,11 @@ impl<'a, 't> Reading<'a, 't> {
         } else {
             Values::Any
         };
-        self.read_value(alloc, todo, at, values)
+        self.read_value(todo, at, values)
     }
 
     /// The set in the braces at `braces` of what governs it: of values, of objects, or not known of which.
-    pub(crate) fn set_of(self, governor: (usize, usize, usize), braces: usize) -> Work {
+    pub(crate) fn set_of(&self, governor: (usize, usize, usize), braces: usize) -> Work {
         let (module, start, end) = governor;
         match self.world.class_named(module, start, end) {
             Some(class) => self.objects_of(class, braces),

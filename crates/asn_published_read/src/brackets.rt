@@ -59,6 +59,11 @@ fn close(
     }
 }
 
+/// The index after the comma at `at`, in braces that hold more.
+pub(crate) fn past_comma(tokens: &Tokens<'_>, at: usize) -> Result<usize, TextFault> {
+    tokens.past(at, Sign::Comma, ", or }")
+}
+
 /// Of each item the index of its other bracket, or its own.
 fn others_of(alloc: Global, items: &[Token<'_>]) -> Result<Vec<usize>, TextFault> {
     let mut others = Vec::new(alloc);

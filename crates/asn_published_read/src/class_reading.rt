@@ -1,4 +1,5 @@
 //! Classes as they are defined (X.681, "object class assignment"): their fields, and the syntax of their objects.
+use crate::brackets::past_comma;
 use crate::module_reading::add_text;
 use crate::reading::{Reading, Work};
 use crate::syntax_reading::syntax_at;
@@ -158,22 +159,34 @@ fn table_of<'t>(
         needed: 0,
         syntax: None,
     };
-    let end = tokens.other(braces);
-    let mut at = next(braces);
-    for _ in 0..tokens.len() {
-        let (field, behind) = field_at(world, tokens, module, at, is_plain)?;
-        take_field(&mut table, tokens, at, field)?;
-        at = behind;
-        if at >= end {
-            break;
-        }
-        at = tokens.past(at, Sign::Comma, ", or }")?;
-    }
-    let syntax = next(end);
+    take_fields(&mut table, world, tokens, (module, braces), is_plain)?;
+    let syntax = next(tokens.other(braces));
     if tokens.is_word(syntax, "WITH") {
         take_syntax(alloc, &mut table, tokens, next(next(syntax)))?;
     }
     Ok(table)
+}
+
+/// Takes the fields of the class whose braces open at a place of a module.
+fn take_fields<'t>(
+    table: &mut ClassTable<'t>,
+    world: &World<'t>,
+    tokens: &Tokens<'t>,
+    (module, braces): (usize, usize),
+    is_plain: bool,
+) -> Result<(), TextFault> {
+    let end = tokens.other(braces);
+    let mut at = next(braces);
+    for _ in 0..tokens.len() {
+        let (field, behind) = field_at(world, tokens, module, at, is_plain)?;
+        take_field(table, tokens, at, field)?;
+        at = behind;
+        if at >= end {
+            break;
+        }
+        at = past_comma(tokens, at)?;
+    }
+    Ok(())
 }
 
 /// Takes the field at `at`.
@@ -249,8 +262,7 @@ pub(crate) fn take_class<'t>(
 impl<'a, 't> Reading<'a, 't> {
     /// Reads the types of the fields of the class that an assignment defines, and what they have by default.
     pub(crate) fn read_class(
-        self,
-        alloc: Global,
+        &self,
         todo: &mut Vec<Work>,
         assignment: usize,
     ) -> Result<(), TextFault> {
@@ -262,18 +274,13 @@ impl<'a, 't> Reading<'a, 't> {
             return Ok(());
         };
         for field in &table.fields {
-            self.read_field(alloc, todo, field)?;
+            self.read_field(todo, field)?;
         }
         Ok(())
     }
 
     /// Reads the type of a field, and what it has by default.
-    fn read_field(
-        self,
-        alloc: Global,
-        todo: &mut Vec<Work>,
-        field: &ClassField<'t>,
-    ) -> Result<(), TextFault> {
+    fn read_field(&self, todo: &mut Vec<Work>, field: &ClassField<'t>) -> Result<(), TextFault> {
         let has_type = matches!(
             field.kind,
             FieldKind::Value(_) | FieldKind::Set | FieldKind::One | FieldKind::Many
@@ -288,7 +295,7 @@ impl<'a, 't> Reading<'a, 't> {
             )?;
         }
         if let Some(start) = field.default {
-            self.read_setting(alloc, todo, field.kind, start)?;
+            self.read_setting(todo, field.kind, start)?;
         }
         Ok(())
     }

@@ -1,4 +1,5 @@
 //! Reads constraints and sets of values (X.680, "constrained types"; X.682), what stands in brackets apart.
+use crate::brackets::past_comma;
 use crate::reading::{Reading, Work};
 use asn_published_text::extents::{after_braces, type_end};
 use asn_published_text::places::{Unseen, is_and, is_contained, is_or, unseen_at};
@@ -6,7 +7,6 @@ use asn_published_text::token::Sign;
 use asn_published_text::tokens::{Tokens, before, next};
 use asn_published_text::values::Values;
 use asn_published_text::wrong::TextFault;
-use std::alloc::Global;
 
 /// Whether another element of a set follows the item at `at`.
 pub(crate) fn is_operator(tokens: &Tokens<'_>, at: usize) -> bool {
@@ -62,7 +62,7 @@ fn read_relations(tokens: &Tokens<'_>, braces: usize) -> Result<(), TextFault> {
         if at >= end {
             break;
         }
-        at = tokens.past(at, Sign::Comma, ", or }")?;
+        at = past_comma(tokens, at)?;
     }
     Ok(())
 }
@@ -78,19 +78,14 @@ fn after_presence(tokens: &Tokens<'_>, at: usize) -> usize {
 
 impl<'a, 't> Reading<'a, 't> {
     /// Reads the elements of a constraint or of a set of values, in the brackets that open at `open`.
-    pub(crate) fn read_elements(
-        self,
-        alloc: Global,
-        todo: &mut Vec<Work>,
-        open: usize,
-    ) -> Result<(), TextFault> {
+    pub(crate) fn read_elements(&self, todo: &mut Vec<Work>, open: usize) -> Result<(), TextFault> {
         let tokens = self.tokens;
         let end = tokens.other(open);
         let class = self.class_before(open);
         let mut at = next(open);
         let mut has_mark = false;
         for _ in 0..tokens.len() {
-            at = self.read_element(alloc, todo, after_all(tokens, at), class)?;
+            at = self.read_element(todo, after_all(tokens, at), class)?;
             if tokens.is(at, Sign::Comma) && tokens.is(next(at), Sign::Dots) && !has_mark {
                 has_mark = true;
                 at = next(next(at));
@@ -99,7 +94,7 @@ impl<'a, 't> Reading<'a, 't> {
                     continue;
                 }
             }
-            at = self.read_exception(alloc, todo, at)?;
+            at = self.read_exception(todo, at)?;
             if at >= end {
                 break;
             }
@@ -112,7 +107,7 @@ impl<'a, 't> Reading<'a, 't> {
     }
 
     /// The class whose field is the type before the constraint that opens at `open`, as in `C.&id ({Set})`.
-    fn class_before(self, open: usize) -> Option<usize> {
+    fn class_before(&self, open: usize) -> Option<usize> {
         let dot = before(before(before(open)));
         let is_field = self.tokens.is(dot, Sign::Dot) && self.tokens.is(next(dot), Sign::Ampersand);
         if !is_field || !self.tokens.is(open, Sign::LeftParen) {
@@ -126,8 +121,7 @@ impl<'a, 't> Reading<'a, 't> {
 
     /// Reads an element of a constraint at `at`, and gives the index after it; objects in braces are those of a class.
     fn read_element(
-        self,
-        alloc: Global,
+        &self,
         todo: &mut Vec<Work>,
         at: usize,
         class: Option<usize>,
@@ -145,7 +139,7 @@ impl<'a, 't> Reading<'a, 't> {
             return Ok(tokens.after(open));
         }
         if let Some((unseen, start)) = unseen_at(tokens, at) {
-            return self.read_unseen(alloc, todo, unseen, start);
+            return self.read_unseen(todo, unseen, start);
         }
         if is_type(tokens, at) {
             if let Ok(end) = type_end(tokens, at) {
@@ -154,18 +148,13 @@ impl<'a, 't> Reading<'a, 't> {
                 }
             }
         }
-        self.read_range(alloc, todo, at)
+        self.read_range(todo, at)
     }
 
     /// Reads a value or a range of values at `at`, and gives the index after it.
-    fn read_range(
-        self,
-        alloc: Global,
-        todo: &mut Vec<Work>,
-        at: usize,
-    ) -> Result<usize, TextFault> {
+    fn read_range(&self, todo: &mut Vec<Work>, at: usize) -> Result<usize, TextFault> {
         let tokens = self.tokens;
-        let mut behind = self.read_bound(alloc, todo, at, "MIN")?;
+        let mut behind = self.read_bound(todo, at, "MIN")?;
         if tokens.is(behind, Sign::Less) {
             behind = next(behind);
         }
@@ -180,28 +169,21 @@ impl<'a, 't> Reading<'a, 't> {
         if tokens.is(behind, Sign::Less) {
             behind = next(behind);
         }
-        self.read_bound(alloc, todo, behind, "MAX")
+        self.read_bound(todo, behind, "MAX")
     }
 
     /// Reads the end of a range at `at`, a value or one of the words MIN and MAX, and gives the index after it.
-    fn read_bound(
-        self,
-        alloc: Global,
-        todo: &mut Vec<Work>,
-        at: usize,
-        open: &str,
-    ) -> Result<usize, TextFault> {
+    fn read_bound(&self, todo: &mut Vec<Work>, at: usize, open: &str) -> Result<usize, TextFault> {
         if self.tokens.is_word(at, open) {
             Ok(next(at))
         } else {
-            self.read_value(alloc, todo, at, Values::Any)
+            self.read_value(todo, at, Values::Any)
         }
     }
 
     /// Reads the constraint after whose words `start` is, and gives the index after it.
     fn read_unseen(
-        self,
-        alloc: Global,
+        &self,
         todo: &mut Vec<Work>,
         unseen: Unseen,
         start: usize,
@@ -214,40 +196,35 @@ impl<'a, 't> Reading<'a, 't> {
             }
             Unseen::UserDefined => {
                 let behind = after_braces(self.tokens, start)?;
-                self.read_user_defined(alloc, todo, start)?;
+                self.read_user_defined(todo, start)?;
                 Ok(behind)
             }
-            Unseen::Value(values) => self.read_value(alloc, todo, start, values),
+            Unseen::Value(values) => self.read_value(todo, start, values),
             Unseen::Type => self.push_type(todo, start),
-            Unseen::Contents => self.read_contents(alloc, todo, start),
+            Unseen::Contents => self.read_contents(todo, start),
         }
     }
 
     /// Reads the type of contents at `at`, and how they are encoded, and gives the index after that.
-    fn read_contents(
-        self,
-        alloc: Global,
-        todo: &mut Vec<Work>,
-        at: usize,
-    ) -> Result<usize, TextFault> {
+    fn read_contents(&self, todo: &mut Vec<Work>, at: usize) -> Result<usize, TextFault> {
         let behind = self.push_type(todo, at)?;
         let by = next(behind);
         if self.tokens.is_word(behind, "ENCODED") && self.tokens.is_word(by, "BY") {
-            self.read_value(alloc, todo, next(by), Values::Identifier)
+            self.read_value(todo, next(by), Values::Identifier)
         } else {
             Ok(behind)
         }
     }
 
     /// Reads what WITH COMPONENTS says, in the braces at `braces`.
-    pub(crate) fn read_inner(self, todo: &mut Vec<Work>, braces: usize) -> Result<(), TextFault> {
+    pub(crate) fn read_inner(&self, todo: &mut Vec<Work>, braces: usize) -> Result<(), TextFault> {
         let tokens = self.tokens;
         let end = tokens.other(braces);
         let mut at = next(braces);
         if tokens.is(at, Sign::Dots) {
             at = next(at);
             if at < end {
-                at = tokens.past(at, Sign::Comma, ", or }")?;
+                at = past_comma(tokens, at)?;
             }
         }
         for _ in 0..tokens.len() {
@@ -264,7 +241,7 @@ impl<'a, 't> Reading<'a, 't> {
             }
             at = after_presence(tokens, at);
             if at < end {
-                at = tokens.past(at, Sign::Comma, ", or }")?;
+                at = past_comma(tokens, at)?;
             }
         }
         Ok(())
@@ -272,12 +249,7 @@ impl<'a, 't> Reading<'a, 't> {
 
     /// Reads what a user-defined constraint names, in the braces at `braces`: types, classes and sets of objects, and
     /// values and objects after what governs them.
-    fn read_user_defined(
-        self,
-        alloc: Global,
-        todo: &mut Vec<Work>,
-        braces: usize,
-    ) -> Result<(), TextFault> {
+    fn read_user_defined(&self, todo: &mut Vec<Work>, braces: usize) -> Result<(), TextFault> {
         let tokens = self.tokens;
         let end = tokens.other(braces);
         let mut at = next(braces);
@@ -287,12 +259,12 @@ impl<'a, 't> Reading<'a, 't> {
             }
             let behind = self.push_type(todo, at)?;
             at = if tokens.is(behind, Sign::Colon) {
-                self.read_governed(alloc, todo, (self.module, at, behind), next(behind))?
+                self.read_governed(todo, (self.module, at, behind), next(behind))?
             } else {
                 behind
             };
             if at < end {
-                at = tokens.past(at, Sign::Comma, ", or }")?;
+                at = past_comma(tokens, at)?;
             }
         }
         Ok(())
@@ -300,7 +272,7 @@ impl<'a, 't> Reading<'a, 't> {
 
     /// Reads the table constraint at `at`, with objects of a class, and gives the index after it.
     fn read_table(
-        self,
+        &self,
         todo: &mut Vec<Work>,
         at: usize,
         class: Option<usize>,

@@ -32,13 +32,17 @@ fn after_identifier(tokens: &Tokens<'_>, from: usize) -> Result<usize, TextFault
     }
 }
 
-/// The head of a module up to BEGIN: an empty module, and the index after BEGIN.
-fn head_of<'t>(
-    alloc: Global,
-    tokens: &Tokens<'t>,
-    file: usize,
-    from: usize,
-) -> Result<(ModuleText<'t>, usize), TextFault> {
+/// What the head of a module says, and the index after its BEGIN.
+#[derive(Clone, Copy)]
+struct Head {
+    automatic: bool,
+    extensible: bool,
+    is_instructed: bool,
+    begin: usize,
+}
+
+/// Reads the head of the module at `from`.
+fn head_at(tokens: &Tokens<'_>, from: usize) -> Result<Head, TextFault> {
     if !tokens.is_capital(from) || is_reserved(tokens.text(from)) {
         return Err(tokens.expected(from, "the name of a module"));
     }
@@ -69,17 +73,12 @@ fn head_of<'t>(
     if !tokens.is_word(at, "BEGIN") {
         return Err(tokens.expected(at, "BEGIN"));
     }
-    let module = ModuleText {
-        file,
-        name: tokens.text(from),
+    Ok(Head {
         automatic,
         extensible,
         is_instructed,
-        imports: HashMap::new(alloc),
-        sources: Vec::new(alloc),
-        names: HashMap::new(alloc),
-    };
-    Ok((module, next(at)))
+        begin: next(at),
+    })
 }
 
 /// The index after a symbol of EXPORTS or IMPORTS, as `Name` or `Name {}`.
@@ -245,15 +244,26 @@ fn add_module<'t>(
     file: usize,
     from: usize,
 ) -> Result<usize, TextFault> {
-    let (mut module, begin) = head_of(alloc, tokens, file, from)?;
+    let head = head_at(tokens, from)?;
+    let name = tokens.text(from);
     let index = world.modules.len();
-    if world.module_names.insert(module.name, index)?.is_some() {
+    if world.module_names.insert(name, index)?.is_some() {
         return Err(TextFault::At {
             line: tokens.line(from),
             wrong: Wrong::ModuleTwice,
         });
     }
-    let at = add_body(alloc, world, tokens, &mut module, begin)?;
+    let mut module = ModuleText {
+        file,
+        name,
+        automatic: head.automatic,
+        extensible: head.extensible,
+        is_instructed: head.is_instructed,
+        imports: HashMap::new(alloc),
+        sources: Vec::new(alloc),
+        names: HashMap::new(alloc),
+    };
+    let at = add_body(alloc, world, tokens, &mut module, head.begin)?;
     world.modules.push(module)?;
     Ok(at)
 }

@@ -1,5 +1,6 @@
 //! Reads objects and sets of objects (X.681, "object assignment", "object set assignment"): what an object gives for each
 //! field of its class, by the names of the fields or by the syntax of the class.
+use crate::brackets::past_comma;
 use crate::class_reading::after_field_name;
 use crate::constraint_reading::{after_all, is_operator, is_type};
 use crate::reading::{Reading, Work};
@@ -13,7 +14,6 @@ use asn_published_text::tokens::{Tokens, before, next};
 use asn_published_text::values::Values;
 use asn_published_text::words::{is_reserved, is_type_word};
 use asn_published_text::wrong::TextFault;
-use std::alloc::Global;
 use std::collections::HashMap;
 
 /// Fields that an object gives: their indexes in the class, and how many of them have to be given.
@@ -82,7 +82,7 @@ fn is_read(tried: Result<(), TextFault>) -> Result<bool, TextFault> {
 
 impl<'a, 't> Reading<'a, 't> {
     /// The index among the classes that are defined of the one to which the name from `start` to before `end` leads.
-    pub(crate) fn class_at(self, module: usize, start: usize, end: usize) -> Option<usize> {
+    pub(crate) fn class_at(&self, module: usize, start: usize, end: usize) -> Option<usize> {
         self.world
             .classes
             .index_of(self.world.class_named(module, start, end)?)
@@ -90,8 +90,7 @@ impl<'a, 't> Reading<'a, 't> {
 
     /// Reads the object in the braces at `braces`.
     pub(crate) fn read_object(
-        self,
-        alloc: Global,
+        &self,
         todo: &mut Vec<Work>,
         class: Option<usize>,
         braces: usize,
@@ -101,17 +100,17 @@ impl<'a, 't> Reading<'a, 't> {
             None => None,
         };
         let Some(table) = table else {
-            return self.read_loosely(alloc, todo, braces);
+            return self.read_loosely(todo, braces);
         };
         let mut given = Given {
-            fields: HashMap::new(alloc),
+            fields: HashMap::new(self.alloc),
             needed: 0,
         };
         match &table.syntax {
             Some(syntax) => {
-                self.read_by_syntax(alloc, todo, (table, syntax), &mut given, braces)?;
+                self.read_by_syntax(todo, (table, syntax), &mut given, braces)?;
             }
-            None => self.read_by_names(alloc, todo, table, &mut given, braces)?,
+            None => self.read_by_names(todo, table, &mut given, braces)?,
         }
         if given.needed < table.needed {
             let end = self.tokens.other(braces);
@@ -122,8 +121,7 @@ impl<'a, 't> Reading<'a, 't> {
 
     /// Reads the fields that an object gives by their names.
     fn read_by_names(
-        self,
-        alloc: Global,
+        &self,
         todo: &mut Vec<Work>,
         table: &ClassTable<'t>,
         given: &mut Given,
@@ -146,9 +144,9 @@ impl<'a, 't> Reading<'a, 't> {
                 break;
             };
             given.take(tokens, name, found, &field)?;
-            at = self.read_setting(alloc, todo, field.kind, start)?;
+            at = self.read_setting(todo, field.kind, start)?;
             if at < end {
-                at = tokens.past(at, Sign::Comma, ", or }")?;
+                at = past_comma(tokens, at)?;
             }
         }
         Ok(())
@@ -156,8 +154,7 @@ impl<'a, 't> Reading<'a, 't> {
 
     /// Reads the fields that an object gives by the syntax of its class.
     fn read_by_syntax(
-        self,
-        alloc: Global,
+        &self,
         todo: &mut Vec<Work>,
         class: (&ClassTable<'t>, &Syntax<'t>),
         given: &mut Given,
@@ -181,7 +178,7 @@ impl<'a, 't> Reading<'a, 't> {
                 Item::Word(_) => {
                     return Err(tokens.expected(at, "what the syntax of its class has"));
                 }
-                Item::Field(field) => self.read_given(alloc, todo, table, given, (field, at))?,
+                Item::Field(field) => self.read_given(todo, table, given, (field, at))?,
             };
         }
         if at == tokens.other(braces) {
@@ -193,8 +190,7 @@ impl<'a, 't> Reading<'a, 't> {
 
     /// Reads what an object gives for the field of an index at `at`, and gives the index after it.
     fn read_given(
-        self,
-        alloc: Global,
+        &self,
         todo: &mut Vec<Work>,
         table: &ClassTable<'t>,
         given: &mut Given,
@@ -205,13 +201,12 @@ impl<'a, 't> Reading<'a, 't> {
             return Ok(at);
         };
         given.take(self.tokens, at, index, &field)?;
-        self.read_setting(alloc, todo, field.kind, at)
+        self.read_setting(todo, field.kind, at)
     }
 
     /// Reads what stands at `at` for a field, and gives the index after it.
     pub(crate) fn read_setting(
-        self,
-        alloc: Global,
+        &self,
         todo: &mut Vec<Work>,
         kind: FieldKind,
         at: usize,
@@ -220,9 +215,9 @@ impl<'a, 't> Reading<'a, 't> {
         let work = match kind {
             FieldKind::Type => return self.push_type(todo, at),
             FieldKind::Value(_) if tokens.is_kind(at, Kind::Xml) => return Ok(next(at)),
-            FieldKind::Value(values) => return self.read_value(alloc, todo, at, values),
+            FieldKind::Value(values) => return self.read_value(todo, at, values),
             FieldKind::One | FieldKind::Object(_) if !tokens.is(at, Sign::LeftBrace) => {
-                return self.read_value(alloc, todo, at, Values::Any);
+                return self.read_value(todo, at, Values::Any);
             }
             FieldKind::Set => Work::Elements { open: at },
             FieldKind::Object(class) => self.object_of(class, at),
@@ -235,7 +230,7 @@ impl<'a, 't> Reading<'a, 't> {
     }
 
     /// The object of a class, in the braces at `braces`.
-    pub(crate) fn object_of(self, class: ClassName, braces: usize) -> Work {
+    pub(crate) fn object_of(&self, class: ClassName, braces: usize) -> Work {
         Work::Object {
             class: self.world.classes.index_of(class),
             braces,
@@ -243,7 +238,7 @@ impl<'a, 't> Reading<'a, 't> {
     }
 
     /// The set of objects of a class, in the braces at `braces`.
-    pub(crate) fn objects_of(self, class: ClassName, braces: usize) -> Work {
+    pub(crate) fn objects_of(&self, class: ClassName, braces: usize) -> Work {
         Work::Objects {
             class: self.world.classes.index_of(class),
             braces,
@@ -252,8 +247,7 @@ impl<'a, 't> Reading<'a, 't> {
 
     /// The index after an element of a set of objects at `at`: an object in braces, a name, or `...`.
     fn after_object(
-        self,
-        alloc: Global,
+        &self,
         todo: &mut Vec<Work>,
         at: usize,
         class: Option<usize>,
@@ -271,15 +265,14 @@ impl<'a, 't> Reading<'a, 't> {
             return self.push_type(todo, at);
         }
         if tokens.is_identifier(at) && !tokens.is(next(at), Sign::Colon) {
-            return self.read_value(alloc, todo, at, Values::Any);
+            return self.read_value(todo, at, Values::Any);
         }
         Err(tokens.expected(at, "an object"))
     }
 
     /// Reads the set of objects in the braces at `braces`.
     pub(crate) fn read_objects(
-        self,
-        alloc: Global,
+        &self,
         todo: &mut Vec<Work>,
         class: Option<usize>,
         braces: usize,
@@ -295,7 +288,7 @@ impl<'a, 't> Reading<'a, 't> {
             if is_element && tokens.is(at, Sign::LeftParen) {
                 at = next(at);
             } else if is_element {
-                at = self.after_object(alloc, todo, after_all(tokens, at), class)?;
+                at = self.after_object(todo, after_all(tokens, at), class)?;
                 is_element = false;
             } else if tokens.is(at, Sign::RightParen) {
                 at = next(at);
@@ -314,12 +307,7 @@ impl<'a, 't> Reading<'a, 't> {
 
     /// Reads the object in the braces at `braces`, of a class that is not known: fields with what is given for each, or
     /// words in capitals, commas, types and values.
-    fn read_loosely(
-        self,
-        alloc: Global,
-        todo: &mut Vec<Work>,
-        braces: usize,
-    ) -> Result<(), TextFault> {
+    fn read_loosely(&self, todo: &mut Vec<Work>, braces: usize) -> Result<(), TextFault> {
         let tokens = self.tokens;
         let end = tokens.other(braces);
         let mut at = next(braces);
@@ -332,14 +320,14 @@ impl<'a, 't> Reading<'a, 't> {
                 || is_literal(tokens, at) && !tokens.is(next(at), Sign::LeftParen);
             at = if has_fields {
                 let start = after_field_name(tokens, at)?;
-                self.read_any_setting(alloc, todo, start)?
+                self.read_any_setting(todo, start)?
             } else if is_word && !is_type_of_words(tokens, at) {
                 next(at)
             } else {
-                self.read_any_setting(alloc, todo, at)?
+                self.read_any_setting(todo, at)?
             };
             if has_fields && at < end {
-                at = tokens.past(at, Sign::Comma, ", or }")?;
+                at = past_comma(tokens, at)?;
             }
         }
         Ok(())
@@ -347,8 +335,7 @@ impl<'a, 't> Reading<'a, 't> {
 
     /// Reads a type, a value, or what stands in braces at `at`, and gives the index after it.
     pub(crate) fn read_any_setting(
-        self,
-        alloc: Global,
+        &self,
         todo: &mut Vec<Work>,
         at: usize,
     ) -> Result<usize, TextFault> {
@@ -367,29 +354,24 @@ impl<'a, 't> Reading<'a, 't> {
                 }
             }
         }
-        self.read_value(alloc, todo, at, Values::Any)
+        self.read_value(todo, at, Values::Any)
     }
 
     /// Reads what stands in the braces at `braces`, where it is not known whether it is a value, an object or a set: it
     /// has to be one of them.
-    pub(crate) fn read_any(
-        self,
-        alloc: Global,
-        todo: &mut Vec<Work>,
-        braces: usize,
-    ) -> Result<(), TextFault> {
+    pub(crate) fn read_any(&self, todo: &mut Vec<Work>, braces: usize) -> Result<(), TextFault> {
         let count = todo.len();
         if has_components(self.tokens, braces) {
             return Ok(());
         }
-        if is_read(self.read_loosely(alloc, todo, braces))? {
+        if is_read(self.read_loosely(todo, braces))? {
             return Ok(());
         }
         todo.truncate(count);
-        if is_read(self.read_objects(alloc, todo, None, braces))? {
+        if is_read(self.read_objects(todo, None, braces))? {
             return Ok(());
         }
         todo.truncate(count);
-        self.read_elements(alloc, todo, braces)
+        self.read_elements(todo, braces)
     }
 }

@@ -56,6 +56,7 @@ pub(crate) struct Reading<'a, 't> {
     pub tokens: &'a Tokens<'t>,
     pub module: usize,
     pub(crate) is_plain: bool,
+    pub(crate) alloc: Global,
 }
 
 /// Reads all that stands in an assignment.
@@ -75,18 +76,19 @@ pub(crate) fn read_assignment<'t>(
         tokens,
         module: it.module,
         is_plain: it.parameters.is_none(),
+        alloc,
     };
     let mut todo = Vec::new(alloc);
-    reading.read_parts(alloc, &mut todo, it, index)?;
-    reading.read_all(alloc, &mut todo)
+    reading.read_parts(&mut todo, it, index)?;
+    reading.read_all(&mut todo)
 }
 
 impl<'a, 't> Reading<'a, 't> {
     /// Reads what is still to be read.
-    fn read_all(self, alloc: Global, todo: &mut Vec<Work>) -> Result<(), TextFault> {
+    fn read_all(&self, todo: &mut Vec<Work>) -> Result<(), TextFault> {
         for _ in 0..u64::MAX {
             match todo.pop() {
-                Some(work) => self.read_work(alloc, todo, work)?,
+                Some(work) => self.read_work(todo, work)?,
                 None => break,
             }
         }
@@ -94,28 +96,27 @@ impl<'a, 't> Reading<'a, 't> {
     }
 
     /// Reads one thing, and asks for what it holds.
-    fn read_work(self, alloc: Global, todo: &mut Vec<Work>, work: Work) -> Result<(), TextFault> {
+    fn read_work(&self, todo: &mut Vec<Work>, work: Work) -> Result<(), TextFault> {
         match work {
-            Work::Type { from, end } => self.read_type(alloc, todo, from, end),
+            Work::Type { from, end } => self.read_type(todo, from, end),
             Work::Members {
                 from,
                 end,
                 is_choice,
                 marks,
-            } => self.read_members(alloc, todo, (from, end), is_choice, marks),
-            Work::Elements { open } => self.read_elements(alloc, todo, open),
+            } => self.read_members(todo, (from, end), is_choice, marks),
+            Work::Elements { open } => self.read_elements(todo, open),
             Work::Inner { braces } => self.read_inner(todo, braces),
-            Work::Object { class, braces } => self.read_object(alloc, todo, class, braces),
-            Work::Objects { class, braces } => self.read_objects(alloc, todo, class, braces),
-            Work::Actual { at, braces } => self.read_actual(alloc, todo, at, braces),
-            Work::Any { braces } => self.read_any(alloc, todo, braces),
+            Work::Object { class, braces } => self.read_object(todo, class, braces),
+            Work::Objects { class, braces } => self.read_objects(todo, class, braces),
+            Work::Actual { at, braces } => self.read_actual(todo, at, braces),
+            Work::Any { braces } => self.read_any(todo, braces),
         }
     }
 
     /// Reads the parameters of an assignment, and what stands before and after its `::=`.
     fn read_parts(
-        self,
-        alloc: Global,
+        &self,
         todo: &mut Vec<Work>,
         it: &Assignment<'t>,
         index: usize,
@@ -124,7 +125,7 @@ impl<'a, 't> Reading<'a, 't> {
             self.read_formal(todo, braces)?;
         }
         if it.what == What::Class {
-            return self.read_class(alloc, todo, index);
+            return self.read_class(todo, index);
         }
         let has_governor = !self.tokens.is(it.governor, Sign::Becomes);
         if !has_governor {
@@ -144,20 +145,19 @@ impl<'a, 't> Reading<'a, 't> {
         let behind = self.push_type(todo, it.governor)?;
         let start = next(behind);
         match it.what {
-            What::Value => self.read_value_of(alloc, todo, (it.governor, behind), start),
+            What::Value => self.read_value_of(todo, (it.governor, behind), start),
             _ => self.push_set(todo, (it.governor, behind), start),
         }
     }
 
     /// Asks for one thing more.
-    pub fn push(self, todo: &mut Vec<Work>, work: Work) -> Result<(), TextFault> {
+    pub fn push(&self, todo: &mut Vec<Work>, work: Work) -> Result<(), TextFault> {
         Ok(todo.push(work)?)
     }
 
     /// The value or the object at `start` of what governs it.
     fn read_value_of(
-        self,
-        alloc: Global,
+        &self,
         todo: &mut Vec<Work>,
         governor: (usize, usize),
         start: usize,
@@ -165,13 +165,13 @@ impl<'a, 't> Reading<'a, 't> {
         if self.tokens.is_kind(start, Kind::Xml) {
             return Ok(());
         }
-        self.read_governed(alloc, todo, (self.module, governor.0, governor.1), start)?;
+        self.read_governed(todo, (self.module, governor.0, governor.1), start)?;
         Ok(())
     }
 
     /// Asks for the set in the braces at `start`, of values or objects, as what governs it says.
     fn push_set(
-        self,
+        &self,
         todo: &mut Vec<Work>,
         governor: (usize, usize),
         start: usize,

@@ -1,4 +1,5 @@
 //! Reads types (X.680) with what they hold: tags, components, items, named numbers, parameters and constraints.
+use crate::brackets::past_comma;
 use crate::reading::{Reading, Work};
 use crate::value_forms::{after_named_number, has_named_numbers, has_tag};
 use crate::value_kinds::values_at;
@@ -10,7 +11,6 @@ use asn_published_text::value_steps::{Start, step_at};
 use asn_published_text::values::Values;
 use asn_published_text::words::{is_reserved, is_type_word, second_word};
 use asn_published_text::wrong::TextFault;
-use std::alloc::Global;
 
 /// The index after the tags and encoding prefixes at `from`.
 fn after_read_tags(tokens: &Tokens<'_>, from: usize) -> Result<usize, TextFault> {
@@ -107,7 +107,7 @@ fn after_item(tokens: &Tokens<'_>, at: usize) -> Result<usize, TextFault> {
 
 impl<'a, 't> Reading<'a, 't> {
     /// Asks for the type at `from`, and gives the index after it.
-    pub(crate) fn push_type(self, todo: &mut Vec<Work>, from: usize) -> Result<usize, TextFault> {
+    pub(crate) fn push_type(&self, todo: &mut Vec<Work>, from: usize) -> Result<usize, TextFault> {
         let end = type_end(self.tokens, from)?;
         self.push(todo, Work::Type { from, end })?;
         Ok(end)
@@ -115,8 +115,7 @@ impl<'a, 't> Reading<'a, 't> {
 
     /// Reads the type from `from` on, which ends before `end`.
     pub(crate) fn read_type(
-        self,
-        alloc: Global,
+        &self,
         todo: &mut Vec<Work>,
         from: usize,
         end: usize,
@@ -131,7 +130,7 @@ impl<'a, 't> Reading<'a, 't> {
                 }
                 Rest::Constraints(behind) => {
                     self.push_constraints(todo, behind, end)?;
-                    return self.read_words(alloc, todo, at);
+                    return self.read_words(todo, at);
                 }
             }
         }
@@ -139,7 +138,7 @@ impl<'a, 't> Reading<'a, 't> {
     }
 
     /// Asks for the size of the list whose first word stands at `at`.
-    fn push_size(self, todo: &mut Vec<Work>, at: usize) -> Result<(), TextFault> {
+    fn push_size(&self, todo: &mut Vec<Work>, at: usize) -> Result<(), TextFault> {
         let second = next(at);
         let open = if self.tokens.is_word(second, "SIZE") {
             next(second)
@@ -151,7 +150,7 @@ impl<'a, 't> Reading<'a, 't> {
 
     /// Asks for the constraints in parentheses from `from` on, which begin before `end`.
     fn push_constraints(
-        self,
+        &self,
         todo: &mut Vec<Work>,
         from: usize,
         end: usize,
@@ -168,7 +167,7 @@ impl<'a, 't> Reading<'a, 't> {
     }
 
     /// Reads the words with which the type at `at` begins, after its tags, and what stands in braces after them.
-    fn read_words(self, alloc: Global, todo: &mut Vec<Work>, at: usize) -> Result<(), TextFault> {
+    fn read_words(&self, todo: &mut Vec<Work>, at: usize) -> Result<(), TextFault> {
         let tokens = self.tokens;
         let second = next(at);
         if tokens.is_one_of(at, &["SEQUENCE", "SET", "CHOICE"]) {
@@ -181,7 +180,7 @@ impl<'a, 't> Reading<'a, 't> {
             return self.push(todo, members);
         }
         match tokens.text(at) {
-            "ENUMERATED" => self.read_items(alloc, todo, second),
+            "ENUMERATED" => self.read_items(todo, second),
             "INTEGER" => read_names(tokens, second),
             "BIT" => read_bits(tokens, second),
             "ANY" => read_any_type(tokens, at),
@@ -191,7 +190,7 @@ impl<'a, 't> Reading<'a, 't> {
     }
 
     /// Reads the name of a type, or the words of one that has nothing in braces, at `at`.
-    fn read_name(self, todo: &mut Vec<Work>, at: usize) -> Result<(), TextFault> {
+    fn read_name(&self, todo: &mut Vec<Work>, at: usize) -> Result<(), TextFault> {
         let tokens = self.tokens;
         let word = tokens.text(at);
         if let Some((wanted, _)) = second_word(word) {
@@ -213,8 +212,7 @@ impl<'a, 't> Reading<'a, 't> {
 
     /// Reads components or alternatives, after this many extension marks; in a group there are none.
     pub(crate) fn read_members(
-        self,
-        alloc: Global,
+        &self,
         todo: &mut Vec<Work>,
         place: (usize, usize),
         is_choice: bool,
@@ -233,9 +231,9 @@ impl<'a, 't> Reading<'a, 't> {
             if marks > 2 || is_group(tokens, at) && marks != 1 {
                 return Err(tokens.expected(at, "a component"));
             }
-            at = self.read_member(alloc, todo, at, is_choice)?;
+            at = self.read_member(todo, at, is_choice)?;
             if at < end {
-                at = tokens.past(at, Sign::Comma, ", or }")?;
+                at = past_comma(tokens, at)?;
                 if at >= end {
                     return Err(tokens.expected(at, "a component"));
                 }
@@ -246,8 +244,7 @@ impl<'a, 't> Reading<'a, 't> {
 
     /// Reads the component, the alternative, the mark or the group at `at`, and gives the index after it.
     fn read_member(
-        self,
-        alloc: Global,
+        &self,
         todo: &mut Vec<Work>,
         at: usize,
         is_choice: bool,
@@ -255,7 +252,7 @@ impl<'a, 't> Reading<'a, 't> {
         let tokens = self.tokens;
         let second = next(at);
         if tokens.is(at, Sign::Dots) {
-            return self.read_exception(alloc, todo, second);
+            return self.read_exception(todo, second);
         }
         if is_group(tokens, at) {
             return self.push_group(todo, at, is_choice);
@@ -274,13 +271,13 @@ impl<'a, 't> Reading<'a, 't> {
         if is_choice {
             Ok(behind)
         } else {
-            self.read_need(alloc, todo, second, behind)
+            self.read_need(todo, second, behind)
         }
     }
 
     /// Asks for what the group at `at` holds, and gives the index after it.
     fn push_group(
-        self,
+        &self,
         todo: &mut Vec<Work>,
         at: usize,
         is_choice: bool,
@@ -304,13 +301,7 @@ impl<'a, 't> Reading<'a, 't> {
 
     /// Reads whether the component may be absent whose type begins at `start` and ends before `at`, and gives the index
     /// after that.
-    fn read_need(
-        self,
-        alloc: Global,
-        todo: &mut Vec<Work>,
-        start: usize,
-        at: usize,
-    ) -> Result<usize, TextFault> {
+    fn read_need(&self, todo: &mut Vec<Work>, start: usize, at: usize) -> Result<usize, TextFault> {
         if self.tokens.is_word(at, "OPTIONAL") {
             return Ok(next(at));
         }
@@ -318,13 +309,12 @@ impl<'a, 't> Reading<'a, 't> {
             return Ok(at);
         }
         let values = values_at(self.world, self.module, start, self.is_plain);
-        self.read_value(alloc, todo, next(at), values)
+        self.read_value(todo, next(at), values)
     }
 
     /// Reads an exception, as `! 5` or `! Type : value`, where it stands at `at`, and gives the index after it.
     pub(crate) fn read_exception(
-        self,
-        alloc: Global,
+        &self,
         todo: &mut Vec<Work>,
         at: usize,
     ) -> Result<usize, TextFault> {
@@ -333,32 +323,27 @@ impl<'a, 't> Reading<'a, 't> {
         }
         let start = step_at(self.tokens, next(at))?.start;
         if matches!(start, Start::Number | Start::Name | Start::Open) {
-            self.read_value(alloc, todo, next(at), Values::Any)
+            self.read_value(todo, next(at), Values::Any)
         } else {
             Err(self.tokens.expected(next(at), "an exception"))
         }
     }
 
     /// Reads the items of ENUMERATED, in the braces at `braces`.
-    fn read_items(
-        self,
-        alloc: Global,
-        todo: &mut Vec<Work>,
-        braces: usize,
-    ) -> Result<(), TextFault> {
+    fn read_items(&self, todo: &mut Vec<Work>, braces: usize) -> Result<(), TextFault> {
         let tokens = self.tokens;
         let end = tokens.other(braces);
         let mut at = next(braces);
         for _ in 0..tokens.len() {
             at = if tokens.is(at, Sign::Dots) {
-                self.read_exception(alloc, todo, next(at))?
+                self.read_exception(todo, next(at))?
             } else {
                 after_item(tokens, at)?
             };
             if at >= end {
                 break;
             }
-            at = tokens.past(at, Sign::Comma, ", or }")?;
+            at = past_comma(tokens, at)?;
         }
         Ok(())
     }

@@ -1,4 +1,5 @@
 //! Reads values (X.680, "value assignment"), from a stack of the braces that are open, however deep they are nested.
+use crate::brackets::past_comma;
 use crate::reading::{Reading, Work};
 use crate::value_kinds::{are_whole, begin_with, values_at, words_of};
 use asn_published_text::token::Sign;
@@ -6,7 +7,6 @@ use asn_published_text::tokens::{Tokens, before, next};
 use asn_published_text::value_steps::{Follows, Start, step_at};
 use asn_published_text::values::Values;
 use asn_published_text::wrong::TextFault;
-use std::alloc::Global;
 
 /// Braces that are open: the index of the other one, and whether each value in them has a name.
 #[derive(Clone, Copy)]
@@ -71,7 +71,7 @@ fn next_value(tokens: &Tokens<'_>, open: &[Open], at: usize) -> Result<Option<us
     match open.last() {
         None => Ok(None),
         Some(last) => {
-            let start = tokens.past(at, Sign::Comma, ", or }")?;
+            let start = past_comma(tokens, at)?;
             Ok(Some(after_name(tokens, start, last.has_names)?))
         }
     }
@@ -95,17 +95,16 @@ fn actual_braces(tokens: &Tokens<'_>, at: usize, end: usize) -> Option<usize> {
 impl<'a, 't> Reading<'a, 't> {
     /// Reads the value that begins at `from`, which is one of these, and gives the index after it.
     pub(crate) fn read_value(
-        self,
-        alloc: Global,
+        &self,
         todo: &mut Vec<Work>,
         from: usize,
         values: Values,
     ) -> Result<usize, TextFault> {
-        let mut open = Vec::new(alloc);
+        let mut open = Vec::new(self.alloc);
         let mut values = values;
         let mut at = from;
         for _ in 0..u64::MAX {
-            let (behind, inner) = self.read_step(alloc, todo, &mut open, at, values)?;
+            let (behind, inner) = self.read_step(todo, &mut open, at, values)?;
             at = behind;
             match inner {
                 Some(inner) => values = inner,
@@ -125,8 +124,7 @@ impl<'a, 't> Reading<'a, 't> {
     /// Reads what the value at `at` begins with, and gives the index after it, and which values may follow there; `None`
     /// where the value ends.
     fn read_step(
-        self,
-        alloc: Global,
+        &self,
         todo: &mut Vec<Work>,
         open: &mut Vec<Open>,
         at: usize,
@@ -162,7 +160,7 @@ impl<'a, 't> Reading<'a, 't> {
 
     /// Asks for the actual parameters of the name of a value at `at`, where it has any before `end`.
     fn push_actual(
-        self,
+        &self,
         todo: &mut Vec<Work>,
         at: usize,
         end: usize,

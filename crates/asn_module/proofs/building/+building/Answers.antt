@@ -2,6 +2,8 @@ use Rattle.std.proofs.Common.{◌≡◌, ◌∙◌, refl, map, drop, [], ap, Som
 use Rattle.std.proofs.lemmas.List.{drop_all}
 use Rattle.asn_notation.specs.declared.notation.TypeNotation.{the_lemmas}
 use Rattle.asn_values.specs.View.{shape_of, part_of_field, branch_of}
+use Rattle.asn_values.proofs.Views.{shape_of-Bool, shape_of-Null, shape_of-Utf8, shape_of-Seq, shape_of-Choice}
+use Rattle.asn_notation.proofs.Views.{tree_view_boolean, tree_view_null, tree_view_utf8, tree_view_integer, tree_view_enumerated, tree_view_text, tree_view_sequence, tree_view_sequence_of, tree_view_choice, tree_view_reference}
 use Rattle.asn_module.specs.Known.{look, built_view, known_view}
 use Rattle.asn_module.specs.Meaning.{meant}
 use Rattle.asn_module.proofs.Lists.{before_none, before_no_alternatives}
@@ -58,3 +60,53 @@ build-build_fields-requires-in-Some t c = (search (rules, the_lemmas), c.require
 
 pub build-build_alternatives-requires-in-Some-more : goal.build-build_alternatives-requires-in-Some-more
 build-build_alternatives-requires-in-Some-more t c = (search (rules, the_lemmas), c.requires)
+
+pub build-returns-in-Boolean : goal.build-returns-in-Boolean
+unfolding meant
+build-returns-in-Boolean t c =
+    rw (c.in-Boolean.is, tree_view_boolean, c.free.ensures, shape_of-Bool) refl
+
+pub build-returns-in-Null : goal.build-returns-in-Null
+unfolding meant
+build-returns-in-Null t c =
+    rw (c.in-Null.is, tree_view_null, c.free-in-Null.ensures, shape_of-Null) refl
+
+pub build-returns-in-Utf8 : goal.build-returns-in-Utf8
+unfolding meant
+build-returns-in-Utf8 t c =
+    rw (c.in-Utf8.is, tree_view_utf8, c.free-in-Utf8.ensures, shape_of-Utf8) refl
+
+pub build-returns-in-Integer : goal.build-returns-in-Integer
+unfolding meant
+build-returns-in-Integer t c =
+    rw (c.in-Integer.is, tree_view_integer, c.integer.ensures) refl
+
+pub build-returns-in-Text : goal.build-returns-in-Text
+unfolding meant
+build-returns-in-Text t c =
+    rw (c.in-Text.is, tree_view_text, c.string.ensures) refl
+
+pub build-returns-in-Enumerated : goal.build-returns-in-Enumerated
+unfolding meant
+build-returns-in-Enumerated t c =
+    rw (c.in-Enumerated.is, tree_view_enumerated) (rw c.deref.ensures.value at c.enumerated.ensures)
+
+pub build-returns-in-None : goal.build-returns-in-None
+unfolding meant
+build-returns-in-None t c =
+    rw (c.in-Sequence.is, c.in-None.is, tree_view_sequence, rw c.deref-in-Sequence.ensures.value at c.in_ok-root-in-Sequence.ensures, c.free-in-None.ensures, shape_of-Seq) refl
+
+pub build-returns-in-None-more : goal.build-returns-in-None-more
+unfolding meant
+build-returns-in-None-more t c =
+    rw (c.in-Choice.is, c.in-None-more.is, tree_view_choice, rw c.deref-in-Choice.ensures.value at c.in_ok-root-in-Choice.ensures, c.free-in-None-more.ensures, shape_of-Choice) refl
+
+pub build-returns-in_ok-element-in-SequenceOf : goal.build-returns-in_ok-element-in-SequenceOf
+unfolding meant
+build-returns-in_ok-element-in-SequenceOf t c =
+    rw (c.in-SequenceOf.is, tree_view_sequence_of, rw c.deref-in-SequenceOf.ensures at c.in_ok-element-in-SequenceOf.ensures) c.list.ensures
+
+pub build-returns-in-None-find : goal.build-returns-in-None-find
+unfolding meant
+build-returns-in-None-find t c =
+    λ _. rw (c.in-Reference.is, tree_view_reference, c.in-None-find.ensures) refl

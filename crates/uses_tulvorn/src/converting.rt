@@ -17,11 +17,10 @@ use tulvorn::{
 fn command_type(alloc: Global) -> Result<Checked> {
     let speed = AsnType::Int(Bounds::between(0, 100));
     let lamps = vec![in alloc; Item::new(alloc, "red", 0)?, Item::new(alloc, "green", 1)?]?;
-    let alternatives = vec![in alloc;
-        Alt::new(alloc, "stop", AsnType::Null)?,
-        Alt::new(alloc, "speed", speed)?,
-        Alt::new(alloc, "lamp", AsnType::enumerated(lamps))?,
-    ]?;
+    let mut alternatives = Vec::new(alloc);
+    alternatives.push(Alt::new(alloc, "stop", AsnType::Null)?)?;
+    alternatives.push(Alt::new(alloc, "speed", speed)?)?;
+    alternatives.push(Alt::new(alloc, "lamp", AsnType::enumerated(lamps))?)?;
     Ok(Checked::new(alloc, AsnType::choice(alternatives))?)
 }
 

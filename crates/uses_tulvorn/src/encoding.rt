@@ -30,12 +30,13 @@ fn lanes_type(alloc: Global) -> Result<AsnType> {
 /// `SEQUENCE { station INTEGER (0..65535), kind ENUMERATED { car, bus, ..., tram }, speed INTEGER (0..163) OPTIONAL,
 /// lanes SEQUENCE (SIZE (0..3)) OF INTEGER (0..7) }`
 fn report_type(alloc: Global) -> Result<Checked> {
-    let fields = vec![in alloc;
-        Field::new(alloc, "station", AsnType::Int(Bounds::between(0, 65_535)))?,
-        Field::new(alloc, "kind", kind_type(alloc)?)?,
-        Field::new(alloc, "speed", AsnType::Int(Bounds::between(0, 163)))?.optional(),
-        Field::new(alloc, "lanes", lanes_type(alloc)?)?,
-    ]?;
+    let station = AsnType::Int(Bounds::between(0, 65_535));
+    let speed = AsnType::Int(Bounds::between(0, 163));
+    let mut fields = Vec::new(alloc);
+    fields.push(Field::new(alloc, "station", station)?)?;
+    fields.push(Field::new(alloc, "kind", kind_type(alloc)?)?)?;
+    fields.push(Field::new(alloc, "speed", speed)?.optional())?;
+    fields.push(Field::new(alloc, "lanes", lanes_type(alloc)?)?)?;
     Ok(Checked::new(alloc, AsnType::sequence(fields))?)
 }
 

@@ -7,7 +7,7 @@ ghost use Rattle.uses_tulvorn.specs.Id.{id_in};
 
 use anyhow::{Context, Result};
 use std::alloc::Global;
-use tulvorn::{Module, Per, View, Viewed, decode, read_explained, to_json};
+use tulvorn::{Checked, Module, Per, View, Viewed, decode, read_explained, to_json};
 
 /// What a module's file has.
 const TEXT: &str = "Example DEFINITIONS AUTOMATIC TAGS ::= BEGIN
@@ -38,17 +38,22 @@ fn show_types(rt: &impl Print, alloc: Global, module: &Module) -> Result<()> {
     Ok(())
 }
 
+/// Tells the value of a message as JSON, and its id.
+fn show_message(rt: &impl Print, alloc: Global, ty: &Checked, line: &str) -> Result<()> {
+    let octets = hex::decode(alloc, line)?;
+    let value = decode::<Per>(alloc, ty, &octets)?;
+    let id = id_of(&ty.view(&value)).context("no id")?;
+    println!(rt; "{line} {}, id {id}", to_json(alloc, ty, &value)?)?;
+    Ok(())
+}
+
 /// Tells the types of a module, two messages, and what is wrong with another module.
 pub(crate) fn read_modules(rt: &impl Print, alloc: Global) -> Result<()> {
     let module = read_explained(alloc, TEXT)?;
     show_types(rt, alloc, &module)?;
     let ty = module.type_named("Msg").context("no type Msg")?;
-    for line in ["6b04", "28"] {
-        let octets = hex::decode(alloc, line)?;
-        let value = decode::<Per>(alloc, ty, &octets)?;
-        let id = id_of(&ty.view(&value)).context("no id")?;
-        println!(rt; "{line} {}, id {id}", to_json(alloc, ty, &value)?)?;
-    }
+    show_message(rt, alloc, ty, "6b04")?;
+    show_message(rt, alloc, ty, "28")?;
     // a text that is no module is told with its line and a mark
     if let Err(refused) = read_explained(alloc, OTHER) {
         println!(rt; "{refused}")?;

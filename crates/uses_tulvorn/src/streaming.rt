@@ -50,13 +50,9 @@ fn follow<S: Read + Drop>(rt: &impl Print, alloc: Global, ty: &Checked, reader: 
     for _ in 0..u64::MAX {
         match stream.next_into(&mut track) {
             Ok(true) => println!(rt; "{}", told(alloc, &ty.view(&track))?)?,
-            Ok(false) => {
-                println!(rt; "the end")?;
-                return Ok(());
-            }
+            Ok(false) => return Ok(println!(rt; "the end")?),
             Err(StreamFault::Message(fault)) => {
-                println!(rt; "{}", fault.counted_in(Unit::Bit))?;
-                return Ok(());
+                return Ok(println!(rt; "{}", fault.counted_in(Unit::Bit))?);
             }
             Err(fault) => return Err(fault.into()),
         }
@@ -64,21 +60,28 @@ fn follow<S: Read + Drop>(rt: &impl Print, alloc: Global, ty: &Checked, reader: 
     Ok(())
 }
 
+/// What an octet settles of a message, if it settles something.
+fn settled(alloc: Global, ty: &Checked, step: Result<Step, FeedFault>) -> Result<Option<String>> {
+    match step {
+        Ok(Step::More) => Ok(None),
+        Ok(Step::Done { value, .. }) => {
+            let track = told(alloc, &ty.view(&value))?;
+            Ok(Some(format!(in alloc; "ends it: {track}")?))
+        }
+        Err(FeedFault::Refused { at, why }) => {
+            Ok(Some(format!(in alloc; "no message begins so: bit {at}, {why}")?))
+        }
+        Err(fault) => Err(fault.into()),
+    }
+}
+
 /// Takes the octets of a message one by one, and tells what each settles: no octet after that is taken.
 fn watch(rt: &impl Print, alloc: Global, ty: &Checked, octets: &[u8]) -> Result<()> {
     let mut session = open::<Per>(alloc, ty.copy()?)?;
     for octet in octets {
-        match session.feed(&[*octet]) {
-            Ok(Step::More) => println!(rt; "{octet:02x} more")?,
-            Ok(Step::Done { value, .. }) => {
-                println!(rt; "{octet:02x} ends it: {}", told(alloc, &ty.view(&value))?)?;
-                return Ok(());
-            }
-            Err(FeedFault::Refused { at, why }) => {
-                println!(rt; "{octet:02x} no message begins so: bit {at}, {why}")?;
-                return Ok(());
-            }
-            Err(fault) => return Err(fault.into()),
+        match settled(alloc, ty, session.feed(&[*octet]))? {
+            None => println!(rt; "{octet:02x} more")?,
+            Some(text) => return Ok(println!(rt; "{octet:02x} {text}")?),
         }
     }
     match session.finish() {

@@ -114,7 +114,7 @@ fn answer_line_of<W: Write>(
     } else {
         answer_otherwise(rt, answers, place, line, asked)?
     };
-    let is_good = answered == Answered::Line(true);
+    let is_good = matches!(answered, Answered::Line(true));
     if !is_good && asked.is_explained {
         let words = match &answered {
             Answered::Over(taken) => over_words(rt.alloc(), taken)?,
@@ -160,18 +160,30 @@ fn answer_otherwise<W: Write>(
     let mut answer = Counted::new(Vec::new(rt.alloc()));
     let answered = answer_to(rt, &mut answer, line, asked)?;
     let answer = answer.into_inner();
-    let answer = answer.as_slice();
-    if answered != Answered::Line(true) {
-        put_refusal(rt, answers, place, answer, asked)?;
-    } else if asked.is_counted {
-        count_message(rt, answers, line, asked)?;
-        put(&mut answers.output, answer)?;
-    } else if asked.is_laid() {
-        put_laid(rt, &mut answers.output, line, asked)?;
+    if matches!(answered, Answered::Line(true)) {
+        put_good(rt, answers, line, answer.as_slice(), asked)?;
     } else {
-        put_octets(rt, &mut answers.output, text_in(answer), asked.forms)?;
+        put_refusal(rt, answers, place, answer.as_slice(), asked)?;
     }
     Ok(answered)
+}
+
+/// Writes the answer to a line that is no refusal, laid out, in another form or counted.
+fn put_good<W: Write>(
+    rt: &HostRuntime,
+    answers: &mut Answers<W>,
+    line: &[u8],
+    answer: &[u8],
+    asked: Asked<'_>,
+) -> Result<(), RunFault> {
+    if asked.is_counted {
+        count_message(rt, answers, line, asked)?;
+        put(&mut answers.output, answer)
+    } else if asked.is_laid() {
+        put_laid(rt, &mut answers.output, line, asked)
+    } else {
+        put_octets(rt, &mut answers.output, text_in(answer), asked.forms)
+    }
 }
 
 /// Writes the JSON of the message that a line of hexadecimal is, in the layout that is asked for.

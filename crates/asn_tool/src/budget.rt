@@ -13,7 +13,7 @@ use std::alloc::Global;
 use std::io::Write;
 
 /// How a line was answered.
-#[derive(Clone, Copy, PartialEq, Eq)]
+#[derive(Clone, Copy)]
 pub enum Answered {
     /// As `answer_line` answers it: true where that is no refusal.
     Line(bool),

@@ -22,29 +22,42 @@ use std::{env, io};
 /// version too; 1 where a line or a type is refused; 2 where the words, a text or the module is; and 3 where reading,
 /// writing or memory failed.
 fn main(rt: HostRuntime) -> ExitCode {
-    let given = match env::args(&rt) {
+    match words_of(&rt) {
+        Ok(words) => do_words(&rt, words.as_slice()),
+        Err((status, line)) => told(&rt, status, line),
+    }
+}
+
+/// The words after the program's name, or the exit status and the line that tells why they are not there.
+fn words_of(rt: &HostRuntime) -> Result<Vec<String>, (u8, &'static str)> {
+    let given = match env::args(rt) {
         Ok(given) => given,
-        Err(fault) if fault.kind() == ErrorKind::OutOfMemory => return told(&rt, 3, "memory"),
-        Err(_) => return told(&rt, 2, "the words are not text"),
+        Err(fault) if fault.kind() == ErrorKind::OutOfMemory => return Err((3, "memory")),
+        Err(_) => return Err((2, "the words are not text")),
     };
     let mut words = Vec::new(rt.alloc());
     for word in given.skip(1) {
         if words.push(word).is_err() {
-            return told(&rt, 3, "memory");
+            return Err((3, "memory"));
         }
     }
+    Ok(words)
+}
+
+/// Does what these words ask for, and gives the exit status.
+fn do_words(rt: &HostRuntime, words: &[String]) -> ExitCode {
     let mut texts = Vec::new(rt.alloc());
-    for word in &words {
+    for word in words {
         if texts.push(word.as_str()).is_err() {
-            return told(&rt, 3, "memory");
+            return told(rt, 3, "memory");
         }
     }
     match request_of(rt.alloc(), texts.as_slice()) {
-        Ok(request) => match do_request(&rt, &request) {
+        Ok(request) => match do_request(rt, &request) {
             Ok(status) => ExitCode::from(status),
-            Err(stop) => stop_told(&rt, &stop),
+            Err(stop) => stop_told(rt, &stop),
         },
-        Err(fault) => fault_told(&rt, &fault),
+        Err(fault) => fault_told(rt, &fault),
     }
 }
 

@@ -11,6 +11,7 @@ use asn_published::Options;
 use asn_request::asking::Asking;
 use asn_rules::Counted;
 use asn_values::Checked;
+use std::alloc::AllocError;
 use std::io::{BufRead, BufReader, BufWriter, ErrorKind, Write};
 use std::{fs, io};
 
@@ -83,9 +84,20 @@ fn run_asked<'a, R: BufRead>(
     let Some(module) = module_of(rt.alloc(), text)? else {
         return Ok(None);
     };
-    let Some(ty) = type_for(job, &module) else {
-        return Ok(None);
-    };
+    match type_for(job, &module) {
+        Some(ty) => run_for(rt, job, ty, asking, lines),
+        None => Ok(None),
+    }
+}
+
+/// The same for this type, by a plan of it.
+fn run_for<'a, R: BufRead>(
+    rt: &HostRuntime,
+    job: &Job,
+    ty: &Checked,
+    asking: &Asking<'a>,
+    lines: &mut R,
+) -> Result<Option<u8>, Stop<'a>> {
     let planned = Planned::new(rt.alloc(), ty.copy()?)?;
     match Asked::of(asking, job, &planned) {
         Some(asked) => Ok(Some(answer_all(rt, asking, asked, lines)?)),
@@ -119,18 +131,19 @@ fn answer_all<'a, R: BufRead>(
     } else {
         answer_files(rt, &mut answers, files, asked)?
     };
-    let Answers {
-        mut output,
-        counts,
-        mut progress,
-    } = answers;
-    progress.clear(rt);
-    let answer = flushed(&mut output, answer);
+    answers.progress.clear(rt);
+    let answer = flushed(&mut answers.output, answer);
     if asking.is_counted && answer.is_ok() {
-        let told = counts.text(rt.alloc())?;
-        let _ = rt.eprint(told.as_str());
+        tell_counts(rt, &answers.counts)?;
     }
-    Ok(ended(rt, &answer, output.into_inner().is_closed()))
+    Ok(ended(rt, &answer, answers.output.into_inner().is_closed()))
+}
+
+/// Tells on standard error what was counted.
+fn tell_counts(rt: &HostRuntime, counts: &Counts) -> Result<(), AllocError> {
+    let told = counts.text(rt.alloc())?;
+    let _ = rt.eprint(told.as_str());
+    Ok(())
 }
 
 /// How a job ended whose messages were answered so, once the writer holds nothing back.
@@ -218,6 +231,11 @@ fn run_coming<'a>(
             return Ok(status);
         }
     }
+    run_lines(rt, job, head)
+}
+
+/// The exit status of the job on the lines of standard input, as they come.
+fn run_lines<'a>(rt: &HostRuntime, job: &Job, head: &[u8]) -> Result<u8, Stop<'a>> {
     let Ok(held) = BufWriter::with_capacity(rt.alloc(), HELD, Piped::new(io::writer(rt))) else {
         return Err(Stop::Memory);
     };

@@ -21,4 +21,5 @@ pub mod Scalars
 pub mod Sizes
 pub mod Small
 pub mod StringsRead
+pub mod UnitsLeft
 pub mod Weights

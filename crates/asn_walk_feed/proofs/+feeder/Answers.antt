@@ -67,6 +67,8 @@ use Rattle.asn_values.specs.View.{alternatives_seen}
 use Rattle.asn_walk.proofs.Parts.{additions_are}
 use Rattle.std.proofs.Common.{length-append, ◌^◌}
 use Rattle.asn_values.specs.Measures.{sealed_depth}
+use Rattle.std.proofs.Math.Nat.{le_refl, le_trans, sub-add_cancel}
+use Rattle.asn_walk_feed.proofs.UnitsLeft.{fewer_left, still_below, next_inside, no_levels, taken_at_most}
 use Rattle.asn_walk_feed.proofs.+feeder.Goals as goal
 
 -- ---- the elements of a list
@@ -74,7 +76,7 @@ use Rattle.asn_walk_feed.proofs.+feeder.Goals as goal
 pub lists::feed_elements-feed_fragment-requires : goal.lists::feed_elements-feed_fragment-requires
 lists::feed_elements-feed_fragment-requires g t c κs within =
     let inv = c.loop-alloc.invariant in
-    (search (rules, the_lemmas), (within.0, (within.1, (inv.2, (((size_range_of c.args.size.now), c.requires.of_profile, c.requires.reached.0, inv.0 c.requires.reached.0 c.requires.reached.1), omega (arith, inv.1, c.requires.few))))))
+    (search (rules, the_lemmas), (within.0, (within.1, (inv.2, (((size_range_of c.args.size.now), c.requires.of_profile, c.requires.reached.0, inv.0 c.requires.reached.0 c.requires.reached.1), still_below inv.1 c.requires.few)))))
 
 pub lists::feed_elements-returns-in_err-feed_fragment-clause-stop : goal.lists::feed_elements-returns-in_err-feed_fragment-clause-stop
 lists::feed_elements-returns-in_err-feed_fragment-clause-stop g t c =
@@ -90,7 +92,7 @@ pub lists::feed_elements-next_fragment-requires : goal.lists::feed_elements-next
 lists::feed_elements-next_fragment-requires g t c =
     let k = c.in_ok-feed_fragment.ensures.done (size_range_of c.args.size.now) c.requires.of_profile c.requires.reached.0 (c.loop-alloc.invariant.0 c.requires.reached.0 c.requires.reached.1) in
     let b = length_begun g.R.ReadLeaves.rules c.keep_laws.ensures c.keep_feed_laws.ensures g.R.FeedLeaves.fields g.R.ReadLeaves.ahead g.R.ReadLeaves.is_between (shape_of c.args.element.now) (size_range_of c.args.size.now) c.requires.of_profile c.feed_fragment.new.list (nodes c.feed_fragment.new.frames) c.requires.reached.0 (g.R.ReadLeaves.rules.to_units c.feed_fragment.new.units) c.in_ok-feed_fragment.ensures.over k in
-    record { at_unit = c.in_ok-feed_fragment.ensures.at_unit; between = k.between_is; begun = b.1; begins = b.0; few = omega (arith, c.loop-alloc.invariant.1, c.in_ok-feed_fragment.ensures.ticked, c.requires.few) }
+    record { at_unit = c.in_ok-feed_fragment.ensures.at_unit; between = k.between_is; begun = b.1; begins = b.0; few = still_below (c.in_ok-feed_fragment.ensures.ticked ∙ c.loop-alloc.invariant.1) c.requires.few }
 
 pub lists::feed_elements-returns-in_err-next_fragment-clause-stop : goal.lists::feed_elements-returns-in_err-next_fragment-clause-stop
 lists::feed_elements-returns-in_err-next_fragment-clause-stop g t c =
@@ -119,10 +121,10 @@ lists::feed_elements-loop-alloc-preserved g t c =
     let inv = c.loop-alloc.invariant in
     let U = g.R.ReadLeaves.rules.to_units in (
       λ all h. length_more g.R.ReadLeaves.rules c.keep_laws.ensures c.keep_feed_laws.ensures g.R.FeedLeaves.fields g.R.ReadLeaves.ahead g.R.ReadLeaves.is_between (shape_of c.args.element.now) (size_range_of c.args.size.now) c.requires.of_profile c.feed_fragment.new.list c.next_fragment.new.list (nodes c.feed_fragment.new.frames) all (U c.feed_fragment.new.units) (U c.next_fragment.new.units) c.next_fragment.new.list.left c.in_ok-feed_fragment.ensures.over (c.in_ok-feed_fragment.ensures.done (size_range_of c.args.size.now) c.requires.of_profile all (inv.0 all h)) refl c.next_fragment.ensures.elements c.in_ok-next_fragment.ensures.fresh c.next_fragment.ensures.between (c.next_fragment.ensures.more (cc (c.in_ok-next_fragment.was, c.if-not-branch.false))),
-      omega (arith, inv.1, c.in_ok-feed_fragment.ensures.ticked, c.in_ok-next_fragment.ensures.ticked),
+      c.in_ok-next_fragment.ensures.ticked ∙ c.in_ok-feed_fragment.ensures.ticked ∙ inv.1,
       c.in_ok-next_fragment.ensures.at_unit,
-      omega (arith, inv.3, c.in_ok-feed_fragment.ensures.rising, c.in_ok-next_fragment.ensures.rising),
-      (let none = (length_ahead g.R.ReadLeaves.rules c.keep_laws.ensures c.keep_feed_laws.ensures g.R.FeedLeaves.fields g.R.ReadLeaves.ahead g.R.ReadLeaves.is_between (shape_of c.args.element.now) (size_range_of c.args.size.now) c.requires.of_profile c.feed_fragment.new.list (nodes c.feed_fragment.new.frames) c.requires.reached.0 (g.R.ReadLeaves.rules.to_units c.feed_fragment.new.units) c.in_ok-feed_fragment.ensures.over (c.in_ok-feed_fragment.ensures.done (size_range_of c.args.size.now) c.requires.of_profile c.requires.reached.0 (c.loop-alloc.invariant.0 c.requires.reached.0 c.requires.reached.1))).none in costs_last {d1 = sealed_depth (shape_of c.args.element.now)} (costs_then c.loop-alloc.invariant.4 c.feed_fragment.ensures.inside (omega arith) (omega arith) (λ n o. o)) (omega arith) (none_open g.R.ReadLeaves.rules g.R.FeedLeaves.fields g.R.ReadLeaves.ahead g.R.ReadLeaves.is_between (nodes c.feed_fragment.new.frames) none) c.next_fragment.ensures.inside (omega (arith, c.next_fragment.ensures.ticked, c.next_fragment.ensures.rising))),
+      le_trans inv.3 (le_trans c.in_ok-feed_fragment.ensures.rising c.in_ok-next_fragment.ensures.rising),
+      (let none = (length_ahead g.R.ReadLeaves.rules c.keep_laws.ensures c.keep_feed_laws.ensures g.R.FeedLeaves.fields g.R.ReadLeaves.ahead g.R.ReadLeaves.is_between (shape_of c.args.element.now) (size_range_of c.args.size.now) c.requires.of_profile c.feed_fragment.new.list (nodes c.feed_fragment.new.frames) c.requires.reached.0 (g.R.ReadLeaves.rules.to_units c.feed_fragment.new.units) c.in_ok-feed_fragment.ensures.over (c.in_ok-feed_fragment.ensures.done (size_range_of c.args.size.now) c.requires.of_profile c.requires.reached.0 (c.loop-alloc.invariant.0 c.requires.reached.0 c.requires.reached.1))).none in costs_last {d1 = sealed_depth (shape_of c.args.element.now)} (costs_then c.loop-alloc.invariant.4 c.feed_fragment.ensures.inside (le_refl _) (le_refl _) (λ n o. o)) (le_refl _) (none_open g.R.ReadLeaves.rules g.R.FeedLeaves.fields g.R.ReadLeaves.ahead g.R.ReadLeaves.is_between (nodes c.feed_fragment.new.frames) none) c.next_fragment.ensures.inside (fewer_left c.next_fragment.ensures.rising c.next_fragment.ensures.ticked)),
     )
 
 pub lists::feed_elements-loop-alloc-smaller : goal.lists::feed_elements-loop-alloc-smaller
@@ -141,7 +143,7 @@ lists::feed_fragment-feed_element-requires g t c κs within =
     let good = c.requires.reached.1 in
     let all = c.requires.reached.2 in
     let x = element_ahead g.R.ReadLeaves.rules c.keep_laws.ensures c.keep_feed_laws.ensures g.R.FeedLeaves.fields g.R.ReadLeaves.ahead g.R.ReadLeaves.is_between (shape_of c.args.element.now) s good c.loop-list.list (nodes c.loop-list.frames) all (g.R.ReadLeaves.rules.to_units c.loop-list.units) c.loop-list-test.true (inv.0 s good all c.requires.reached.3) in
-    (search (rules, the_lemmas), (within.0, (within.1, (inv.2, (element_of_profile (shape_of c.args.element.now) s good, ((s, good), ((x.come, x.took), omega (arith, inv.1, c.requires.few))))))))
+    (search (rules, the_lemmas), (within.0, (within.1, (inv.2, (element_of_profile (shape_of c.args.element.now) s good, ((s, good), ((x.come, x.took), still_below inv.1 c.requires.few)))))))
 
 pub lists::feed_fragment-returns-in_err-value-clause-stop : goal.lists::feed_fragment-returns-in_err-value-clause-stop
 lists::feed_fragment-returns-in_err-value-clause-stop g t c =
@@ -165,12 +167,12 @@ lists::feed_fragment-loop-list-preserved g t c =
       λ s good all h.
           (let x = element_ahead g.R.ReadLeaves.rules c.keep_laws.ensures c.keep_feed_laws.ensures g.R.FeedLeaves.fields g.R.ReadLeaves.ahead g.R.ReadLeaves.is_between (shape_of c.args.element.now) s good c.loop-list.list (nodes c.loop-list.frames) all (g.R.ReadLeaves.rules.to_units c.loop-list.units) c.loop-list-test.true (inv.0 s good all h) in
           x.more _ _ c.in_ok-value.value _ (omega (arith, c.loop-list-test.true)) refl c.in_ok-value.ensures.fresh c.in_ok-push.ensures.items c.in_ok-value.ensures.emptied (c.in_ok-value.ensures.done x.come x.took)),
-      omega (arith, inv.1, c.in_ok-value.ensures.ticked),
+      c.in_ok-value.ensures.ticked ∙ inv.1,
       c.in_ok-value.ensures.at_unit,
       inv.3,
-      omega (arith, inv.4, c.in_ok-value.ensures.ticked, c.in_ok-value.ensures.rising),
-      omega (arith, inv.5, c.in_ok-value.ensures.rising),
-      costs_last {d1 = sealed_depth (shape_of c.args.element.now)} (costs_then c.loop-list.invariant.6 c.feed_element.ensures.inside (omega arith) (omega arith) (λ n o. o)) (omega arith) (none_open g.R.ReadLeaves.rules g.R.FeedLeaves.fields g.R.ReadLeaves.ahead g.R.ReadLeaves.is_between (nodes c.feed_element.new.frames) c.in_ok-value.ensures.emptied) refl (omega arith),
+      le_trans (fewer_left c.in_ok-value.ensures.rising c.in_ok-value.ensures.ticked) inv.4,
+      le_trans inv.5 c.in_ok-value.ensures.rising,
+      costs_last {d1 = sealed_depth (shape_of c.args.element.now)} (costs_then c.loop-list.invariant.6 c.feed_element.ensures.inside (le_refl _) (le_refl _) (λ n o. o)) (le_refl _) (none_open g.R.ReadLeaves.rules g.R.FeedLeaves.fields g.R.ReadLeaves.ahead g.R.ReadLeaves.is_between (nodes c.feed_element.new.frames) c.in_ok-value.ensures.emptied) refl (le_refl _),
     )
 
 pub values::feed-feed_scalar-requires-clause-start : goal.values::feed-feed_scalar-requires-clause-start
@@ -265,7 +267,7 @@ lists::start_list-feed_leaf-requires-clause-good g t c = list_size (shape_of c.a
 
 pub lists::start_list-feed_list-requires : goal.lists::start_list-feed_list-requires
 lists::start_list-feed_list-requires g t c κs within =
-    (search (rules, the_lemmas), (within.0, (within.1, (c.in-Ok.ensures.at_unit, (c.requires.of_profile, (((g.R.ReadLeaves.rules.to_units c.args.begun ++ g.R.ReadLeaves.rules.to_units c.args.units.now), (list_starts g.R.ReadLeaves.rules c.keep_laws.ensures c.keep_feed_laws.ensures g.R.FeedLeaves.fields g.R.ReadLeaves.ahead g.R.ReadLeaves.is_between (shape_of c.args.element.now) (size_range_of c.args.size.now) c.requires.of_profile _ (nodes c.args.frames.now) (g.R.ReadLeaves.rules.to_units c.args.begun ++ g.R.ReadLeaves.rules.to_units c.args.units.now) (g.R.ReadLeaves.rules.to_units c.feed_leaf.new.units) c.in-Ok.ensures.done refl c.new.ensures.items c.none.ensures c.in-Ok.ensures.sound c.requires.empty)), omega (arith, c.in-Ok.ensures.ticked, c.requires.few)))))))
+    (search (rules, the_lemmas), (within.0, (within.1, (c.in-Ok.ensures.at_unit, (c.requires.of_profile, (((g.R.ReadLeaves.rules.to_units c.args.begun ++ g.R.ReadLeaves.rules.to_units c.args.units.now), (list_starts g.R.ReadLeaves.rules c.keep_laws.ensures c.keep_feed_laws.ensures g.R.FeedLeaves.fields g.R.ReadLeaves.ahead g.R.ReadLeaves.is_between (shape_of c.args.element.now) (size_range_of c.args.size.now) c.requires.of_profile _ (nodes c.args.frames.now) (g.R.ReadLeaves.rules.to_units c.args.begun ++ g.R.ReadLeaves.rules.to_units c.args.units.now) (g.R.ReadLeaves.rules.to_units c.feed_leaf.new.units) c.in-Ok.ensures.done refl c.new.ensures.items c.none.ensures c.in-Ok.ensures.sound c.requires.empty)), still_below c.in-Ok.ensures.ticked c.requires.few))))))
 
 pub lists::start_list-returns-in-Ok-clause-done : goal.lists::start_list-returns-in-Ok-clause-done
 lists::start_list-returns-in-Ok-clause-done g t c =
@@ -356,7 +358,7 @@ sequences::resume_sequence-start_sequence-requires g t c κs within =
 
 pub sequences::start_sequence-feed_sequence-requires : goal.sequences::start_sequence-feed_sequence-requires
 sequences::start_sequence-feed_sequence-requires g t c κs within =
-    (search (rules, the_lemmas), (within.0, (within.1, (c.in-Ok.ensures.at_unit, (c.requires.of_profile, (c.requires.parts, (((g.R.ReadLeaves.rules.to_units c.args.begun ++ g.R.ReadLeaves.rules.to_units c.args.units.now), (root_starts g.R.ReadLeaves.rules c.keep_laws.ensures g.R.FeedLeaves.fields g.R.ReadLeaves.ahead g.R.ReadLeaves.is_between (fields_seen c.args.root.now) (more_fields_of c.args.ext.now) c.requires.of_profile _ (nodes c.args.frames.now) (g.R.ReadLeaves.rules.to_units c.args.begun ++ g.R.ReadLeaves.rules.to_units c.args.units.now) (g.R.ReadLeaves.rules.to_units c.feed_leaf.new.units) (rw (c.bitmap_width-width.ensures.count, c.addition_count.ensures, ← added_count c.args.ext.now) at c.in-Ok.ensures.done) c.bitmap_width-width.ensures.count (rw c.bitmap_width-width.ensures.count at c.bitmap_width-width.ensures.few) c.new.ensures.items c.requires.empty)), omega (arith, c.in-Ok.ensures.ticked, c.requires.few))))))))
+    (search (rules, the_lemmas), (within.0, (within.1, (c.in-Ok.ensures.at_unit, (c.requires.of_profile, (c.requires.parts, (((g.R.ReadLeaves.rules.to_units c.args.begun ++ g.R.ReadLeaves.rules.to_units c.args.units.now), (root_starts g.R.ReadLeaves.rules c.keep_laws.ensures g.R.FeedLeaves.fields g.R.ReadLeaves.ahead g.R.ReadLeaves.is_between (fields_seen c.args.root.now) (more_fields_of c.args.ext.now) c.requires.of_profile _ (nodes c.args.frames.now) (g.R.ReadLeaves.rules.to_units c.args.begun ++ g.R.ReadLeaves.rules.to_units c.args.units.now) (g.R.ReadLeaves.rules.to_units c.feed_leaf.new.units) (rw (c.bitmap_width-width.ensures.count, c.addition_count.ensures, ← added_count c.args.ext.now) at c.in-Ok.ensures.done) c.bitmap_width-width.ensures.count (rw c.bitmap_width-width.ensures.count at c.bitmap_width-width.ensures.few) c.new.ensures.items c.requires.empty)), still_below c.in-Ok.ensures.ticked c.requires.few)))))))
 
 pub sequences::start_sequence-returns-in-Ok-clause-done : goal.sequences::start_sequence-returns-in-Ok-clause-done
 sequences::start_sequence-returns-in-Ok-clause-done g t c =
@@ -423,14 +425,14 @@ pub sequences::feed_components-feed_component-requires : goal.sequences::feed_co
 sequences::feed_components-feed_component-requires g t c κs within =
     let inv = c.loop-alloc.invariant in
     let i = c.len-in-loop-alloc.result in
-    let lt : i < length c.args.root.now = omega (arith, c.loop-alloc-test.true, c.len.ensures, c.len-in-loop-alloc.ensures) in
+    let lt : i < length c.args.root.now = still_below (c.len-in-loop-alloc.ensures ∙ sym c.len.ensures) c.loop-alloc-test.true in
     let at : i ≡ length c.loop-alloc.read.entries.items = omega (arith, c.len-in-loop-alloc.ensures, c.loop-alloc.read.entries.ok.0) in
     let next = subst (λ (k : ℕ). drop k (parts_in (fields_seen c.args.root.now)) ≡ part_of_field c.index-root-len.result ∷ map part_of_field (drop (i + 1) c.args.root.now)) at (next_in c.args.root.now i c.index-root-len.result lt c.index-root-len.is) in
     let more = c.requires.reached.0 in
     let good = c.requires.reached.1 in
     let all = c.requires.reached.2 in
     let x = component_ahead g.R.ReadLeaves.rules c.keep_laws.ensures g.R.FeedLeaves.fields g.R.ReadLeaves.ahead g.R.ReadLeaves.is_between (fields_seen c.args.root.now) more good c.loop-alloc.read (nodes c.loop-alloc.frames) (part_of_field c.index-root-len.result) (map part_of_field (drop (i + 1) c.args.root.now)) c.next_of-present.result c.next_of-present.new.self.left all (g.R.ReadLeaves.rules.to_units c.loop-alloc.units) next c.next_of-present.ensures.must c.next_of-present.ensures.bit (inv.0 more good all c.requires.reached.3) in
-    (search (rules, the_lemmas), (within.0, (within.1, (inv.2, (x.of_profile, (x.good_demand, ((x.come, x.took), omega (arith, inv.1, c.requires.few))))))))
+    (search (rules, the_lemmas), (within.0, (within.1, (inv.2, (x.of_profile, (x.good_demand, ((x.come, x.took), still_below inv.1 c.requires.few)))))))
 
 pub sequences::feed_components-next_of-present-requires : goal.sequences::feed_components-next_of-present-requires
 sequences::feed_components-next_of-present-requires g t c =
@@ -438,7 +440,7 @@ sequences::feed_components-next_of-present-requires g t c =
     let more = c.requires.reached.0 in
     let good = c.requires.reached.1 in
     let i = c.len-in-loop-alloc.result in
-    let lt : i < length c.args.root.now = omega (arith, c.loop-alloc-test.true, c.len.ensures, c.len-in-loop-alloc.ensures) in
+    let lt : i < length c.args.root.now = still_below (c.len-in-loop-alloc.ensures ∙ sym c.len.ensures) c.loop-alloc-test.true in
     let at : i ≡ length c.loop-alloc.read.entries.items = omega (arith, c.len-in-loop-alloc.ensures, c.loop-alloc.read.entries.ok.0) in
     let next = subst (λ (k : ℕ). drop k (parts_in (fields_seen c.args.root.now)) ≡ part_of_field c.index-root-len.result ∷ map part_of_field (drop (i + 1) c.args.root.now)) at (next_in c.args.root.now i c.index-root-len.result lt c.index-root-len.is) in
     let x = presence_left g.R.ReadLeaves.rules c.keep_laws.ensures g.R.FeedLeaves.fields g.R.ReadLeaves.ahead g.R.ReadLeaves.is_between (fields_seen c.args.root.now) more good c.loop-alloc.read (nodes c.loop-alloc.frames) (part_of_field c.index-root-len.result) (map part_of_field (drop (i + 1) c.args.root.now)) c.requires.reached.2 (g.R.ReadLeaves.rules.to_units c.loop-alloc.units) next (inv.0 more good c.requires.reached.2 c.requires.reached.3) in
@@ -448,7 +450,7 @@ pub sequences::feed_components-returns-in_err-entry-clause-stop : goal.sequences
 sequences::feed_components-returns-in_err-entry-clause-stop g t c =
     let inv = c.loop-alloc.invariant in
     let i = c.len-in-loop-alloc.result in
-    let lt : i < length c.args.root.now = omega (arith, c.loop-alloc-test.true, c.len.ensures, c.len-in-loop-alloc.ensures) in
+    let lt : i < length c.args.root.now = still_below (c.len-in-loop-alloc.ensures ∙ sym c.len.ensures) c.loop-alloc-test.true in
     let at : i ≡ length c.loop-alloc.read.entries.items = omega (arith, c.len-in-loop-alloc.ensures, c.loop-alloc.read.entries.ok.0) in
     let next = subst (λ (k : ℕ). drop k (parts_in (fields_seen c.args.root.now)) ≡ part_of_field c.index-root-len.result ∷ map part_of_field (drop (i + 1) c.args.root.now)) at (next_in c.args.root.now i c.index-root-len.result lt c.index-root-len.is) in
     let p = err_from_is_err_and c.from_residual.result c.from_residual.ensures.1 in
@@ -459,7 +461,7 @@ sequences::feed_components-returns-in_err-entry-clause-kept g t c =
     λ e more good all h.
     let inv = c.loop-alloc.invariant in
     let i = c.len-in-loop-alloc.result in
-    let lt : i < length c.args.root.now = omega (arith, c.loop-alloc-test.true, c.len.ensures, c.len-in-loop-alloc.ensures) in
+    let lt : i < length c.args.root.now = still_below (c.len-in-loop-alloc.ensures ∙ sym c.len.ensures) c.loop-alloc-test.true in
     let at : i ≡ length c.loop-alloc.read.entries.items = omega (arith, c.len-in-loop-alloc.ensures, c.loop-alloc.read.entries.ok.0) in
     let next = subst (λ (k : ℕ). drop k (parts_in (fields_seen c.args.root.now)) ≡ part_of_field c.index-root-len.result ∷ map part_of_field (drop (i + 1) c.args.root.now)) at (next_in c.args.root.now i c.index-root-len.result lt c.index-root-len.is) in
     let p = err_from_is_err_and c.from_residual.result c.from_residual.ensures.1 in
@@ -471,14 +473,14 @@ pub sequences::feed_components-loop-alloc-preserved : goal.sequences::feed_compo
 sequences::feed_components-loop-alloc-preserved g t c =
     let inv = c.loop-alloc.invariant in
     let i = c.len-in-loop-alloc.result in
-    let lt : i < length c.args.root.now = omega (arith, c.loop-alloc-test.true, c.len.ensures, c.len-in-loop-alloc.ensures) in
+    let lt : i < length c.args.root.now = still_below (c.len-in-loop-alloc.ensures ∙ sym c.len.ensures) c.loop-alloc-test.true in
     let at : i ≡ length c.loop-alloc.read.entries.items = omega (arith, c.len-in-loop-alloc.ensures, c.loop-alloc.read.entries.ok.0) in
     let next = subst (λ (k : ℕ). drop k (parts_in (fields_seen c.args.root.now)) ≡ part_of_field c.index-root-len.result ∷ map part_of_field (drop (i + 1) c.args.root.now)) at (next_in c.args.root.now i c.index-root-len.result lt c.index-root-len.is) in (
       λ more good all h. (let x = component_ahead g.R.ReadLeaves.rules c.keep_laws.ensures g.R.FeedLeaves.fields g.R.ReadLeaves.ahead g.R.ReadLeaves.is_between (fields_seen c.args.root.now) more good c.loop-alloc.read (nodes c.loop-alloc.frames) (part_of_field c.index-root-len.result) (map part_of_field (drop (i + 1) c.args.root.now)) c.next_of-present.result c.next_of-present.new.self.left all (g.R.ReadLeaves.rules.to_units c.loop-alloc.units) next c.next_of-present.ensures.must c.next_of-present.ensures.bit (inv.0 more good all h) in x.further _ (nodes c.feed_component.new.frames) c.in_ok-entry.entry (g.R.ReadLeaves.rules.to_units c.feed_component.new.units) refl c.next_of-present.ensures.bitmap refl c.in_ok-push.ensures.items c.in_ok-entry.ensures.emptied (c.in_ok-entry.ensures.done x.come x.took)),
-      omega (arith, inv.1, c.in_ok-entry.ensures.ticked),
+      c.in_ok-entry.ensures.ticked ∙ inv.1,
       c.in_ok-entry.ensures.at_unit,
-      omega (arith, inv.3, c.in_ok-entry.ensures.rising),
-      costs_last (costs_then c.loop-alloc.invariant.4 c.feed_component.ensures.inside (omega arith) (depth_of_component c.args.root.now i c.index-root-len.result lt c.index-root-len.is) (λ n o. o)) (omega arith) (none_open g.R.ReadLeaves.rules g.R.FeedLeaves.fields g.R.ReadLeaves.ahead g.R.ReadLeaves.is_between (nodes c.feed_component.new.frames) c.in_ok-entry.ensures.emptied) refl (omega arith),
+      le_trans inv.3 c.in_ok-entry.ensures.rising,
+      costs_last (costs_then c.loop-alloc.invariant.4 c.feed_component.ensures.inside (le_refl _) (depth_of_component c.args.root.now i c.index-root-len.result lt c.index-root-len.is) (λ n o. o)) (le_refl _) (none_open g.R.ReadLeaves.rules g.R.FeedLeaves.fields g.R.ReadLeaves.ahead g.R.ReadLeaves.is_between (nodes c.feed_component.new.frames) c.in_ok-entry.ensures.emptied) refl (le_refl _),
     )
 
 pub sequences::feed_component-returns-then-not-present-clause-done : goal.sequences::feed_component-returns-then-not-present-clause-done
@@ -633,7 +635,7 @@ pub choices::start_choice-feed_choice-requires : goal.choices::start_choice-feed
 choices::start_choice-feed_choice-requires g t c κs within =
     let small = root_smaller c.args._ty.now c.requires.parts.alternatives c.args.ext.now c.args.root.now c.requires.parts.is c.requires.parts.root_is in
     let told : Spells g.R.ReadLeaves.rules.ruling.fielding (IndexOf g.R.ReadLeaves.rules (length c.args.root.now) (added_alternatives (more_alternatives_of c.args.ext.now))) (inl c.in-Ok-Root.index) (g.R.ReadLeaves.rules.to_units c.args.begun ++ g.R.ReadLeaves.rules.to_units c.args.units.now) (g.R.ReadLeaves.rules.to_units c.feed_leaf.new.units) = rw (c.addition_count.ensures, ← more_count c.args.ext.now, c.in-Ok-Root.field-0-is) at c.in-Ok-Root.ensures.done in
-    (search (rules, the_lemmas, small), (within.0, (within.1, (c.in-Ok-Root.ensures.at_unit, (rw c.in-Ok-Root.index-is told.spelt.fits, (((more_alternatives_of c.args.ext.now), c.requires.of_profile, (g.R.ReadLeaves.rules.to_units c.args.begun ++ g.R.ReadLeaves.rules.to_units c.args.units.now), rw c.in-Ok-Root.index-is (choice_starts g.R.ReadLeaves.rules c.keep_laws.ensures g.R.FeedLeaves.fields g.R.ReadLeaves.ahead g.R.ReadLeaves.is_between c.args.root.now (more_alternatives_of c.args.ext.now) c.requires.of_profile c.in-Ok-Root.index (nodes c.args.frames.now) (g.R.ReadLeaves.rules.to_units c.args.begun ++ g.R.ReadLeaves.rules.to_units c.args.units.now) (g.R.ReadLeaves.rules.to_units c.feed_leaf.new.units) told c.requires.empty)), omega (arith, c.in-Ok-Root.ensures.ticked, c.requires.few)))))))
+    (search (rules, the_lemmas, small), (within.0, (within.1, (c.in-Ok-Root.ensures.at_unit, (rw c.in-Ok-Root.index-is told.spelt.fits, (((more_alternatives_of c.args.ext.now), c.requires.of_profile, (g.R.ReadLeaves.rules.to_units c.args.begun ++ g.R.ReadLeaves.rules.to_units c.args.units.now), rw c.in-Ok-Root.index-is (choice_starts g.R.ReadLeaves.rules c.keep_laws.ensures g.R.FeedLeaves.fields g.R.ReadLeaves.ahead g.R.ReadLeaves.is_between c.args.root.now (more_alternatives_of c.args.ext.now) c.requires.of_profile c.in-Ok-Root.index (nodes c.args.frames.now) (g.R.ReadLeaves.rules.to_units c.args.begun ++ g.R.ReadLeaves.rules.to_units c.args.units.now) (g.R.ReadLeaves.rules.to_units c.feed_leaf.new.units) told c.requires.empty)), still_below c.in-Ok-Root.ensures.ticked c.requires.few))))))
 
 pub choices::start_choice-returns-in-Ok-Root-clause-done : goal.choices::start_choice-returns-in-Ok-Root-clause-done
 choices::start_choice-returns-in-Ok-Root-clause-done g t c =
@@ -757,7 +759,7 @@ choices::resume_choice-returns-in-Some-Added-clause-kept g t c =
 pub choices::start_choice-feed_added-requires : goal.choices::start_choice-feed_added-requires
 choices::start_choice-feed_added-requires g t c κs within =
     let told : Spells g.R.ReadLeaves.rules.ruling.fielding (IndexOf g.R.ReadLeaves.rules (length c.args.root.now) (added_alternatives (more_alternatives_of c.args.ext.now))) (inr c.in-Ok-Added.index) (g.R.ReadLeaves.rules.to_units c.args.begun ++ g.R.ReadLeaves.rules.to_units c.args.units.now) (g.R.ReadLeaves.rules.to_units c.feed_leaf.new.units) = rw (c.addition_count.ensures, ← more_count c.args.ext.now, c.in-Ok-Added.field-0-is) at c.in-Ok-Added.ensures.done in
-    (search (rules, the_lemmas), (within.0, (within.1, (c.in-Ok-Added.ensures.at_unit, (c.requires.of_profile, (c.requires.parts, (((g.R.ReadLeaves.rules.to_units c.args.begun ++ g.R.ReadLeaves.rules.to_units c.args.units.now), (rw c.in-Ok-Added.index-is (addition_starts g.R.ReadLeaves.rules c.keep_laws.ensures g.R.FeedLeaves.fields g.R.ReadLeaves.ahead g.R.ReadLeaves.is_between c.args.root.now c.args.ext.now c.requires.of_profile c.in-Ok-Added.index (nodes c.args.frames.now) (g.R.ReadLeaves.rules.to_units c.args.begun ++ g.R.ReadLeaves.rules.to_units c.args.units.now) (g.R.ReadLeaves.rules.to_units c.feed_leaf.new.units) told c.requires.empty))), omega (arith, c.in-Ok-Added.ensures.ticked, c.requires.few))))))))
+    (search (rules, the_lemmas), (within.0, (within.1, (c.in-Ok-Added.ensures.at_unit, (c.requires.of_profile, (c.requires.parts, (((g.R.ReadLeaves.rules.to_units c.args.begun ++ g.R.ReadLeaves.rules.to_units c.args.units.now), (rw c.in-Ok-Added.index-is (addition_starts g.R.ReadLeaves.rules c.keep_laws.ensures g.R.FeedLeaves.fields g.R.ReadLeaves.ahead g.R.ReadLeaves.is_between c.args.root.now c.args.ext.now c.requires.of_profile c.in-Ok-Added.index (nodes c.args.frames.now) (g.R.ReadLeaves.rules.to_units c.args.begun ++ g.R.ReadLeaves.rules.to_units c.args.units.now) (g.R.ReadLeaves.rules.to_units c.feed_leaf.new.units) told c.requires.empty))), still_below c.in-Ok-Added.ensures.ticked c.requires.few)))))))
 
 pub choices::start_choice-returns-in-Ok-Added-clause-done : goal.choices::start_choice-returns-in-Ok-Added-clause-done
 choices::start_choice-returns-in-Ok-Added-clause-done g t c =
@@ -935,7 +937,7 @@ open_fields::read_complete-returns-in_err-read_padding-clause-stop g t c =
 
 pub open_fields::read_complete-take_to-requires : goal.open_fields::read_complete-take_to-requires
 open_fields::read_complete-take_to-requires g t c =
-    record { at_unit = c.in_ok-value.ensures.at_unit; ahead = c.in_ok-read_padding.ensures.at_unit; after = left_fewer (rw ((c.units_left-given.ensures ∙ ap (λ (xs : List ℕ). length (g.R.ReadLeaves.rules.to_units xs)) c.ahead.ensures), c.ahead-ahead.ensures) at c.in_ok-read_padding.ensures.done); few = omega (arith, c.in_ok-value.ensures.ticked, c.requires.few) }
+    record { at_unit = c.in_ok-value.ensures.at_unit; ahead = c.in_ok-read_padding.ensures.at_unit; after = left_fewer (rw ((c.units_left-given.ensures ∙ ap (λ (xs : List ℕ). length (g.R.ReadLeaves.rules.to_units xs)) c.ahead.ensures), c.ahead-ahead.ensures) at c.in_ok-read_padding.ensures.done); few = still_below c.in_ok-value.ensures.ticked c.requires.few }
 
 pub open_fields::read_complete-returns-clause-done : goal.open_fields::read_complete-returns-clause-done
 open_fields::read_complete-returns-clause-done g t c =
@@ -961,7 +963,7 @@ sequences::feed_sequence-end_sequence-requires g t c κs within =
     let k = c.in-Ok.ensures.done (more_fields_of c.args.ext.now) c.requires.of_profile all c.requires.reached.1 in
     let over = none_left c.args.root.now (length c.feed_components.new.read.entries.items) c.in-Ok.ensures.over in
     let none = root_emptied g.R.ReadLeaves.rules c.keep_laws.ensures g.R.FeedLeaves.fields g.R.ReadLeaves.ahead g.R.ReadLeaves.is_between (fields_seen c.args.root.now) (more_fields_of c.args.ext.now) c.requires.of_profile c.feed_components.new.read (nodes c.feed_components.new.frames) all (g.R.ReadLeaves.rules.to_units c.feed_components.new.units) over k in
-    (search (rules, the_lemmas), (within.0, (within.1, (c.in-Ok.ensures.at_unit, (c.requires.of_profile, (c.requires.parts, (none, (c.in-Ok.ensures.over, ((all, k), omega (arith, c.in-Ok.ensures.ticked, c.requires.few))))))))))
+    (search (rules, the_lemmas), (within.0, (within.1, (c.in-Ok.ensures.at_unit, (c.requires.of_profile, (c.requires.parts, (none, (c.in-Ok.ensures.over, ((all, k), still_below c.in-Ok.ensures.ticked c.requires.few)))))))))
 
 -- ---- the extension additions
 
@@ -1005,7 +1007,7 @@ additions::feed_bitmap-feed_additions-requires g t c κs within =
     let all = c.requires.reached.0 in
     let h = c.requires.reached.1 in
     let few : length c.args.additions.now ≤ 64 = few_added c.args.additions.now refl c.requires.of_profile in
-    (search (rules, the_lemmas), (within.0, (within.1, (c.in-Ok.ensures.at_unit, (c.requires.of_profile, ((all, (additions_start g.R.ReadLeaves.rules c.keep_laws.ensures c.keep_feed_laws.ensures g.R.FeedLeaves.fields g.R.ReadLeaves.ahead g.R.ReadLeaves.is_between (fields_seen c.args.root.now) c.args.additions.now c.requires.of_profile c.args.part _ (nodes c.args.frames.now) all (g.R.ReadLeaves.rules.to_units c.args.units.now) (g.R.ReadLeaves.rules.to_units c.feed_leaf.new.units) h c.in-Ok.ensures.done refl few refl c.requires.empty)), omega (arith, c.in-Ok.ensures.ticked, c.requires.few)))))))
+    (search (rules, the_lemmas), (within.0, (within.1, (c.in-Ok.ensures.at_unit, (c.requires.of_profile, ((all, (additions_start g.R.ReadLeaves.rules c.keep_laws.ensures c.keep_feed_laws.ensures g.R.FeedLeaves.fields g.R.ReadLeaves.ahead g.R.ReadLeaves.is_between (fields_seen c.args.root.now) c.args.additions.now c.requires.of_profile c.args.part _ (nodes c.args.frames.now) all (g.R.ReadLeaves.rules.to_units c.args.units.now) (g.R.ReadLeaves.rules.to_units c.feed_leaf.new.units) h c.in-Ok.ensures.done refl few refl c.requires.empty)), still_below c.in-Ok.ensures.ticked c.requires.few))))))
 
 pub additions::feed_bitmap-returns-in-Ok-clause-done : goal.additions::feed_bitmap-returns-in-Ok-clause-done
 additions::feed_bitmap-returns-in-Ok-clause-done g t c =
@@ -1050,17 +1052,17 @@ additions::feed_open_fields-feed_addition-requires g t c κs within =
     let inv = c.loop-read.invariant in
     let w = left_within g.R.ReadLeaves.rules c.keep_laws.ensures c.keep_feed_laws.ensures g.R.FeedLeaves.fields g.R.ReadLeaves.ahead g.R.ReadLeaves.is_between (fields_seen c.args._root.now) c.args.additions.now c.requires.of_profile c.loop-read.read (nodes c.loop-read.frames) c.requires.reached.0 (g.R.ReadLeaves.rules.to_units c.loop-read.units) (inv.0 c.requires.reached.0 c.requires.reached.1) in
     let i = length c.args.additions.now - c.loop-read.read.presence.left in
-    let at : i + c.loop-read.read.presence.left ≡ length c.args.additions.now = omega (arith, w.0) in
-    let inside : i < length c.args.additions.now = omega (arith, at, c.loop-read-test.true) in
+    let at : i + c.loop-read.read.presence.left ≡ length c.args.additions.now = sub-add_cancel w.0 in
+    let inside : i < length c.args.additions.now = next_inside w.0 c.loop-read-test.true in
     let x = next_addition g.R.ReadLeaves.rules c.keep_laws.ensures c.keep_feed_laws.ensures g.R.FeedLeaves.fields g.R.ReadLeaves.ahead g.R.ReadLeaves.is_between (fields_seen c.args._root.now) c.args.additions.now c.requires.of_profile c.loop-read.read (nodes c.loop-read.frames) c.index-additions-index.result i c.next-present.result c.next-present.new.self.left c.requires.reached.0 (g.R.ReadLeaves.rules.to_units c.loop-read.units) at c.index-additions-index.is c.next-present.ensures.bit.0 c.next-present.ensures.bit.1 (c.loop-read.invariant.0 c.requires.reached.0 c.requires.reached.1) in
-    (search (rules, the_lemmas), (within.0, (within.1, (inv.2, (x.good_shape, ((x.come, x.took), omega (arith, inv.1, c.requires.few)))))))
+    (search (rules, the_lemmas), (within.0, (within.1, (inv.2, (x.good_shape, ((x.come, x.took), still_below inv.1 c.requires.few))))))
 
 pub additions::feed_open_fields-next-present-requires : goal.additions::feed_open_fields-next-present-requires
 additions::feed_open_fields-next-present-requires g t c =
     let inv = c.loop-read.invariant in
     let w = left_within g.R.ReadLeaves.rules c.keep_laws.ensures c.keep_feed_laws.ensures g.R.FeedLeaves.fields g.R.ReadLeaves.ahead g.R.ReadLeaves.is_between (fields_seen c.args._root.now) c.args.additions.now c.requires.of_profile c.loop-read.read (nodes c.loop-read.frames) c.requires.reached.0 (g.R.ReadLeaves.rules.to_units c.loop-read.units) (inv.0 c.requires.reached.0 c.requires.reached.1) in
     let i = length c.args.additions.now - c.loop-read.read.presence.left in
-    let at : i + c.loop-read.read.presence.left ≡ length c.args.additions.now = omega (arith, w.0) in
+    let at : i + c.loop-read.read.presence.left ≡ length c.args.additions.now = sub-add_cancel w.0 in
     record { some = c.loop-read-test.true; few = w.1 }
 
 pub additions::feed_open_fields-returns-in_err-entry-clause-stop : goal.additions::feed_open_fields-returns-in_err-entry-clause-stop
@@ -1068,7 +1070,7 @@ additions::feed_open_fields-returns-in_err-entry-clause-stop g t c =
     let inv = c.loop-read.invariant in
     let w = left_within g.R.ReadLeaves.rules c.keep_laws.ensures c.keep_feed_laws.ensures g.R.FeedLeaves.fields g.R.ReadLeaves.ahead g.R.ReadLeaves.is_between (fields_seen c.args._root.now) c.args.additions.now c.requires.of_profile c.loop-read.read (nodes c.loop-read.frames) c.requires.reached.0 (g.R.ReadLeaves.rules.to_units c.loop-read.units) (inv.0 c.requires.reached.0 c.requires.reached.1) in
     let i = length c.args.additions.now - c.loop-read.read.presence.left in
-    let at : i + c.loop-read.read.presence.left ≡ length c.args.additions.now = omega (arith, w.0) in
+    let at : i + c.loop-read.read.presence.left ≡ length c.args.additions.now = sub-add_cancel w.0 in
     let p = err_from_is_err_and c.from_residual.result c.from_residual.ensures.1 in
     rw (p.1, p.2) (λ all h. (let x = next_addition g.R.ReadLeaves.rules c.keep_laws.ensures c.keep_feed_laws.ensures g.R.FeedLeaves.fields g.R.ReadLeaves.ahead g.R.ReadLeaves.is_between (fields_seen c.args._root.now) c.args.additions.now c.requires.of_profile c.loop-read.read (nodes c.loop-read.frames) c.index-additions-index.result i c.next-present.result c.next-present.new.self.left all (g.R.ReadLeaves.rules.to_units c.loop-read.units) at c.index-additions-index.is c.next-present.ensures.bit.0 c.next-present.ensures.bit.1 (c.loop-read.invariant.0 all h) in x.stops _ (c.in_err-entry.ensures.stop x.come x.took)))
 
@@ -1078,7 +1080,7 @@ additions::feed_open_fields-returns-in_err-entry-clause-kept g t c =
     let inv = c.loop-read.invariant in
     let w = left_within g.R.ReadLeaves.rules c.keep_laws.ensures c.keep_feed_laws.ensures g.R.FeedLeaves.fields g.R.ReadLeaves.ahead g.R.ReadLeaves.is_between (fields_seen c.args._root.now) c.args.additions.now c.requires.of_profile c.loop-read.read (nodes c.loop-read.frames) c.requires.reached.0 (g.R.ReadLeaves.rules.to_units c.loop-read.units) (inv.0 c.requires.reached.0 c.requires.reached.1) in
     let i = length c.args.additions.now - c.loop-read.read.presence.left in
-    let at : i + c.loop-read.read.presence.left ≡ length c.args.additions.now = omega (arith, w.0) in
+    let at : i + c.loop-read.read.presence.left ≡ length c.args.additions.now = sub-add_cancel w.0 in
     let p = err_from_is_err_and c.from_residual.result c.from_residual.ensures.1 in
     let w : c.in_err-entry.field-0.0 ≡ stop.Short = cc (p.1, p.2, e) in
     let x = next_addition g.R.ReadLeaves.rules c.keep_laws.ensures c.keep_feed_laws.ensures g.R.FeedLeaves.fields g.R.ReadLeaves.ahead g.R.ReadLeaves.is_between (fields_seen c.args._root.now) c.args.additions.now c.requires.of_profile c.loop-read.read (nodes c.loop-read.frames) c.index-additions-index.result i c.next-present.result c.next-present.new.self.left all (g.R.ReadLeaves.rules.to_units c.loop-read.units) at c.index-additions-index.is c.next-present.ensures.bit.0 c.next-present.ensures.bit.1 (c.loop-read.invariant.0 all h) in
@@ -1089,12 +1091,12 @@ additions::feed_open_fields-loop-read-preserved g t c =
     let inv = c.loop-read.invariant in
     let w = left_within g.R.ReadLeaves.rules c.keep_laws.ensures c.keep_feed_laws.ensures g.R.FeedLeaves.fields g.R.ReadLeaves.ahead g.R.ReadLeaves.is_between (fields_seen c.args._root.now) c.args.additions.now c.requires.of_profile c.loop-read.read (nodes c.loop-read.frames) c.requires.reached.0 (g.R.ReadLeaves.rules.to_units c.loop-read.units) (inv.0 c.requires.reached.0 c.requires.reached.1) in
     let i = length c.args.additions.now - c.loop-read.read.presence.left in
-    let at : i + c.loop-read.read.presence.left ≡ length c.args.additions.now = omega (arith, w.0) in (
+    let at : i + c.loop-read.read.presence.left ≡ length c.args.additions.now = sub-add_cancel w.0 in (
       λ all h. (let x = next_addition g.R.ReadLeaves.rules c.keep_laws.ensures c.keep_feed_laws.ensures g.R.FeedLeaves.fields g.R.ReadLeaves.ahead g.R.ReadLeaves.is_between (fields_seen c.args._root.now) c.args.additions.now c.requires.of_profile c.loop-read.read (nodes c.loop-read.frames) c.index-additions-index.result i c.next-present.result c.next-present.new.self.left all (g.R.ReadLeaves.rules.to_units c.loop-read.units) at c.index-additions-index.is c.next-present.ensures.bit.0 c.next-present.ensures.bit.1 (c.loop-read.invariant.0 all h) in x.further _ (nodes c.feed_addition.new.frames) c.in_ok-entry.entry (g.R.ReadLeaves.rules.to_units c.feed_addition.new.units) c.next-present.ensures.bitmap refl c.in_ok-push.ensures.items c.in_ok-entry.ensures.emptied (c.in_ok-entry.ensures.done x.come x.took)),
-      omega (arith, inv.1, c.in_ok-entry.ensures.ticked),
+      c.in_ok-entry.ensures.ticked ∙ inv.1,
       c.in_ok-entry.ensures.at_unit,
-      omega (arith, inv.3, c.in_ok-entry.ensures.rising),
-      costs_last (costs_then c.loop-read.invariant.4 c.feed_addition.ensures.inside (omega arith) (depth_of_addition c.args.additions.now i c.index-additions-index.result (omega (arith, at, c.loop-read-test.true)) c.index-additions-index.is) (λ n o. o)) (omega arith) (none_come g.R.ReadLeaves.rules g.R.FeedLeaves.fields g.R.ReadLeaves.ahead g.R.ReadLeaves.is_between (nodes c.feed_addition.new.frames) c.in_ok-entry.ensures.emptied) refl (omega arith),
+      le_trans inv.3 c.in_ok-entry.ensures.rising,
+      costs_last (costs_then c.loop-read.invariant.4 c.feed_addition.ensures.inside (le_refl _) (depth_of_addition c.args.additions.now i c.index-additions-index.result (next_inside w.0 c.loop-read-test.true) c.index-additions-index.is) (λ n o. o)) (le_refl _) (none_come g.R.ReadLeaves.rules g.R.FeedLeaves.fields g.R.ReadLeaves.ahead g.R.ReadLeaves.is_between (nodes c.feed_addition.new.frames) c.in_ok-entry.ensures.emptied) refl (le_refl _),
     )
 
 -- ---- one addition
@@ -1173,7 +1175,7 @@ pub additions::feed_open_fields-bounds-additions-index : goal.additions::feed_op
 additions::feed_open_fields-bounds-additions-index g t c =
     let inv = c.loop-read.invariant in
     let w = left_within g.R.ReadLeaves.rules c.keep_laws.ensures c.keep_feed_laws.ensures g.R.FeedLeaves.fields g.R.ReadLeaves.ahead g.R.ReadLeaves.is_between (fields_seen c.args._root.now) c.args.additions.now c.requires.of_profile c.loop-read.read (nodes c.loop-read.frames) c.requires.reached.0 (g.R.ReadLeaves.rules.to_units c.loop-read.units) (inv.0 c.requires.reached.0 c.requires.reached.1) in
-    omega (arith, w.0, c.loop-read-test.true)
+    next_inside w.0 c.loop-read-test.true
 
 pub additions::feed_open_fields-offset_bounds-additions-index : goal.additions::feed_open_fields-offset_bounds-additions-index
 additions::feed_open_fields-offset_bounds-additions-index g t c =
@@ -1259,104 +1261,104 @@ values::feed-returns-in-Choice-clause-inside g t c =
 
 pub values::feed-returns-in-Bool-clause-inside : goal.values::feed-returns-in-Bool-clause-inside
 values::feed-returns-in-Bool-clause-inside g t c =
-    costs_like c.feed_scalar.ensures.inside (omega arith) (λ n o. tt) (λ n o. o)
+    costs_like c.feed_scalar.ensures.inside (no_levels _) (λ n o. tt) (λ n o. o)
 
 pub values::feed-returns-in-Bits-clause-inside : goal.values::feed-returns-in-Bits-clause-inside
 values::feed-returns-in-Bits-clause-inside g t c =
-    costs_like c.feed_string.ensures.inside (omega arith) (λ n o. tt) (λ n o. o)
+    costs_like c.feed_string.ensures.inside (no_levels _) (λ n o. tt) (λ n o. o)
 
 pub lists::resume_list-returns-in-Some-Elements-clause-inside : goal.lists::resume_list-returns-in-Some-Elements-clause-inside
 lists::resume_list-returns-in-Some-Elements-clause-inside g t c =
-    costs_like c.feed_list.ensures.inside (omega arith) (λ n o. open_elements g.R.ReadLeaves.rules g.R.FeedLeaves.fields g.R.ReadLeaves.ahead g.R.ReadLeaves.is_between c.args.node c.in-Some-Elements.field-0 c.in-Some-Elements.list (nodes c.args.frames.now) n c.in-Some-Elements.is c.in-Some-Elements.field-0-is o) (λ n o. o)
+    costs_like c.feed_list.ensures.inside (le_refl _) (λ n o. open_elements g.R.ReadLeaves.rules g.R.FeedLeaves.fields g.R.ReadLeaves.ahead g.R.ReadLeaves.is_between c.args.node c.in-Some-Elements.field-0 c.in-Some-Elements.list (nodes c.args.frames.now) n c.in-Some-Elements.is c.in-Some-Elements.field-0-is o) (λ n o. o)
 
 pub lists::resume_list-returns-in-Some-Start-clause-inside : goal.lists::resume_list-returns-in-Some-Start-clause-inside
 lists::resume_list-returns-in-Some-Start-clause-inside g t c =
-    costs_like c.start_list.ensures.inside (omega arith) (λ n o. tt) (λ n o. o)
+    costs_like c.start_list.ensures.inside (le_refl _) (λ n o. tt) (λ n o. o)
 
 pub lists::resume_list-returns-in-None-clause-inside : goal.lists::resume_list-returns-in-None-clause-inside
 lists::resume_list-returns-in-None-clause-inside g t c =
-    costs_like c.start_list-in-None.ensures.inside (omega arith) (λ n o. tt) (λ n o. o)
+    costs_like c.start_list-in-None.ensures.inside (le_refl _) (λ n o. tt) (λ n o. o)
 
 pub lists::start_list-returns-in-Ok-clause-inside : goal.lists::start_list-returns-in-Ok-clause-inside
 lists::start_list-returns-in-Ok-clause-inside g t c =
-    costs_after c.feed_list.ensures.inside (omega arith) c.feed_leaf.ensures.inside (omega (arith, c.feed_leaf.ensures.ticked, c.feed_leaf.ensures.rising)) (none_open g.R.ReadLeaves.rules g.R.FeedLeaves.fields g.R.ReadLeaves.ahead g.R.ReadLeaves.is_between (nodes c.args.frames.now) c.requires.empty)
+    costs_after c.feed_list.ensures.inside (le_refl _) c.feed_leaf.ensures.inside (fewer_left c.feed_leaf.ensures.rising c.feed_leaf.ensures.ticked) (none_open g.R.ReadLeaves.rules g.R.FeedLeaves.fields g.R.ReadLeaves.ahead g.R.ReadLeaves.is_between (nodes c.args.frames.now) c.requires.empty)
 
 pub lists::start_list-returns-in-Ok-put-clause-inside : goal.lists::start_list-returns-in-Ok-put-clause-inside
 lists::start_list-returns-in-Ok-put-clause-inside g t c =
-    costs_same c.feed_leaf.ensures.inside (omega (arith, c.feed_leaf.ensures.ticked, c.feed_leaf.ensures.rising)) (λ e. rw c.in-Ok-put.ensures refl)
+    costs_same c.feed_leaf.ensures.inside (fewer_left c.feed_leaf.ensures.rising c.feed_leaf.ensures.ticked) (λ e. rw c.in-Ok-put.ensures refl)
 
 pub lists::start_list-returns-in-Err-clause-inside : goal.lists::start_list-returns-in-Err-clause-inside
 lists::start_list-returns-in-Err-clause-inside g t c =
-    costs_same c.feed_leaf.ensures.inside (omega (arith, c.feed_leaf.ensures.ticked, c.feed_leaf.ensures.rising)) (λ e. never (ap is_short e))
+    costs_same c.feed_leaf.ensures.inside (fewer_left c.feed_leaf.ensures.rising c.feed_leaf.ensures.ticked) (λ e. never (ap is_short e))
 
 pub lists::start_list-returns-in-Err-Refused-clause-inside : goal.lists::start_list-returns-in-Err-Refused-clause-inside
 lists::start_list-returns-in-Err-Refused-clause-inside g t c =
-    costs_same c.feed_leaf.ensures.inside (omega (arith, c.feed_leaf.ensures.ticked, c.feed_leaf.ensures.rising)) (λ e. never (ap is_short e))
+    costs_same c.feed_leaf.ensures.inside (fewer_left c.feed_leaf.ensures.rising c.feed_leaf.ensures.ticked) (λ e. never (ap is_short e))
 
 pub lists::start_list-returns-in-Err-Memory-clause-inside : goal.lists::start_list-returns-in-Err-Memory-clause-inside
 lists::start_list-returns-in-Err-Memory-clause-inside g t c =
-    costs_same c.feed_leaf.ensures.inside (omega (arith, c.feed_leaf.ensures.ticked, c.feed_leaf.ensures.rising)) (λ e. never (ap is_short e))
+    costs_same c.feed_leaf.ensures.inside (fewer_left c.feed_leaf.ensures.rising c.feed_leaf.ensures.ticked) (λ e. never (ap is_short e))
 
 pub lists::feed_list-returns-in-Ok-clause-inside : goal.lists::feed_list-returns-in-Ok-clause-inside
 lists::feed_list-returns-in-Ok-clause-inside g t c =
-    costs_like c.feed_elements.ensures.inside (omega arith) (λ n o. o) (λ n o e. never (ap is_short e))
+    costs_like c.feed_elements.ensures.inside (le_refl _) (λ n o. o) (λ n o e. never (ap is_short e))
 
 pub lists::feed_list-returns-in-Ok-put-clause-inside : goal.lists::feed_list-returns-in-Ok-put-clause-inside
 lists::feed_list-returns-in-Ok-put-clause-inside g t c =
-    costs_like c.feed_elements.ensures.inside (omega arith) (λ n o. o) (λ n o e. rw c.in-Ok-put.ensures (o (cc (c.in-Err-Short.is, c.in-Err-Short.field-0-is))))
+    costs_like c.feed_elements.ensures.inside (le_refl _) (λ n o. o) (λ n o e. rw c.in-Ok-put.ensures (o (cc (c.in-Err-Short.is, c.in-Err-Short.field-0-is))))
 
 pub lists::feed_list-returns-in-Err-clause-inside : goal.lists::feed_list-returns-in-Err-clause-inside
 lists::feed_list-returns-in-Err-clause-inside g t c =
-    costs_like c.feed_elements.ensures.inside (omega arith) (λ n o. o) (λ n o e. never (ap is_short e))
+    costs_like c.feed_elements.ensures.inside (le_refl _) (λ n o. o) (λ n o e. never (ap is_short e))
 
 pub lists::feed_list-returns-in-Err-Refused-clause-inside : goal.lists::feed_list-returns-in-Err-Refused-clause-inside
 lists::feed_list-returns-in-Err-Refused-clause-inside g t c =
-    costs_like c.feed_elements.ensures.inside (omega arith) (λ n o. o) (λ n o e. never (ap is_short e))
+    costs_like c.feed_elements.ensures.inside (le_refl _) (λ n o. o) (λ n o e. never (ap is_short e))
 
 pub lists::feed_list-returns-in-Err-Memory-clause-inside : goal.lists::feed_list-returns-in-Err-Memory-clause-inside
 lists::feed_list-returns-in-Err-Memory-clause-inside g t c =
-    costs_like c.feed_elements.ensures.inside (omega arith) (λ n o. o) (λ n o e. never (ap is_short e))
+    costs_like c.feed_elements.ensures.inside (le_refl _) (λ n o. o) (λ n o e. never (ap is_short e))
 
 pub lists::feed_elements-returns-in_err-feed_fragment-clause-inside : goal.lists::feed_elements-returns-in_err-feed_fragment-clause-inside
 lists::feed_elements-returns-in_err-feed_fragment-clause-inside g t c =
     let p = err_from_is_err_and c.from_residual.result c.from_residual.ensures.1 in
-    costs_like {d' = sealed_depth (shape_of c.args.element.now)} (costs_then c.loop-alloc.invariant.4 c.in_err-feed_fragment.ensures.inside (omega arith) (omega arith) (λ n o. o)) (omega arith) (λ n o. o) (λ n o e. o (cc (p.1, p.2, e)))
+    costs_like {d' = sealed_depth (shape_of c.args.element.now)} (costs_then c.loop-alloc.invariant.4 c.in_err-feed_fragment.ensures.inside (le_refl _) (le_refl _) (λ n o. o)) (le_refl _) (λ n o. o) (λ n o e. o (cc (p.1, p.2, e)))
 
 pub lists::feed_elements-returns-in_err-next_fragment-clause-inside : goal.lists::feed_elements-returns-in_err-next_fragment-clause-inside
 lists::feed_elements-returns-in_err-next_fragment-clause-inside g t c =
     let none = (length_ahead g.R.ReadLeaves.rules c.keep_laws.ensures c.keep_feed_laws.ensures g.R.FeedLeaves.fields g.R.ReadLeaves.ahead g.R.ReadLeaves.is_between (shape_of c.args.element.now) (size_range_of c.args.size.now) c.requires.of_profile c.feed_fragment.new.list (nodes c.feed_fragment.new.frames) c.requires.reached.0 (g.R.ReadLeaves.rules.to_units c.feed_fragment.new.units) c.in_ok-feed_fragment.ensures.over (c.in_ok-feed_fragment.ensures.done (size_range_of c.args.size.now) c.requires.of_profile c.requires.reached.0 (c.loop-alloc.invariant.0 c.requires.reached.0 c.requires.reached.1))).none in
-    costs_last {d1 = sealed_depth (shape_of c.args.element.now)} (costs_then c.loop-alloc.invariant.4 c.feed_fragment.ensures.inside (omega arith) (omega arith) (λ n o. o)) (omega arith) (λ e. none_open g.R.ReadLeaves.rules g.R.FeedLeaves.fields g.R.ReadLeaves.ahead g.R.ReadLeaves.is_between (nodes c.feed_fragment.new.frames) none) c.next_fragment.ensures.inside (omega (arith, c.next_fragment.ensures.ticked, c.next_fragment.ensures.rising))
+    costs_last {d1 = sealed_depth (shape_of c.args.element.now)} (costs_then c.loop-alloc.invariant.4 c.feed_fragment.ensures.inside (le_refl _) (le_refl _) (λ n o. o)) (le_refl _) (λ e. none_open g.R.ReadLeaves.rules g.R.FeedLeaves.fields g.R.ReadLeaves.ahead g.R.ReadLeaves.is_between (nodes c.feed_fragment.new.frames) none) c.next_fragment.ensures.inside (fewer_left c.next_fragment.ensures.rising c.next_fragment.ensures.ticked)
 
 pub lists::feed_elements-returns-then-not-branch-clause-inside : goal.lists::feed_elements-returns-then-not-branch-clause-inside
 lists::feed_elements-returns-then-not-branch-clause-inside g t c =
     let none = (length_ahead g.R.ReadLeaves.rules c.keep_laws.ensures c.keep_feed_laws.ensures g.R.FeedLeaves.fields g.R.ReadLeaves.ahead g.R.ReadLeaves.is_between (shape_of c.args.element.now) (size_range_of c.args.size.now) c.requires.of_profile c.feed_fragment.new.list (nodes c.feed_fragment.new.frames) c.requires.reached.0 (g.R.ReadLeaves.rules.to_units c.feed_fragment.new.units) c.in_ok-feed_fragment.ensures.over (c.in_ok-feed_fragment.ensures.done (size_range_of c.args.size.now) c.requires.of_profile c.requires.reached.0 (c.loop-alloc.invariant.0 c.requires.reached.0 c.requires.reached.1))).none in
-    costs_last {d1 = sealed_depth (shape_of c.args.element.now)} (costs_then c.loop-alloc.invariant.4 c.feed_fragment.ensures.inside (omega arith) (omega arith) (λ n o. o)) (omega arith) (λ e. never (ap is_short e)) c.next_fragment.ensures.inside (omega (arith, c.next_fragment.ensures.ticked, c.next_fragment.ensures.rising))
+    costs_last {d1 = sealed_depth (shape_of c.args.element.now)} (costs_then c.loop-alloc.invariant.4 c.feed_fragment.ensures.inside (le_refl _) (le_refl _) (λ n o. o)) (le_refl _) (λ e. never (ap is_short e)) c.next_fragment.ensures.inside (fewer_left c.next_fragment.ensures.rising c.next_fragment.ensures.ticked)
 
 pub lists::feed_fragment-returns-in_err-value-clause-inside : goal.lists::feed_fragment-returns-in_err-value-clause-inside
 lists::feed_fragment-returns-in_err-value-clause-inside g t c =
     let p = err_from_is_err_and c.from_residual.result c.from_residual.ensures.1 in
-    costs_like {d' = sealed_depth (shape_of c.args.element.now)} (costs_then c.loop-list.invariant.6 c.in_err-value.ensures.inside (omega arith) (omega arith) (λ n o. o)) (omega arith) (λ n o. o) (λ n o e. o (cc (p.1, p.2, e)))
+    costs_like {d' = sealed_depth (shape_of c.args.element.now)} (costs_then c.loop-list.invariant.6 c.in_err-value.ensures.inside (le_refl _) (le_refl _) (λ n o. o)) (le_refl _) (λ n o. o) (λ n o e. o (cc (p.1, p.2, e)))
 
 pub lists::feed_fragment-returns-in_err-push-clause-inside : goal.lists::feed_fragment-returns-in_err-push-clause-inside
 lists::feed_fragment-returns-in_err-push-clause-inside g t c =
     let p = err_from_is_err_and c.from_residual-in_err-push.result c.from_residual-in_err-push.ensures.1 in
-    costs_like {d' = sealed_depth (shape_of c.args.element.now)} (costs_then c.loop-list.invariant.6 c.feed_element.ensures.inside (omega arith) (omega arith) (λ n o. o)) (omega arith) (λ n o. o) (λ n o e. absurd (let z : stop.Memory ≡ stop.Short = cc (p.1, p.2, e) in cc))
+    costs_like {d' = sealed_depth (shape_of c.args.element.now)} (costs_then c.loop-list.invariant.6 c.feed_element.ensures.inside (le_refl _) (le_refl _) (λ n o. o)) (le_refl _) (λ n o. o) (λ n o e. absurd (let z : stop.Memory ≡ stop.Short = cc (p.1, p.2, e) in cc))
 
 pub lists::feed_fragment-returns-clause-inside : goal.lists::feed_fragment-returns-clause-inside
 lists::feed_fragment-returns-clause-inside g t c =
-    costs_like c.loop-list.invariant.6 (omega arith) (λ n o. o) (λ n o e. never (ap is_short e))
+    costs_like c.loop-list.invariant.6 (le_refl _) (λ n o. o) (λ n o e. never (ap is_short e))
 
 pub sequences::resume_sequence-returns-in-Some-Components-clause-inside : goal.sequences::resume_sequence-returns-in-Some-Components-clause-inside
 sequences::resume_sequence-returns-in-Some-Components-clause-inside g t c =
-    costs_like c.feed_sequence.ensures.inside (omega arith) (λ n o. open_components g.R.ReadLeaves.rules g.R.FeedLeaves.fields g.R.ReadLeaves.ahead g.R.ReadLeaves.is_between c.args.node c.in-Some-Components.field-0 c.in-Some-Components.read (nodes c.args.frames.now) n c.in-Some-Components.is c.in-Some-Components.field-0-is o) (λ n o. o)
+    costs_like c.feed_sequence.ensures.inside (le_refl _) (λ n o. open_components g.R.ReadLeaves.rules g.R.FeedLeaves.fields g.R.ReadLeaves.ahead g.R.ReadLeaves.is_between c.args.node c.in-Some-Components.field-0 c.in-Some-Components.read (nodes c.args.frames.now) n c.in-Some-Components.is c.in-Some-Components.field-0-is o) (λ n o. o)
 
 pub sequences::resume_sequence-returns-in-Some-Start-clause-inside : goal.sequences::resume_sequence-returns-in-Some-Start-clause-inside
 sequences::resume_sequence-returns-in-Some-Start-clause-inside g t c =
-    costs_like c.start_sequence.ensures.inside (omega arith) (λ n o. tt) (λ n o. o)
+    costs_like c.start_sequence.ensures.inside (le_refl _) (λ n o. tt) (λ n o. o)
 
 pub sequences::resume_sequence-returns-in-None-clause-inside : goal.sequences::resume_sequence-returns-in-None-clause-inside
 sequences::resume_sequence-returns-in-None-clause-inside g t c =
-    costs_like c.start_sequence-in-None.ensures.inside (omega arith) (λ n o. tt) (λ n o. o)
+    costs_like c.start_sequence-in-None.ensures.inside (le_refl _) (λ n o. tt) (λ n o. o)
 
 pub sequences::resume_sequence-returns-in-Some-clause-inside : goal.sequences::resume_sequence-returns-in-Some-clause-inside
 sequences::resume_sequence-returns-in-Some-clause-inside g t c =
@@ -1368,27 +1370,27 @@ sequences::resume_sequence-returns-in-Some-ext-clause-inside g t c =
 
 pub sequences::start_sequence-returns-in-Ok-clause-inside : goal.sequences::start_sequence-returns-in-Ok-clause-inside
 sequences::start_sequence-returns-in-Ok-clause-inside g t c =
-    costs_after c.feed_sequence.ensures.inside (omega arith) c.feed_leaf.ensures.inside (omega (arith, c.feed_leaf.ensures.ticked, c.feed_leaf.ensures.rising)) (none_open g.R.ReadLeaves.rules g.R.FeedLeaves.fields g.R.ReadLeaves.ahead g.R.ReadLeaves.is_between (nodes c.args.frames.now) c.requires.empty)
+    costs_after c.feed_sequence.ensures.inside (le_refl _) c.feed_leaf.ensures.inside (fewer_left c.feed_leaf.ensures.rising c.feed_leaf.ensures.ticked) (none_open g.R.ReadLeaves.rules g.R.FeedLeaves.fields g.R.ReadLeaves.ahead g.R.ReadLeaves.is_between (nodes c.args.frames.now) c.requires.empty)
 
 pub sequences::start_sequence-returns-in-Ok-put-clause-inside : goal.sequences::start_sequence-returns-in-Ok-put-clause-inside
 sequences::start_sequence-returns-in-Ok-put-clause-inside g t c =
-    costs_same c.feed_leaf.ensures.inside (omega (arith, c.feed_leaf.ensures.ticked, c.feed_leaf.ensures.rising)) (λ e. rw c.in-Ok-put.ensures refl)
+    costs_same c.feed_leaf.ensures.inside (fewer_left c.feed_leaf.ensures.rising c.feed_leaf.ensures.ticked) (λ e. rw c.in-Ok-put.ensures refl)
 
 pub sequences::start_sequence-returns-in-Err-clause-inside : goal.sequences::start_sequence-returns-in-Err-clause-inside
 sequences::start_sequence-returns-in-Err-clause-inside g t c =
-    costs_same c.feed_leaf.ensures.inside (omega (arith, c.feed_leaf.ensures.ticked, c.feed_leaf.ensures.rising)) (λ e. never (ap is_short e))
+    costs_same c.feed_leaf.ensures.inside (fewer_left c.feed_leaf.ensures.rising c.feed_leaf.ensures.ticked) (λ e. never (ap is_short e))
 
 pub sequences::start_sequence-returns-in-Err-Refused-clause-inside : goal.sequences::start_sequence-returns-in-Err-Refused-clause-inside
 sequences::start_sequence-returns-in-Err-Refused-clause-inside g t c =
-    costs_same c.feed_leaf.ensures.inside (omega (arith, c.feed_leaf.ensures.ticked, c.feed_leaf.ensures.rising)) (λ e. never (ap is_short e))
+    costs_same c.feed_leaf.ensures.inside (fewer_left c.feed_leaf.ensures.rising c.feed_leaf.ensures.ticked) (λ e. never (ap is_short e))
 
 pub sequences::start_sequence-returns-in-Err-Memory-clause-inside : goal.sequences::start_sequence-returns-in-Err-Memory-clause-inside
 sequences::start_sequence-returns-in-Err-Memory-clause-inside g t c =
-    costs_same c.feed_leaf.ensures.inside (omega (arith, c.feed_leaf.ensures.ticked, c.feed_leaf.ensures.rising)) (λ e. never (ap is_short e))
+    costs_same c.feed_leaf.ensures.inside (fewer_left c.feed_leaf.ensures.rising c.feed_leaf.ensures.ticked) (λ e. never (ap is_short e))
 
 pub sequences::feed_sequence-returns-in-Ok-clause-inside : goal.sequences::feed_sequence-returns-in-Ok-clause-inside
 sequences::feed_sequence-returns-in-Ok-clause-inside g t c =
-    costs_next c.feed_components.ensures.inside c.end_sequence.ensures.inside (depth_of_root (fields_seen c.args.root.now) (more_fields_of c.args.ext.now)) (omega arith) tt
+    costs_next c.feed_components.ensures.inside c.end_sequence.ensures.inside (depth_of_root (fields_seen c.args.root.now) (more_fields_of c.args.ext.now)) (le_refl _) tt
 
 pub sequences::feed_sequence-returns-in-Ok-put-clause-inside : goal.sequences::feed_sequence-returns-in-Ok-put-clause-inside
 sequences::feed_sequence-returns-in-Ok-put-clause-inside g t c =
@@ -1409,42 +1411,42 @@ sequences::feed_sequence-returns-in-Err-Memory-clause-inside g t c =
 pub sequences::feed_components-returns-in_err-entry-clause-inside : goal.sequences::feed_components-returns-in_err-entry-clause-inside
 sequences::feed_components-returns-in_err-entry-clause-inside g t c =
     let i = c.len-in-loop-alloc.result in
-    let lt : i < length c.args.root.now = omega (arith, c.loop-alloc-test.true, c.len.ensures, c.len-in-loop-alloc.ensures) in
+    let lt : i < length c.args.root.now = still_below (c.len-in-loop-alloc.ensures ∙ sym c.len.ensures) c.loop-alloc-test.true in
     let p = err_from_is_err_and c.from_residual.result c.from_residual.ensures.1 in
-    costs_like (costs_then c.loop-alloc.invariant.4 c.in_err-entry.ensures.inside (omega arith) (depth_of_component c.args.root.now i c.index-root-len.result lt c.index-root-len.is) (λ n o. o)) (omega arith) (λ n o. o) (λ n o e. o (cc (p.1, p.2, e)))
+    costs_like (costs_then c.loop-alloc.invariant.4 c.in_err-entry.ensures.inside (le_refl _) (depth_of_component c.args.root.now i c.index-root-len.result lt c.index-root-len.is) (λ n o. o)) (le_refl _) (λ n o. o) (λ n o e. o (cc (p.1, p.2, e)))
 
 pub sequences::feed_components-returns-in_err-push-clause-inside : goal.sequences::feed_components-returns-in_err-push-clause-inside
 sequences::feed_components-returns-in_err-push-clause-inside g t c =
     let i = c.len-in-loop-alloc.result in
-    let lt : i < length c.args.root.now = omega (arith, c.loop-alloc-test.true, c.len.ensures, c.len-in-loop-alloc.ensures) in
+    let lt : i < length c.args.root.now = still_below (c.len-in-loop-alloc.ensures ∙ sym c.len.ensures) c.loop-alloc-test.true in
     let p = err_from_is_err_and c.from_residual-in_err-push.result c.from_residual-in_err-push.ensures.1 in
-    costs_like (costs_then c.loop-alloc.invariant.4 c.feed_component.ensures.inside (omega arith) (depth_of_component c.args.root.now i c.index-root-len.result lt c.index-root-len.is) (λ n o. o)) (omega arith) (λ n o. o) (λ n o e. absurd (let z : stop.Memory ≡ stop.Short = cc (p.1, p.2, e) in cc))
+    costs_like (costs_then c.loop-alloc.invariant.4 c.feed_component.ensures.inside (le_refl _) (depth_of_component c.args.root.now i c.index-root-len.result lt c.index-root-len.is) (λ n o. o)) (le_refl _) (λ n o. o) (λ n o e. absurd (let z : stop.Memory ≡ stop.Short = cc (p.1, p.2, e) in cc))
 
 pub sequences::feed_components-returns-clause-inside : goal.sequences::feed_components-returns-clause-inside
 sequences::feed_components-returns-clause-inside g t c =
-    costs_like c.loop-alloc.invariant.4 (omega arith) (λ n o. o) (λ n o e. never (ap is_short e))
+    costs_like c.loop-alloc.invariant.4 (le_refl _) (λ n o. o) (λ n o e. never (ap is_short e))
 
 pub sequences::feed_component-returns-then-not-present-clause-inside : goal.sequences::feed_component-returns-then-not-present-clause-inside
 sequences::feed_component-returns-then-not-present-clause-inside g t c =
-    costs_same refl (omega arith) (λ e. never (ap is_short e))
+    costs_same refl (le_refl _) (λ e. never (ap is_short e))
 
 pub sequences::feed_component-returns-in_err-feed_other-in-Default-clause-inside : goal.sequences::feed_component-returns-in_err-feed_other-in-Default-clause-inside
 sequences::feed_component-returns-in_err-feed_other-in-Default-clause-inside g t c =
     let p = err_from_is_err_and c.from_residual.result c.from_residual.ensures.1 in
-    costs_like c.in_err-feed_other-in-Default.ensures.inside (omega arith) (λ n o. tt) (λ n o e. o (cc (p.1, p.2, e)))
+    costs_like c.in_err-feed_other-in-Default.ensures.inside (no_levels _) (λ n o. tt) (λ n o e. o (cc (p.1, p.2, e)))
 
 pub sequences::feed_component-returns-in_ok-feed_other-in-Default-clause-inside : goal.sequences::feed_component-returns-in_ok-feed_other-in-Default-clause-inside
 sequences::feed_component-returns-in_ok-feed_other-in-Default-clause-inside g t c =
-    costs_like c.feed_other.ensures.inside (omega arith) (λ n o. tt) (λ n o e. never (ap is_short e))
+    costs_like c.feed_other.ensures.inside (no_levels _) (λ n o. tt) (λ n o e. never (ap is_short e))
 
 pub sequences::feed_component-returns-in_err-feed-in-Must-clause-inside : goal.sequences::feed_component-returns-in_err-feed-in-Must-clause-inside
 sequences::feed_component-returns-in_err-feed-in-Must-clause-inside g t c =
     let p = err_from_is_err_and c.from_residual-in_err-feed-in-Must.result c.from_residual-in_err-feed-in-Must.ensures.1 in
-    costs_like c.in_err-feed-in-Must.ensures.inside (omega arith) (λ n o. o) (λ n o e. o (cc (p.1, p.2, e)))
+    costs_like c.in_err-feed-in-Must.ensures.inside (le_refl _) (λ n o. o) (λ n o e. o (cc (p.1, p.2, e)))
 
 pub sequences::feed_component-returns-in_ok-feed-in-Must-clause-inside : goal.sequences::feed_component-returns-in_ok-feed-in-Must-clause-inside
 sequences::feed_component-returns-in_ok-feed-in-Must-clause-inside g t c =
-    costs_like c.feed.ensures.inside (omega arith) (λ n o. o) (λ n o e. never (ap is_short e))
+    costs_like c.feed.ensures.inside (le_refl _) (λ n o. o) (λ n o e. never (ap is_short e))
 
 pub additions::end_sequence-returns-then-read-clause-inside : goal.additions::end_sequence-returns-then-read-clause-inside
 additions::end_sequence-returns-then-read-clause-inside g t c =
@@ -1452,91 +1454,91 @@ additions::end_sequence-returns-then-read-clause-inside g t c =
 
 pub additions::end_sequence-returns-in-Ok-clause-inside : goal.additions::end_sequence-returns-in-Ok-clause-inside
 additions::end_sequence-returns-in-Ok-clause-inside g t c =
-    costs_same refl (omega arith) (λ e. never (ap is_short e))
+    costs_same refl (le_refl _) (λ e. never (ap is_short e))
 
 pub additions::end_sequence-returns-in-Err-clause-inside : goal.additions::end_sequence-returns-in-Err-clause-inside
 additions::end_sequence-returns-in-Err-clause-inside g t c =
-    costs_same refl (omega arith) (λ e. never (ap is_short e))
+    costs_same refl (le_refl _) (λ e. never (ap is_short e))
 
 pub additions::feed_bitmap-returns-in-Ok-clause-inside : goal.additions::feed_bitmap-returns-in-Ok-clause-inside
 additions::feed_bitmap-returns-in-Ok-clause-inside g t c =
-    costs_after c.feed_additions.ensures.inside (omega arith) c.feed_leaf.ensures.inside (omega (arith, c.feed_leaf.ensures.ticked, c.feed_leaf.ensures.rising)) (none_come g.R.ReadLeaves.rules g.R.FeedLeaves.fields g.R.ReadLeaves.ahead g.R.ReadLeaves.is_between (nodes c.args.frames.now) c.requires.empty)
+    costs_after c.feed_additions.ensures.inside (le_refl _) c.feed_leaf.ensures.inside (fewer_left c.feed_leaf.ensures.rising c.feed_leaf.ensures.ticked) (none_come g.R.ReadLeaves.rules g.R.FeedLeaves.fields g.R.ReadLeaves.ahead g.R.ReadLeaves.is_between (nodes c.args.frames.now) c.requires.empty)
 
 pub additions::feed_bitmap-returns-in-Ok-put-clause-inside : goal.additions::feed_bitmap-returns-in-Ok-put-clause-inside
 additions::feed_bitmap-returns-in-Ok-put-clause-inside g t c =
-    costs_same c.feed_leaf.ensures.inside (omega (arith, c.feed_leaf.ensures.ticked, c.feed_leaf.ensures.rising)) (λ e. rw c.in-Ok-put.ensures refl)
+    costs_same c.feed_leaf.ensures.inside (fewer_left c.feed_leaf.ensures.rising c.feed_leaf.ensures.ticked) (λ e. rw c.in-Ok-put.ensures refl)
 
 pub additions::feed_bitmap-returns-in-Err-clause-inside : goal.additions::feed_bitmap-returns-in-Err-clause-inside
 additions::feed_bitmap-returns-in-Err-clause-inside g t c =
-    costs_same c.feed_leaf.ensures.inside (omega (arith, c.feed_leaf.ensures.ticked, c.feed_leaf.ensures.rising)) (λ e. never (ap is_short e))
+    costs_same c.feed_leaf.ensures.inside (fewer_left c.feed_leaf.ensures.rising c.feed_leaf.ensures.ticked) (λ e. never (ap is_short e))
 
 pub additions::feed_bitmap-returns-in-Err-Refused-clause-inside : goal.additions::feed_bitmap-returns-in-Err-Refused-clause-inside
 additions::feed_bitmap-returns-in-Err-Refused-clause-inside g t c =
-    costs_same c.feed_leaf.ensures.inside (omega (arith, c.feed_leaf.ensures.ticked, c.feed_leaf.ensures.rising)) (λ e. never (ap is_short e))
+    costs_same c.feed_leaf.ensures.inside (fewer_left c.feed_leaf.ensures.rising c.feed_leaf.ensures.ticked) (λ e. never (ap is_short e))
 
 pub additions::feed_bitmap-returns-in-Err-Memory-clause-inside : goal.additions::feed_bitmap-returns-in-Err-Memory-clause-inside
 additions::feed_bitmap-returns-in-Err-Memory-clause-inside g t c =
-    costs_same c.feed_leaf.ensures.inside (omega (arith, c.feed_leaf.ensures.ticked, c.feed_leaf.ensures.rising)) (λ e. never (ap is_short e))
+    costs_same c.feed_leaf.ensures.inside (fewer_left c.feed_leaf.ensures.rising c.feed_leaf.ensures.ticked) (λ e. never (ap is_short e))
 
 pub additions::feed_additions-returns-in-Ok-clause-inside : goal.additions::feed_additions-returns-in-Ok-clause-inside
 additions::feed_additions-returns-in-Ok-clause-inside g t c =
-    costs_like c.feed_open_fields.ensures.inside (omega arith) (λ n o. o) (λ n o e. never (ap is_short e))
+    costs_like c.feed_open_fields.ensures.inside (le_refl _) (λ n o. o) (λ n o e. never (ap is_short e))
 
 pub additions::feed_additions-returns-in-Ok-put-clause-inside : goal.additions::feed_additions-returns-in-Ok-put-clause-inside
 additions::feed_additions-returns-in-Ok-put-clause-inside g t c =
-    costs_like c.feed_open_fields.ensures.inside (omega arith) (λ n o. o) (λ n o e. rw c.in-Ok-put.ensures (o (cc (c.in-Err-Short.is, c.in-Err-Short.field-0-is))))
+    costs_like c.feed_open_fields.ensures.inside (le_refl _) (λ n o. o) (λ n o e. rw c.in-Ok-put.ensures (o (cc (c.in-Err-Short.is, c.in-Err-Short.field-0-is))))
 
 pub additions::feed_additions-returns-in-Err-clause-inside : goal.additions::feed_additions-returns-in-Err-clause-inside
 additions::feed_additions-returns-in-Err-clause-inside g t c =
-    costs_like c.feed_open_fields.ensures.inside (omega arith) (λ n o. o) (λ n o e. never (ap is_short e))
+    costs_like c.feed_open_fields.ensures.inside (le_refl _) (λ n o. o) (λ n o e. never (ap is_short e))
 
 pub additions::feed_additions-returns-in-Err-Refused-clause-inside : goal.additions::feed_additions-returns-in-Err-Refused-clause-inside
 additions::feed_additions-returns-in-Err-Refused-clause-inside g t c =
-    costs_like c.feed_open_fields.ensures.inside (omega arith) (λ n o. o) (λ n o e. never (ap is_short e))
+    costs_like c.feed_open_fields.ensures.inside (le_refl _) (λ n o. o) (λ n o e. never (ap is_short e))
 
 pub additions::feed_additions-returns-in-Err-Memory-clause-inside : goal.additions::feed_additions-returns-in-Err-Memory-clause-inside
 additions::feed_additions-returns-in-Err-Memory-clause-inside g t c =
-    costs_like c.feed_open_fields.ensures.inside (omega arith) (λ n o. o) (λ n o e. never (ap is_short e))
+    costs_like c.feed_open_fields.ensures.inside (le_refl _) (λ n o. o) (λ n o e. never (ap is_short e))
 
 pub additions::feed_open_fields-returns-in_err-entry-clause-inside : goal.additions::feed_open_fields-returns-in_err-entry-clause-inside
 additions::feed_open_fields-returns-in_err-entry-clause-inside g t c =
     let w = left_within g.R.ReadLeaves.rules c.keep_laws.ensures c.keep_feed_laws.ensures g.R.FeedLeaves.fields g.R.ReadLeaves.ahead g.R.ReadLeaves.is_between (fields_seen c.args._root.now) c.args.additions.now c.requires.of_profile c.loop-read.read (nodes c.loop-read.frames) c.requires.reached.0 (g.R.ReadLeaves.rules.to_units c.loop-read.units) (c.loop-read.invariant.0 c.requires.reached.0 c.requires.reached.1) in
     let i = length c.args.additions.now - c.loop-read.read.presence.left in
-    let lt : i < length c.args.additions.now = omega (arith, w.0, c.loop-read-test.true) in
+    let lt : i < length c.args.additions.now = next_inside w.0 c.loop-read-test.true in
     let p = err_from_is_err_and c.from_residual.result c.from_residual.ensures.1 in
-    costs_like (costs_then c.loop-read.invariant.4 c.in_err-entry.ensures.inside (omega arith) (depth_of_addition c.args.additions.now i c.index-additions-index.result lt c.index-additions-index.is) (λ n o. o)) (omega arith) (λ n o. o) (λ n o e. o (cc (p.1, p.2, e)))
+    costs_like (costs_then c.loop-read.invariant.4 c.in_err-entry.ensures.inside (le_refl _) (depth_of_addition c.args.additions.now i c.index-additions-index.result lt c.index-additions-index.is) (λ n o. o)) (le_refl _) (λ n o. o) (λ n o e. o (cc (p.1, p.2, e)))
 
 pub additions::feed_open_fields-returns-in_err-push-clause-inside : goal.additions::feed_open_fields-returns-in_err-push-clause-inside
 additions::feed_open_fields-returns-in_err-push-clause-inside g t c =
     let w = left_within g.R.ReadLeaves.rules c.keep_laws.ensures c.keep_feed_laws.ensures g.R.FeedLeaves.fields g.R.ReadLeaves.ahead g.R.ReadLeaves.is_between (fields_seen c.args._root.now) c.args.additions.now c.requires.of_profile c.loop-read.read (nodes c.loop-read.frames) c.requires.reached.0 (g.R.ReadLeaves.rules.to_units c.loop-read.units) (c.loop-read.invariant.0 c.requires.reached.0 c.requires.reached.1) in
     let i = length c.args.additions.now - c.loop-read.read.presence.left in
-    let lt : i < length c.args.additions.now = omega (arith, w.0, c.loop-read-test.true) in
+    let lt : i < length c.args.additions.now = next_inside w.0 c.loop-read-test.true in
     let p = err_from_is_err_and c.from_residual-in_err-push.result c.from_residual-in_err-push.ensures.1 in
-    costs_like (costs_then c.loop-read.invariant.4 c.feed_addition.ensures.inside (omega arith) (depth_of_addition c.args.additions.now i c.index-additions-index.result lt c.index-additions-index.is) (λ n o. o)) (omega arith) (λ n o. o) (λ n o e. absurd (let z : stop.Memory ≡ stop.Short = cc (p.1, p.2, e) in cc))
+    costs_like (costs_then c.loop-read.invariant.4 c.feed_addition.ensures.inside (le_refl _) (depth_of_addition c.args.additions.now i c.index-additions-index.result lt c.index-additions-index.is) (λ n o. o)) (le_refl _) (λ n o. o) (λ n o e. absurd (let z : stop.Memory ≡ stop.Short = cc (p.1, p.2, e) in cc))
 
 pub additions::feed_open_fields-returns-clause-inside : goal.additions::feed_open_fields-returns-clause-inside
 additions::feed_open_fields-returns-clause-inside g t c =
-    costs_like c.loop-read.invariant.4 (omega arith) (λ n o. o) (λ n o e. never (ap is_short e))
+    costs_like c.loop-read.invariant.4 (le_refl _) (λ n o. o) (λ n o e. never (ap is_short e))
 
 pub additions::feed_addition-returns-then-not-present-clause-inside : goal.additions::feed_addition-returns-then-not-present-clause-inside
 additions::feed_addition-returns-then-not-present-clause-inside g t c =
-    costs_same refl (omega arith) (λ e. never (ap is_short e))
+    costs_same refl (le_refl _) (λ e. never (ap is_short e))
 
 pub additions::feed_addition-returns-in_err-feed_open_field-clause-inside : goal.additions::feed_addition-returns-in_err-feed_open_field-clause-inside
 additions::feed_addition-returns-in_err-feed_open_field-clause-inside g t c =
     let p = err_from_is_err_and c.from_residual.result c.from_residual.ensures.1 in
-    costs_like c.feed_open_field.ensures.inside (omega arith) (λ n o. o) (λ n o e. o (cc (p.1, p.2, e)))
+    costs_like c.feed_open_field.ensures.inside (le_refl _) (λ n o. o) (λ n o e. o (cc (p.1, p.2, e)))
 
 pub additions::feed_addition-returns-clause-inside : goal.additions::feed_addition-returns-clause-inside
 additions::feed_addition-returns-clause-inside g t c =
-    costs_like c.feed_open_field.ensures.inside (omega arith) (λ n o. o) (λ n o e. never (ap is_short e))
+    costs_like c.feed_open_field.ensures.inside (le_refl _) (λ n o. o) (λ n o e. never (ap is_short e))
 
 pub open_fields::feed_open_field-returns-in_err-octets-clause-inside : goal.open_fields::feed_open_field-returns-in_err-octets-clause-inside
 open_fields::feed_open_field-returns-in_err-octets-clause-inside g t c =
     let p = err_from_is_err_and c.from_residual.result c.from_residual.ensures.1 in
     record {
       pays = λ k n h w. (
-          let less : length (g.R.ReadLeaves.rules.to_units c.feed_octets.new.units) ≤ length (g.R.ReadLeaves.rules.to_units c.args.units.now) = omega (arith, c.feed_octets.ensures.ticked, c.feed_octets.ensures.rising) in
+          let less : length (g.R.ReadLeaves.rules.to_units c.feed_octets.new.units) ≤ length (g.R.ReadLeaves.rules.to_units c.args.units.now) = fewer_left c.feed_octets.ensures.rising c.feed_octets.ensures.ticked in
           let q = field_stops g.R.ReadLeaves.rules g.R.FeedLeaves.fields g.R.ReadLeaves.ahead g.R.ReadLeaves.is_between (nodes c.feed_octets.new.frames) w.0 c.args.units.now c.feed_octets.new.units c.in_err-octets.field-0.0 k n c.args.ticks.now.inside c.feed_octets.new.ticks.inside w.2 (c.in_err-octets.ensures.kept w.0 w.1) c.in_err-octets.ensures.after less c.feed_octets.ensures.inside in
           record { still = q.still; is_open = λ e. q.is_open (cc (p.1, p.2, e)); cost = q.cost });
     }
@@ -1596,16 +1598,16 @@ open_fields::read_content-returns-in-Err-Memory-clause-cost g t c =
 
 pub open_fields::read_complete-returns-in_err-value-clause-cost : goal.open_fields::read_complete-returns-in_err-value-clause-cost
 open_fields::read_complete-returns-in_err-value-clause-cost g t c =
-    λ k h. level_costs c.feed.ensures.inside (none_open g.R.ReadLeaves.rules g.R.FeedLeaves.fields g.R.ReadLeaves.ahead g.R.ReadLeaves.is_between (nodes c.none-frames.result) c.none-frames.ensures) c.feed.new.ticks.taken c.args.ticks.now.taken (omega (arith, c.feed.ensures.ticked)) k h
+    λ k h. level_costs c.feed.ensures.inside (none_open g.R.ReadLeaves.rules g.R.FeedLeaves.fields g.R.ReadLeaves.ahead g.R.ReadLeaves.is_between (nodes c.none-frames.result) c.none-frames.ensures) c.feed.new.ticks.taken c.args.ticks.now.taken (taken_at_most _ c.feed.ensures.ticked) k h
 
 pub open_fields::read_complete-returns-in_err-read_padding-clause-cost : goal.open_fields::read_complete-returns-in_err-read_padding-clause-cost
 open_fields::read_complete-returns-in_err-read_padding-clause-cost g t c =
-    λ k h. level_costs c.feed.ensures.inside (none_open g.R.ReadLeaves.rules g.R.FeedLeaves.fields g.R.ReadLeaves.ahead g.R.ReadLeaves.is_between (nodes c.none-frames.result) c.none-frames.ensures) c.feed.new.ticks.taken c.args.ticks.now.taken (omega (arith, c.feed.ensures.ticked)) k h
+    λ k h. level_costs c.feed.ensures.inside (none_open g.R.ReadLeaves.rules g.R.FeedLeaves.fields g.R.ReadLeaves.ahead g.R.ReadLeaves.is_between (nodes c.none-frames.result) c.none-frames.ensures) c.feed.new.ticks.taken c.args.ticks.now.taken (taken_at_most _ c.feed.ensures.ticked) k h
 
 pub open_fields::read_complete-returns-clause-cost : goal.open_fields::read_complete-returns-clause-cost
 open_fields::read_complete-returns-clause-cost g t c =
     λ k h.
-    let most : c.take_to.new.ticks.taken ≤ c.args.ticks.now.taken + length (g.R.ReadLeaves.rules.to_units c.args.units.now) = omega (arith, c.feed.ensures.ticked, c.take_to.ensures.ticked) in
+    let most : c.take_to.new.ticks.taken ≤ c.args.ticks.now.taken + length (g.R.ReadLeaves.rules.to_units c.args.units.now) = taken_at_most _ (c.take_to.ensures.ticked ∙ c.feed.ensures.ticked) in
     rw c.take_to.ensures.inside (level_costs c.feed.ensures.inside (none_open g.R.ReadLeaves.rules g.R.FeedLeaves.fields g.R.ReadLeaves.ahead g.R.ReadLeaves.is_between (nodes c.none-frames.result) c.none-frames.ensures) c.take_to.new.ticks.taken c.args.ticks.now.taken most k h)
 
 pub choices::resume_choice-returns-in-Some-Chosen-clause-inside : goal.choices::resume_choice-returns-in-Some-Chosen-clause-inside
@@ -1614,39 +1616,39 @@ choices::resume_choice-returns-in-Some-Chosen-clause-inside g t c =
 
 pub choices::resume_choice-returns-in-Some-Added-clause-inside : goal.choices::resume_choice-returns-in-Some-Added-clause-inside
 choices::resume_choice-returns-in-Some-Added-clause-inside g t c =
-    costs_like c.feed_added.ensures.inside (omega arith) (λ n o. open_added g.R.ReadLeaves.rules g.R.FeedLeaves.fields g.R.ReadLeaves.ahead g.R.ReadLeaves.is_between c.args.node c.in-Some-Added.field-0 c.in-Some-Added.index (nodes c.args.frames.now) n c.in-Some-Added.is c.in-Some-Added.field-0-is o) (λ n o. o)
+    costs_like c.feed_added.ensures.inside (le_refl _) (λ n o. open_added g.R.ReadLeaves.rules g.R.FeedLeaves.fields g.R.ReadLeaves.ahead g.R.ReadLeaves.is_between c.args.node c.in-Some-Added.field-0 c.in-Some-Added.index (nodes c.args.frames.now) n c.in-Some-Added.is c.in-Some-Added.field-0-is o) (λ n o. o)
 
 pub choices::resume_choice-returns-in-Some-Start-clause-inside : goal.choices::resume_choice-returns-in-Some-Start-clause-inside
 choices::resume_choice-returns-in-Some-Start-clause-inside g t c =
-    costs_like c.start_choice.ensures.inside (omega arith) (λ n o. tt) (λ n o. o)
+    costs_like c.start_choice.ensures.inside (le_refl _) (λ n o. tt) (λ n o. o)
 
 pub choices::resume_choice-returns-in-None-clause-inside : goal.choices::resume_choice-returns-in-None-clause-inside
 choices::resume_choice-returns-in-None-clause-inside g t c =
-    costs_like c.start_choice-in-None.ensures.inside (omega arith) (λ n o. tt) (λ n o. o)
+    costs_like c.start_choice-in-None.ensures.inside (le_refl _) (λ n o. tt) (λ n o. o)
 
 pub choices::start_choice-returns-in-Ok-Root-clause-inside : goal.choices::start_choice-returns-in-Ok-Root-clause-inside
 choices::start_choice-returns-in-Ok-Root-clause-inside g t c =
-    costs_after c.feed_choice.ensures.inside (depth_of_alternatives (alternatives_seen c.args.root.now) (more_alternatives_of c.args.ext.now)) c.feed_leaf.ensures.inside (omega (arith, c.feed_leaf.ensures.ticked, c.feed_leaf.ensures.rising)) (none_open g.R.ReadLeaves.rules g.R.FeedLeaves.fields g.R.ReadLeaves.ahead g.R.ReadLeaves.is_between (nodes c.args.frames.now) c.requires.empty)
+    costs_after c.feed_choice.ensures.inside (depth_of_alternatives (alternatives_seen c.args.root.now) (more_alternatives_of c.args.ext.now)) c.feed_leaf.ensures.inside (fewer_left c.feed_leaf.ensures.rising c.feed_leaf.ensures.ticked) (none_open g.R.ReadLeaves.rules g.R.FeedLeaves.fields g.R.ReadLeaves.ahead g.R.ReadLeaves.is_between (nodes c.args.frames.now) c.requires.empty)
 
 pub choices::start_choice-returns-in-Ok-Added-clause-inside : goal.choices::start_choice-returns-in-Ok-Added-clause-inside
 choices::start_choice-returns-in-Ok-Added-clause-inside g t c =
-    costs_after c.feed_added.ensures.inside (omega arith) c.feed_leaf.ensures.inside (omega (arith, c.feed_leaf.ensures.ticked, c.feed_leaf.ensures.rising)) (none_come g.R.ReadLeaves.rules g.R.FeedLeaves.fields g.R.ReadLeaves.ahead g.R.ReadLeaves.is_between (nodes c.args.frames.now) c.requires.empty)
+    costs_after c.feed_added.ensures.inside (le_refl _) c.feed_leaf.ensures.inside (fewer_left c.feed_leaf.ensures.rising c.feed_leaf.ensures.ticked) (none_come g.R.ReadLeaves.rules g.R.FeedLeaves.fields g.R.ReadLeaves.ahead g.R.ReadLeaves.is_between (nodes c.args.frames.now) c.requires.empty)
 
 pub choices::start_choice-returns-in-Ok-clause-inside : goal.choices::start_choice-returns-in-Ok-clause-inside
 choices::start_choice-returns-in-Ok-clause-inside g t c =
-    costs_same c.feed_leaf.ensures.inside (omega (arith, c.feed_leaf.ensures.ticked, c.feed_leaf.ensures.rising)) (λ e. rw c.in-Ok.ensures refl)
+    costs_same c.feed_leaf.ensures.inside (fewer_left c.feed_leaf.ensures.rising c.feed_leaf.ensures.ticked) (λ e. rw c.in-Ok.ensures refl)
 
 pub choices::start_choice-returns-in-Err-clause-inside : goal.choices::start_choice-returns-in-Err-clause-inside
 choices::start_choice-returns-in-Err-clause-inside g t c =
-    costs_same c.feed_leaf.ensures.inside (omega (arith, c.feed_leaf.ensures.ticked, c.feed_leaf.ensures.rising)) (λ e. never (ap is_short e))
+    costs_same c.feed_leaf.ensures.inside (fewer_left c.feed_leaf.ensures.rising c.feed_leaf.ensures.ticked) (λ e. never (ap is_short e))
 
 pub choices::start_choice-returns-in-Err-Refused-clause-inside : goal.choices::start_choice-returns-in-Err-Refused-clause-inside
 choices::start_choice-returns-in-Err-Refused-clause-inside g t c =
-    costs_same c.feed_leaf.ensures.inside (omega (arith, c.feed_leaf.ensures.ticked, c.feed_leaf.ensures.rising)) (λ e. never (ap is_short e))
+    costs_same c.feed_leaf.ensures.inside (fewer_left c.feed_leaf.ensures.rising c.feed_leaf.ensures.ticked) (λ e. never (ap is_short e))
 
 pub choices::start_choice-returns-in-Err-Memory-clause-inside : goal.choices::start_choice-returns-in-Err-Memory-clause-inside
 choices::start_choice-returns-in-Err-Memory-clause-inside g t c =
-    costs_same c.feed_leaf.ensures.inside (omega (arith, c.feed_leaf.ensures.ticked, c.feed_leaf.ensures.rising)) (λ e. never (ap is_short e))
+    costs_same c.feed_leaf.ensures.inside (fewer_left c.feed_leaf.ensures.rising c.feed_leaf.ensures.ticked) (λ e. never (ap is_short e))
 
 pub choices::feed_choice-returns-in-Ok-new-clause-inside : goal.choices::feed_choice-returns-in-Ok-new-clause-inside
 choices::feed_choice-returns-in-Ok-new-clause-inside g t c =
@@ -1677,56 +1679,56 @@ choices::feed_added-returns-in-Ok-new-clause-inside g t c =
     let inside : c.args.index < length c.as_slice-additions.result.now = rw c.as_slice-additions.ensures.value (addition_inside g.R.ReadLeaves.rules c.keep_laws.ensures g.R.FeedLeaves.fields g.R.ReadLeaves.ahead g.R.ReadLeaves.is_between c.args.root.now c.args.ext.now c.requires.of_profile c.in-Some.additions c.in-Some.is c.args.index (nodes c.args.frames.now) c.requires.reached.0 (g.R.ReadLeaves.rules.to_units c.args.units.now) c.requires.reached.1) in
     let one = depth_of_added_one c.as_slice-additions.result.now c.args.index c.index-additions-index.result inside c.index-additions-index.is in
     let all = depth_of_added (alternatives_seen c.args.root.now) (more_alternatives_of c.args.ext.now) (alternatives_seen c.as_slice-additions.result.now) (additions_are c.args.ext.now c.in-Some.additions c.as_slice-additions.result.now c.in-Some.is c.as_slice-additions.ensures.value) in
-    costs_like c.feed_open_field.ensures.inside (omega (arith, one, all)) (λ n o. o) (λ n o e. never (ap is_short e))
+    costs_like c.feed_open_field.ensures.inside (le_trans one all) (λ n o. o) (λ n o e. never (ap is_short e))
 
 pub choices::feed_added-returns-in-Ok-clause-inside : goal.choices::feed_added-returns-in-Ok-clause-inside
 choices::feed_added-returns-in-Ok-clause-inside g t c =
     let inside : c.args.index < length c.as_slice-additions.result.now = rw c.as_slice-additions.ensures.value (addition_inside g.R.ReadLeaves.rules c.keep_laws.ensures g.R.FeedLeaves.fields g.R.ReadLeaves.ahead g.R.ReadLeaves.is_between c.args.root.now c.args.ext.now c.requires.of_profile c.in-Some.additions c.in-Some.is c.args.index (nodes c.args.frames.now) c.requires.reached.0 (g.R.ReadLeaves.rules.to_units c.args.units.now) c.requires.reached.1) in
     let one = depth_of_added_one c.as_slice-additions.result.now c.args.index c.index-additions-index.result inside c.index-additions-index.is in
     let all = depth_of_added (alternatives_seen c.args.root.now) (more_alternatives_of c.args.ext.now) (alternatives_seen c.as_slice-additions.result.now) (additions_are c.args.ext.now c.in-Some.additions c.as_slice-additions.result.now c.in-Some.is c.as_slice-additions.ensures.value) in
-    costs_like c.feed_open_field.ensures.inside (omega (arith, one, all)) (λ n o. o) (λ n o e. never (ap is_short e))
+    costs_like c.feed_open_field.ensures.inside (le_trans one all) (λ n o. o) (λ n o e. never (ap is_short e))
 
 pub choices::feed_added-returns-in-Ok-put-clause-inside : goal.choices::feed_added-returns-in-Ok-put-clause-inside
 choices::feed_added-returns-in-Ok-put-clause-inside g t c =
     let inside : c.args.index < length c.as_slice-additions.result.now = rw c.as_slice-additions.ensures.value (addition_inside g.R.ReadLeaves.rules c.keep_laws.ensures g.R.FeedLeaves.fields g.R.ReadLeaves.ahead g.R.ReadLeaves.is_between c.args.root.now c.args.ext.now c.requires.of_profile c.in-Some.additions c.in-Some.is c.args.index (nodes c.args.frames.now) c.requires.reached.0 (g.R.ReadLeaves.rules.to_units c.args.units.now) c.requires.reached.1) in
     let one = depth_of_added_one c.as_slice-additions.result.now c.args.index c.index-additions-index.result inside c.index-additions-index.is in
     let all = depth_of_added (alternatives_seen c.args.root.now) (more_alternatives_of c.args.ext.now) (alternatives_seen c.as_slice-additions.result.now) (additions_are c.args.ext.now c.in-Some.additions c.as_slice-additions.result.now c.in-Some.is c.as_slice-additions.ensures.value) in
-    costs_like c.feed_open_field.ensures.inside (omega (arith, one, all)) (λ n o. o) (λ n o e. rw c.in-Ok-put.ensures (o (cc (c.in-Err-Short.is, c.in-Err-Short.field-0-is))))
+    costs_like c.feed_open_field.ensures.inside (le_trans one all) (λ n o. o) (λ n o e. rw c.in-Ok-put.ensures (o (cc (c.in-Err-Short.is, c.in-Err-Short.field-0-is))))
 
 pub choices::feed_added-returns-in-Err-Short-clause-inside : goal.choices::feed_added-returns-in-Err-Short-clause-inside
 choices::feed_added-returns-in-Err-Short-clause-inside g t c =
     let inside : c.args.index < length c.as_slice-additions.result.now = rw c.as_slice-additions.ensures.value (addition_inside g.R.ReadLeaves.rules c.keep_laws.ensures g.R.FeedLeaves.fields g.R.ReadLeaves.ahead g.R.ReadLeaves.is_between c.args.root.now c.args.ext.now c.requires.of_profile c.in-Some.additions c.in-Some.is c.args.index (nodes c.args.frames.now) c.requires.reached.0 (g.R.ReadLeaves.rules.to_units c.args.units.now) c.requires.reached.1) in
     let one = depth_of_added_one c.as_slice-additions.result.now c.args.index c.index-additions-index.result inside c.index-additions-index.is in
     let all = depth_of_added (alternatives_seen c.args.root.now) (more_alternatives_of c.args.ext.now) (alternatives_seen c.as_slice-additions.result.now) (additions_are c.args.ext.now c.in-Some.additions c.as_slice-additions.result.now c.in-Some.is c.as_slice-additions.ensures.value) in
-    costs_like c.feed_open_field.ensures.inside (omega (arith, one, all)) (λ n o. o) (λ n o e. never (ap is_short e))
+    costs_like c.feed_open_field.ensures.inside (le_trans one all) (λ n o. o) (λ n o e. never (ap is_short e))
 
 pub choices::feed_added-returns-in-Err-Refused-clause-inside : goal.choices::feed_added-returns-in-Err-Refused-clause-inside
 choices::feed_added-returns-in-Err-Refused-clause-inside g t c =
     let inside : c.args.index < length c.as_slice-additions.result.now = rw c.as_slice-additions.ensures.value (addition_inside g.R.ReadLeaves.rules c.keep_laws.ensures g.R.FeedLeaves.fields g.R.ReadLeaves.ahead g.R.ReadLeaves.is_between c.args.root.now c.args.ext.now c.requires.of_profile c.in-Some.additions c.in-Some.is c.args.index (nodes c.args.frames.now) c.requires.reached.0 (g.R.ReadLeaves.rules.to_units c.args.units.now) c.requires.reached.1) in
     let one = depth_of_added_one c.as_slice-additions.result.now c.args.index c.index-additions-index.result inside c.index-additions-index.is in
     let all = depth_of_added (alternatives_seen c.args.root.now) (more_alternatives_of c.args.ext.now) (alternatives_seen c.as_slice-additions.result.now) (additions_are c.args.ext.now c.in-Some.additions c.as_slice-additions.result.now c.in-Some.is c.as_slice-additions.ensures.value) in
-    costs_like c.feed_open_field.ensures.inside (omega (arith, one, all)) (λ n o. o) (λ n o e. never (ap is_short e))
+    costs_like c.feed_open_field.ensures.inside (le_trans one all) (λ n o. o) (λ n o e. never (ap is_short e))
 
 pub choices::feed_added-returns-clause-inside : goal.choices::feed_added-returns-clause-inside
 choices::feed_added-returns-clause-inside g t c =
     let inside : c.args.index < length c.as_slice-additions.result.now = rw c.as_slice-additions.ensures.value (addition_inside g.R.ReadLeaves.rules c.keep_laws.ensures g.R.FeedLeaves.fields g.R.ReadLeaves.ahead g.R.ReadLeaves.is_between c.args.root.now c.args.ext.now c.requires.of_profile c.in-Some.additions c.in-Some.is c.args.index (nodes c.args.frames.now) c.requires.reached.0 (g.R.ReadLeaves.rules.to_units c.args.units.now) c.requires.reached.1) in
     let one = depth_of_added_one c.as_slice-additions.result.now c.args.index c.index-additions-index.result inside c.index-additions-index.is in
     let all = depth_of_added (alternatives_seen c.args.root.now) (more_alternatives_of c.args.ext.now) (alternatives_seen c.as_slice-additions.result.now) (additions_are c.args.ext.now c.in-Some.additions c.as_slice-additions.result.now c.in-Some.is c.as_slice-additions.ensures.value) in
-    costs_like c.feed_open_field.ensures.inside (omega (arith, one, all)) (λ n o. o) (λ n o e. never (ap is_short e))
+    costs_like c.feed_open_field.ensures.inside (le_trans one all) (λ n o. o) (λ n o e. never (ap is_short e))
 
 -- ---- before the first turn of a loop
 
 pub lists::feed_elements-loop-alloc-init : goal.lists::feed_elements-loop-alloc-init
-lists::feed_elements-loop-alloc-init g t c = (λ all h. h, refl, c.requires.at_unit, omega arith, costs_none)
+lists::feed_elements-loop-alloc-init g t c = (λ all h. h, refl, c.requires.at_unit, le_refl _, costs_none)
 
 pub lists::feed_fragment-loop-list-init : goal.lists::feed_fragment-loop-list-init
-lists::feed_fragment-loop-list-init g t c = (λ s p all h. h, refl, c.requires.at_unit, refl, omega arith, omega arith, costs_none)
+lists::feed_fragment-loop-list-init g t c = (λ s p all h. h, refl, c.requires.at_unit, refl, le_refl _, le_refl _, costs_none)
 
 pub sequences::feed_components-loop-alloc-init : goal.sequences::feed_components-loop-alloc-init
-sequences::feed_components-loop-alloc-init g t c = (λ more p all h. h, refl, c.requires.at_unit, omega arith, costs_none)
+sequences::feed_components-loop-alloc-init g t c = (λ more p all h. h, refl, c.requires.at_unit, le_refl _, costs_none)
 
 pub additions::feed_open_fields-loop-read-init : goal.additions::feed_open_fields-loop-read-init
-additions::feed_open_fields-loop-read-init g t c = (λ all h. h, refl, c.requires.at_unit, omega arith, costs_none)
+additions::feed_open_fields-loop-read-init g t c = (λ all h. h, refl, c.requires.at_unit, le_refl _, costs_none)
 
 -- ---- an element
 
@@ -1752,7 +1754,7 @@ lists::feed_element-returns-in-Some-clause-done g t c =
 
 pub lists::feed_element-returns-in-Some-clause-inside : goal.lists::feed_element-returns-in-Some-clause-inside
 lists::feed_element-returns-in-Some-clause-inside g t c =
-    costs_same c.whole_value.ensures.inside (omega (arith, c.whole_value.ensures.ticked, c.whole_value.ensures.rising)) (λ e. never (ap is_short e))
+    costs_same c.whole_value.ensures.inside (fewer_left c.whole_value.ensures.rising c.whole_value.ensures.ticked) (λ e. never (ap is_short e))
 
 -- it is to come
 pub lists::feed_element-returns-then-is_to_come-clause-stop : goal.lists::feed_element-returns-then-is_to_come-clause-stop
@@ -1767,7 +1769,7 @@ lists::feed_element-returns-then-is_to_come-clause-stop g t c =
 pub lists::feed_element-returns-then-is_row-clause-inside : goal.lists::feed_element-returns-then-is_row-clause-inside
 lists::feed_element-returns-then-is_row-clause-inside g t c =
     let w = c.feed_small-then-is_row.ensures in
-    costs_same (w.inside ∙ c.whole_value.ensures.inside) (omega (arith, w.ticked, w.rising, c.whole_value.ensures.ticked, c.whole_value.ensures.rising)) (λ e. none_open g.R.ReadLeaves.rules g.R.FeedLeaves.fields g.R.ReadLeaves.ahead g.R.ReadLeaves.is_between (nodes c.args.frames.now) (c.is_row.ensures.none c.if-is_row.true))
+    costs_same (w.inside ∙ c.whole_value.ensures.inside) (le_trans (fewer_left w.rising w.ticked) (fewer_left c.whole_value.ensures.rising c.whole_value.ensures.ticked)) (λ e. none_open g.R.ReadLeaves.rules g.R.FeedLeaves.fields g.R.ReadLeaves.ahead g.R.ReadLeaves.is_between (nodes c.args.frames.now) (c.is_row.ensures.none c.if-is_row.true))
 
 -- it goes through its nodes
 pub lists::feed_element-returns-clause-done : goal.lists::feed_element-returns-clause-done

@@ -1,11 +1,13 @@
 -- Where the counting of presence bits stands, and which entry is next.
 use Rattle.std.proofs.Common.{◌≡◌, ◌⊎◌, ◌≤◌, ◌<◌, ◌+◌, ◌*◌, ◌^◌, ℕ, suc, Bool, true, false, List, [], ◌∷◌, ◌++◌, length, map, drop, get_or, Option, Some, None, inl, inr, refl, sym, ◌∙◌, ap, arith, append_assoc}
-use Rattle.std.proofs.lemmas.List.{append-nil, at_drop_more}
+use Rattle.std.proofs.lemmas.List.{append-nil, at_drop_more, length-map}
 use Rattle.std.proofs.Math.Nat.{pow-succ'}
+use Rattle.std.proofs.Math.Pow.{pow_mono}
 use Rattle.asn_values.specs.Datum.{Datum}
 use Rattle.asn_values.specs.Shape.{Demand, must, optional, default, demands}
 use Rattle.asn_values.specs.Parts.{IsGoodDemand, AreOfProfile}
-use Rattle.asn_values.specs.View.{Part, fields_of}
+use Rattle.asn_values.specs.View.{Part, fields_of, part_of_field}
+use Rattle.asn_values.specs.declared.types.Field.{Field}
 use Rattle.asn_bits.specs.Numbers.{bits}
 use Rattle.asn_bits.specs.Sink.{bit_of}
 use Rattle.asn_bits.proofs.Prefixes.{bit_below}
@@ -123,3 +125,19 @@ bitmap_ends {all} {left} {entries} {rest} {count} {bitmap} h e =
     sym (append-nil (bits count bitmap))
     ∙ ap (λ l. bits count bitmap ++ presence (demands (fields_of l)) rest) (sym none.0)
     ∙ h.known
+
+-- ---- the bitmap in a word
+
+-- it has at most 64 bits, with one for each component that is left
+pub bits_so_far : (fields : List Field) {left : List Part} {entries rest : List (Option Datum)} {count bitmap : ℕ}
+    → Bitmap (map part_of_field fields) left entries rest count bitmap → length fields ≤ 64 → count + length left ≤ 64
+bits_so_far fields h few = omega (arith, h.few, few, length-map fields part_of_field)
+
+-- and where a component is left, one more bit has room
+pub room_for_bit : (count bitmap bit left : ℕ) → bitmap < 2 ^ count → count + suc left ≤ 64 → bit < 2 → 2 * bitmap + bit < 2 ^ 64
+room_for_bit count bitmap bit left h few b =
+    let short : count ≤ 63 = omega (arith, few) in
+    doubled bitmap bit (2 ^ count) (2 ^ 63) h (pow_mono short) b
+  where
+    doubled : (x b m n : ℕ) → x < m → m ≤ n → b < 2 → 2 * x + b < 2 * n
+    doubled x b m n h l k = omega (arith, h, l, k)

@@ -1,11 +1,9 @@
-use Rattle.asn_values.specs.Received.{FitsBy}
 use Rattle.std.proofs.Common.{◌≡◌, ◌∙◌, subst, map, length, option_map, false, min, refl, sym, arith}
 use Rattle.std.proofs.lemmas.Bool.{le-ltb}
 use Rattle.asn_values.specs.Fits.{FitsLength}
-use Rattle.asn_values.specs.View.{datum_of, size_range_of, part_of_field, more_alternatives_of, shape_of}
+use Rattle.asn_values.specs.View.{datum_of, size_range_of, part_of_field, more_alternatives_of}
 use Rattle.asn_values.proofs.Alternatives.{no_truth}
 use Rattle.asn_values.proofs.Received.{fits_at, fits_nowhere, choice_root, choice_more, choice_closed, fits_choices, fits_lists, other_elements, fits_sequences, fits_closed, fits_split, other_length}
-use Rattle.asn_values.proofs.Turns.{all_so_far, fails_here, entries_so_far, entry_fails}
 use Rattle.asn_values.proofs.fitting.+fits.Goals as goal
 
 pub fields_have-returns-then-fields-entries : goal.fields_have-returns-then-fields-entries
@@ -87,19 +85,3 @@ type_has-returns-else-length_fits t c = let count : length c.in-List.elements.it
   λ f. absurd (other_elements c.args.unknown c.args.ty.now c.in-SeqOf.element.value c.args.value.now c.in-SeqOf.element c.in-SeqOf.size c.in-List.elements c.in-SeqOf.is c.in-List.is refl (λ few.
       no_truth (rw c.if-length_fits.false at (c.length_fits-in-List.ensures.1 (subst (λ n. FitsLength (size_range_of c.in-SeqOf.size) n) count few)))) f),
 )
-
-pub elements_fit-returns-then-not-type_has : goal.elements_fit-returns-then-not-type_has
-elements_fit-returns-then-not-type_has t c =
-    fails_here (FitsBy c.args.unknown (shape_of c.args.element.now)) datum_of c.args.elements.now c.loop-value.value-index c.value-item.result c.loop-value-test.true c.value-item.is c.loop-value.invariant c.if-not-type_has.ensures.1
-
-pub elements_fit-loop-value-preserved : goal.elements_fit-loop-value-preserved
-elements_fit-loop-value-preserved t c =
-    all_so_far (FitsBy c.args.unknown (shape_of c.args.element.now)) datum_of c.args.elements.now c.loop-value.value-index c.value-item.result c.loop-value-test.true c.value-item.is c.loop-value.invariant (c.if-not-type_has.ensures.0 refl)
-
-pub fields_have-returns-then-not-field_has : goal.fields_have-returns-then-not-field_has
-fields_have-returns-then-not-field_has t c =
-    entry_fails c.args.unknown c.args.fields.now c.args.entries.now c.loop-index.index c.index-fields-index.result c.index-entries-index.result c.loop-index-test.true c.if-fields-entries.false c.index-fields-index.is c.index-entries-index.is c.loop-index.invariant c.if-not-field_has.ensures.1
-
-pub fields_have-loop-index-preserved : goal.fields_have-loop-index-preserved
-fields_have-loop-index-preserved t c =
-    entries_so_far c.args.unknown c.args.fields.now c.args.entries.now c.loop-index.index c.index-fields-index.result c.index-entries-index.result c.loop-index-test.true c.if-fields-entries.false c.index-fields-index.is c.index-entries-index.is c.loop-index.invariant (c.if-not-field_has.ensures.0 refl)

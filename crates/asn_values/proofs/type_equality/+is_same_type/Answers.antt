@@ -1,7 +1,4 @@
-use Rattle.asn_values.specs.View.{part_of_field, branch_of}
-use Rattle.std.proofs.Common.{sym, refl}
 use Rattle.asn_values.proofs.SameTypes.{other_root, by_additions, other_choice, by_added_alternatives}
-use Rattle.asn_values.proofs.Turns.{differ_here, same_so_far}
 use Rattle.asn_values.proofs.type_equality.+is_same_type.Goals as goal
 
 pub is_same_type-returns-else-are_same_fields : goal.is_same_type-returns-else-are_same_fields
@@ -33,19 +30,3 @@ is_same_type-returns-in-Some-Some-2 t c =
     c.in-Some-Some-2.added c.in-Some-Some-2.others c.in-Some-Some-2.is-0 c.in-Some-Some-2.is-1
     c.deref-in-Some-Some-2-2.result.now c.deref-in-Some-Some-2-3.result.now c.deref-in-Some-Some-2-2.ensures.value c.deref-in-Some-Some-2-3.ensures.value
     c.are_same_alternatives-in-Some-Some-2.result c.are_same_alternatives-in-Some-Some-2.ensures
-
-pub are_same_fields-returns-then-not-is_same_field : goal.are_same_fields-returns-then-not-is_same_field
-are_same_fields-returns-then-not-is_same_field t c =
-    differ_here part_of_field c.args.left.now c.args.right.now c.loop-index.index c.index-left-index.result c.index-right-index.result c.loop-index-test.true (sym c.if-right-left.false) c.index-left-index.is c.index-right-index.is c.loop-index.invariant c.if-not-is_same_field.ensures.1
-
-pub are_same_fields-loop-index-preserved : goal.are_same_fields-loop-index-preserved
-are_same_fields-loop-index-preserved t c =
-    same_so_far part_of_field c.args.left.now c.args.right.now c.loop-index.index c.index-left-index.result c.index-right-index.result c.loop-index-test.true (sym c.if-right-left.false) c.index-left-index.is c.index-right-index.is c.loop-index.invariant (c.if-not-is_same_field.ensures.0 refl)
-
-pub are_same_alternatives-returns-then-not-is_same_alternative : goal.are_same_alternatives-returns-then-not-is_same_alternative
-are_same_alternatives-returns-then-not-is_same_alternative t c =
-    differ_here branch_of c.args.left.now c.args.right.now c.loop-index.index c.index-left-index.result c.index-right-index.result c.loop-index-test.true (sym c.if-right-left.false) c.index-left-index.is c.index-right-index.is c.loop-index.invariant c.if-not-is_same_alternative.ensures.1
-
-pub are_same_alternatives-loop-index-preserved : goal.are_same_alternatives-loop-index-preserved
-are_same_alternatives-loop-index-preserved t c =
-    same_so_far branch_of c.args.left.now c.args.right.now c.loop-index.index c.index-left-index.result c.index-right-index.result c.loop-index-test.true (sym c.if-right-left.false) c.index-left-index.is c.index-right-index.is c.loop-index.invariant (c.if-not-is_same_alternative.ensures.0 refl)

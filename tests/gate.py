@@ -45,6 +45,8 @@ from room import files_of
 
 # the test programs that are parts of one (tests/programs/checks)
 PARTS_OF_ONE = ("rows", "hostile", "texts", "types", "names", "fields", "published", "memory", "memory_texts")
+# before the words of what goes beside the proofs and comes after them
+BEHIND = ["nice", "-n", "10"]
 # the memory of a proof, and for each processor of what goes beside the proofs, edits and tests
 MEMORY = 5_500_000_000
 FIRST, TOOL = "crates/asn_first/out/asn_first", "crates/asn_tool/out/asn_tool"
@@ -231,16 +233,17 @@ def compare_one(part, words, name, given, wanted):
 
 
 def tests_of_sources(part, room):
-    """The tests that want nothing of the proofs: what they build is built without one, from the sources."""
-    step(part, ["tests/room.py", "build", room, "tests/programs/outcomes", "tests/programs/checks"])
+    """The tests that want nothing of the proofs: what they build is built without one, from the sources. Beside the proofs
+    they take what processors these leave, since all else waits for the first proofs."""
+    step(part, [*BEHIND, "tests/room.py", "build", room, "tests/programs/outcomes", "tests/programs/checks"])
     for name in PARTS_OF_ONE:
         if os.path.isfile(f"{room}/test_checks"):
-            compare(part, [f"{room}/test_checks", name], name)
-    step(part, ["tests/octet_counts.py"])
-    step(part, ["tests/published_rows.py"])
+            compare(part, [*BEHIND, f"{room}/test_checks", name], name)
+    step(part, [*BEHIND, "tests/octet_counts.py"])
+    step(part, [*BEHIND, "tests/published_rows.py"])
     # the library for C, of the module of those programs
-    step(part, ["bindings/build.sh", "--object", f"{room}/test_checks.o", f"{room}/library"])
-    step(part, ["bindings/tests.sh", f"{room}/library"])
+    step(part, [*BEHIND, "bindings/build.sh", "--object", f"{room}/test_checks.o", f"{room}/library"])
+    step(part, [*BEHIND, "bindings/tests.sh", f"{room}/library"])
 
 
 def tests_of_archives(part, turn):

@@ -1,4 +1,4 @@
-//! Whole octets and the fewer than 64 bits after them: bits and octets put behind both, for which there is room.
+//! Whole octets and the fewer than 64 bits after them: bits and octets are added after both, where there is room.
 ghost use Rattle.std.specs.Prelude.{◌≡◌, ◌+◌, ◌^◌, ◌<◌, ◌≤◌, ◌++◌, length, vec_len, vec_capacity};
 ghost use Rattle.asn_bits.specs.Numbers.{bits, unpacked};
 ghost use Rattle.asn_bits.specs.Sink.{IsPut};

@@ -1,5 +1,5 @@
-//! What is told of a type and of messages: where each message ends, its value as JSON and its fields, why it is refused, what
-//! it takes, and what is counted of many; the types of a module, and values to begin from.
+//! What the program shows of a type and of messages: where each message ends, its value as JSON and its fields, why it is
+//! refused, what it takes, and what is counted of many; the types of a module, and values to begin from.
 #![tactic(auto)]
 
 mod budget;

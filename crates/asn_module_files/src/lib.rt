@@ -1,5 +1,5 @@
-//! The module of a job: read from files or from standard input, as it is or of published modules, written as one module of
-//! the profile, and told of where it is refused.
+//! The module of a job: read from files or from standard input, as it is or as published modules that become one module of
+//! the profile; and why a module is refused.
 #![tactic(auto)]
 
 mod flattening;

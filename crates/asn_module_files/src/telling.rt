@@ -59,7 +59,7 @@ pub fn input_of_files<'a>(
     }
 }
 
-/// Writes the remarks on published modules to standard error, and where that is told of a module, that it is one of several.
+/// Writes the remarks on published modules to standard error, and where that is asked for, that a module is one of several.
 fn tell_remarks(rt: &HostRuntime, remarks: &str, is_told: bool) {
     let _ = rt.eprint(remarks);
     if is_told {

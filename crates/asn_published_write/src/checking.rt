@@ -82,7 +82,7 @@ impl<'t> Writer<'t> {
         let Some(member) = known.forest.member(index) else {
             return 0;
         };
-        self.node = member.node;
+        self.counts.node = member.node;
         match known.forest.node(member.node) {
             Some(node) => known.line_of(&node),
             None => 0,

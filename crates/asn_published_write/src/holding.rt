@@ -42,7 +42,7 @@ impl<'t> Writer<'t> {
         let is_marked = marked || (is_extensible(known, node) && !is_group);
         // a CHOICE of more than one alternative has an index
         let is_single = holder != Holder::Choice || layout.root.len() == 1;
-        self.without_bits.push(!is_marked && is_single)?;
+        self.held.without_bits.push(!is_marked && is_single)?;
         let mut tasks = Vec::new(alloc);
         let below = depth.saturating_add(1);
         self.push_members(alloc, known, &mut tasks, holder, &layout, is_marked, below)?;

@@ -61,7 +61,7 @@ impl<'t> Writer<'t> {
             marked: seen.marked,
             is_empty: self.put_size(alloc, known, index, &seen, line)?,
         };
-        self.sizes.push(seen.sizes)?;
+        self.held.sizes.push(seen.sizes)?;
         self.ask_for_element(element, end, depth)
     }
 
@@ -91,8 +91,8 @@ impl<'t> Writer<'t> {
         depth: usize,
     ) -> Result<(), Refusal> {
         let line = known.line_of(node);
-        self.uses.push(to)?;
-        if known.is_below(to) && known.level <= 1 {
+        self.told.uses.push(to)?;
+        if known.is_below(to) && known.own.level <= 1 {
             return self.write_last_level(alloc, known, index, line);
         }
         self.take_info(alloc, known, index, to, depth, line)?;
@@ -162,9 +162,9 @@ impl<'t> Writer<'t> {
             Ok(member) => member,
             Err(why) => return Err(refused(line, why)),
         };
-        self.nodes = self.nodes.saturating_sub(1);
-        self.selections = self.selections.saturating_add(1);
-        if self.selections > MOST_SELECTIONS {
+        self.counts.nodes = self.counts.nodes.saturating_sub(1);
+        self.counts.selections = self.counts.selections.saturating_add(1);
+        if self.counts.selections > MOST_SELECTIONS {
             return Err(refused(line, Why::Recursive));
         }
         Ok(self.stack.push(Task::Node(member.node, depth))?)
@@ -172,7 +172,7 @@ impl<'t> Writer<'t> {
 
     /// Writes the name of a type, of one of its cycle with a level less.
     fn put_name(&mut self, alloc: Global, known: &Known<'_, 't>, to: usize) -> Result<(), Refusal> {
-        let name = match known.names.get(to) {
+        let name = match known.types.names.get(to) {
             Some(name) => name.as_str(),
             None => "",
         };
@@ -180,9 +180,9 @@ impl<'t> Writer<'t> {
         if !known.is_below(to) {
             return Ok(());
         }
-        let level = known.level.saturating_sub(1);
+        let level = known.own.level.saturating_sub(1);
         let number = format!(in alloc; "{level}")?;
-        Ok(push_pieces(&mut self.out, &[known.level_mark, number.as_str()])?)
+        Ok(push_pieces(&mut self.out, &[known.types.level_mark, number.as_str()])?)
     }
 
     /// Writes the type of an assignment with further constraints; of the type itself `last` tells.
@@ -244,7 +244,7 @@ impl<'t> Writer<'t> {
         let both = seen_with(alloc, &self.last, own, line)?;
         // the nodes of the element are counted as it is written
         let counted = self.last.nodes.saturating_sub(1);
-        self.nodes = self.nodes.saturating_sub(counted);
+        self.counts.nodes = self.counts.nodes.saturating_sub(counted);
         self.put_list(alloc, known, index, both, element, line, depth)
     }
 
@@ -298,7 +298,7 @@ fn selected<'t>(
 fn element_of(known: &Known<'_, '_>, to: usize) -> Option<usize> {
     let mut to = to;
     for _ in 0..MOST_SELECTIONS {
-        let Some(Some(first)) = known.firsts.get(to) else {
+        let Some(Some(first)) = known.types.firsts.get(to) else {
             return None;
         };
         match known.forest.node(*first)?.shape {
@@ -318,7 +318,7 @@ fn seen_with(alloc: Global, info: &Info, own: Seen, line: u32) -> Result<Seen, R
 /// What is known of a type that is referred to.
 fn info_of(alloc: Global, known: &Known<'_, '_>, to: usize, line: u32) -> Result<Info, Refusal> {
     let states = if known.is_below(to) {
-        known.below
+        known.own.below
     } else {
         known.values.states
     };

@@ -21,8 +21,8 @@ fn write_one<'t>(
         });
     }
     writer.write_type(alloc, known, first)?;
-    if known.options.strict && writer.status != Status::Same {
-        writer.node = first;
+    if known.options.strict && writer.told.status != Status::Same {
+        writer.counts.node = first;
         return Err(Refusal::At {
             line: 0,
             why: Why::NotTheSame,
@@ -47,7 +47,7 @@ pub(crate) fn outcome_of<'t>(
     written: usize,
 ) -> Result<Outcome<'t>, AllocError> {
     let mut writer = Writer::new(alloc, written);
-    writer.node = first;
+    writer.counts.node = first;
     let refusal = match write_one(alloc, known, first, is_refused, &mut writer) {
         Ok(()) => None,
         Err(Refusal::Memory) => return Err(AllocError),
@@ -71,30 +71,30 @@ pub(crate) struct Settled {
 /// A type that was written.
 fn ready(writer: Writer<'_>) -> Settled {
     let mut info = writer.last;
-    info.nodes = writer.nodes;
-    info.depth = writer.depth;
-    info.status = writer.status;
+    info.nodes = writer.counts.nodes;
+    info.depth = writer.counts.depth;
+    info.status = writer.told.status;
     Settled {
         state: State::Ready(info),
         line: Some(writer.out),
-        status: writer.status,
-        notes: writer.notes,
-        uses: writer.uses,
-        written: writer.written,
+        status: writer.told.status,
+        notes: writer.told.notes,
+        uses: writer.told.uses,
+        written: writer.counts.written,
     }
 }
 
 /// A type that is refused, as the note tells.
 fn refused(writer: Writer<'_>, note: Note) -> Result<Settled, AllocError> {
     let mut writer = writer;
-    writer.notes.push(note)?;
+    writer.told.notes.push(note)?;
     Ok(Settled {
         state: State::Refused,
         line: None,
         status: Status::Refused,
-        notes: writer.notes,
-        uses: writer.uses,
-        written: writer.written,
+        notes: writer.told.notes,
+        uses: writer.told.uses,
+        written: writer.counts.written,
     })
 }
 
@@ -111,10 +111,10 @@ pub(crate) fn settle_type<'t>(
     let Some((line, why)) = refusal else {
         return Ok(ready(writer));
     };
-    let is_here = line != 0 && file_of(sources, writer.node) == file;
+    let is_here = line != 0 && file_of(sources, writer.counts.node) == file;
     let note = Note {
         line: if is_here { line } else { own_line },
-        component: path_of(alloc, &sources.forest, writer.node)?,
+        component: path_of(alloc, &sources.forest, writer.counts.node)?,
         remark: Remark::Refused(why),
     };
     refused(writer, note)

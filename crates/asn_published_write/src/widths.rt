@@ -32,7 +32,7 @@ impl<'t> Writer<'t> {
         is_empty: bool,
     ) -> Result<(), Refusal> {
         if self.last.no_bits {
-            self.node = element;
+            self.counts.node = element;
             let line = match known.forest.node(element) {
                 Some(node) => known.line_of(&node),
                 None => 0,
@@ -40,7 +40,7 @@ impl<'t> Writer<'t> {
             return Err(refused(line, Why::ZeroWidth));
         }
         let mut info = Info::of(Base::List);
-        if let Some(sizes) = self.sizes.pop() {
+        if let Some(sizes) = self.held.sizes.pop() {
             info.left = sizes;
         }
         info.marked = marked;
@@ -52,7 +52,7 @@ impl<'t> Writer<'t> {
     /// Takes a component or an alternative of the root, whose type was written last.
     pub fn take_member_bits(&mut self, need: Need) {
         let has_none = matches!(need, Need::Must) && self.last.no_bits;
-        if let Some(place) = self.without_bits.last_mut() {
+        if let Some(place) = self.held.without_bits.last_mut() {
             *place = *place && has_none;
         }
     }
@@ -60,7 +60,7 @@ impl<'t> Writer<'t> {
     /// Ends a type that holds components or alternatives.
     pub fn end_members(&mut self) {
         let mut info = Info::of(Base::Other);
-        info.no_bits = self.without_bits.pop().unwrap_or(false);
+        info.no_bits = self.held.without_bits.pop().unwrap_or(false);
         self.last = info;
     }
 }

@@ -17,28 +17,39 @@ use asn_published_types::tags::Tagging;
 use std::alloc::{AllocError, Global};
 use std::fmt::Write;
 
-/// What is known when a type is written.
+/// What is known of all types.
 #[derive(Clone, Copy)]
-pub(crate) struct Known<'a, 't> {
-    pub values: Values<'a, 't>,
-    pub forest: &'a Forest<'t>,
+pub(crate) struct Types<'a> {
     /// Of each type the first node.
     pub firsts: &'a [Option<usize>],
     /// Of each type its name in the profile.
     pub names: &'a [String],
     /// What stands between the name of a type and the number of its level.
     pub level_mark: &'a str,
-    pub options: Options,
     /// Of each type the cycle of references in which it lies.
     pub cycles: &'a [Option<usize>],
-    /// The type that is written, which of the texts assigns it, on which line, and how many levels of its cycle there
-    /// are.
+}
+
+/// The type that is written.
+#[derive(Clone, Copy)]
+pub(crate) struct Own<'a> {
     pub entry: usize,
+    /// Which of the texts assigns it, on which line, and how many levels of its cycle there are.
     pub file: usize,
-    pub own_line: u32,
+    pub line: u32,
     pub level: u32,
     /// The types of its cycle with a level less.
     pub below: &'a [State],
+}
+
+/// What is known when a type is written.
+#[derive(Clone, Copy)]
+pub(crate) struct Known<'a, 't> {
+    pub values: Values<'a, 't>,
+    pub forest: &'a Forest<'t>,
+    pub options: Options,
+    pub types: Types<'a>,
+    pub own: Own<'a>,
 }
 
 /// What is still to be written.
@@ -71,6 +82,38 @@ pub(crate) struct Passed {
     by_nodes: bool,
 }
 
+/// What was counted of a type that is being written.
+#[derive(Clone, Copy)]
+pub(crate) struct Counts {
+    /// The nodes and the levels, those of the types that it refers to with them.
+    pub nodes: usize,
+    pub depth: usize,
+    pub passed: Option<Passed>,
+    /// How many nodes were written, of the types before it too.
+    pub written: usize,
+    pub selections: u32,
+    /// The node that is written, where a fault is told.
+    pub node: usize,
+}
+
+/// What is told of a type that is being written.
+#[derive(Drop)]
+pub(crate) struct Told {
+    pub notes: Vec<Note>,
+    pub status: Status,
+    /// The types that it refers to.
+    pub uses: Vec<usize>,
+}
+
+/// Of each type that holds the next node, from the outside, and of each list.
+#[derive(Drop)]
+pub(crate) struct Held {
+    /// Whether nothing in the type so far has a bit in PER.
+    pub without_bits: Vec<bool>,
+    /// What is left of the sizes of the list.
+    pub sizes: Vec<Option<Ranges>>,
+}
+
 /// A type that is being written.
 #[derive(Drop)]
 pub(crate) struct Writer<'t> {
@@ -78,23 +121,9 @@ pub(crate) struct Writer<'t> {
     pub stack: Vec<Task<'t>>,
     /// The type that was written last.
     pub last: Info,
-    pub notes: Vec<Note>,
-    pub status: Status,
-    /// The nodes and the levels that were counted, those of the types that it refers to with them.
-    pub nodes: usize,
-    pub depth: usize,
-    pub passed: Option<Passed>,
-    /// How many nodes were written, of the types before it too.
-    pub written: usize,
-    pub selections: u32,
-    /// Of each type that holds the next node, from the outside, whether nothing in it so far has a bit in PER.
-    pub without_bits: Vec<bool>,
-    /// What is left of the sizes of each list that holds the next node, from the outside.
-    pub sizes: Vec<Option<Ranges>>,
-    /// Where a fault is told.
-    pub node: usize,
-    /// The types that it refers to.
-    pub uses: Vec<usize>,
+    pub told: Told,
+    pub counts: Counts,
+    pub held: Held,
 }
 
 /// How many characters of a path are enough: a longer one has its last names alone.
@@ -147,8 +176,8 @@ impl<'a, 't> Known<'a, 't> {
     /// The line of a node; that of the type, where the node stands in another text.
     pub fn line_of(&self, node: &Node<'t>) -> u32 {
         match self.values.world.modules.get(node.module) {
-            Some(module) if module.file == self.file => {}
-            _ => return self.own_line,
+            Some(module) if module.file == self.own.file => {}
+            _ => return self.own.line,
         }
         match self.values.world.tokens_of(node.module) {
             Some(tokens) => tokens.line(node.at),
@@ -158,7 +187,7 @@ impl<'a, 't> Known<'a, 't> {
 
     /// Whether a type lies in the cycle of references of the one that is written.
     pub fn is_below(&self, to: usize) -> bool {
-        match (self.cycles.get(self.entry), self.cycles.get(to)) {
+        match (self.types.cycles.get(self.own.entry), self.types.cycles.get(to)) {
             (Some(Some(own)), Some(Some(other))) => own == other,
             _ => false,
         }
@@ -169,7 +198,7 @@ impl<'a, 't> Known<'a, 't> {
         Tagging {
             world: self.values.world,
             forest: self.forest,
-            firsts: self.firsts,
+            firsts: self.types.firsts,
             numbers: self.values.numbers,
         }
     }
@@ -193,17 +222,23 @@ impl<'t> Writer<'t> {
             out: String::new(alloc),
             stack: Vec::new(alloc),
             last: Info::of(Base::Other),
-            notes: Vec::new(alloc),
-            status: Status::Same,
-            nodes: 0,
-            depth: 0,
-            passed: None,
-            written,
-            selections: 0,
-            without_bits: Vec::new(alloc),
-            sizes: Vec::new(alloc),
-            node: 0,
-            uses: Vec::new(alloc),
+            told: Told {
+                notes: Vec::new(alloc),
+                status: Status::Same,
+                uses: Vec::new(alloc),
+            },
+            counts: Counts {
+                nodes: 0,
+                depth: 0,
+                passed: None,
+                written,
+                selections: 0,
+                node: 0,
+            },
+            held: Held {
+                without_bits: Vec::new(alloc),
+                sizes: Vec::new(alloc),
+            },
         }
     }
 
@@ -219,8 +254,8 @@ impl<'t> Writer<'t> {
             return Ok(());
         };
         let component = path_of(alloc, known.forest, index)?;
-        self.status = self.status.worse(remark.status());
-        self.notes.push(Note {
+        self.told.status = self.told.status.worse(remark.status());
+        self.told.notes.push(Note {
             line: known.line_of(&node),
             component,
             remark,
@@ -231,12 +266,12 @@ impl<'t> Writer<'t> {
     /// Counts nodes that reach `depth` levels down. Where they pass a limit, the node that is written is the one at
     /// which that is told, and what is left is counted all the same.
     pub fn count(&mut self, nodes: usize, depth: usize, line: u32) {
-        self.nodes = self.nodes.saturating_add(nodes);
-        self.depth = self.depth.max(depth);
-        let by_nodes = self.nodes > MOST_NODES;
-        if self.passed.is_none() && (by_nodes || self.depth > MOST_LEVELS) {
-            self.passed = Some(Passed {
-                node: self.node,
+        self.counts.nodes = self.counts.nodes.saturating_add(nodes);
+        self.counts.depth = self.counts.depth.max(depth);
+        let by_nodes = self.counts.nodes > MOST_NODES;
+        if self.counts.passed.is_none() && (by_nodes || self.counts.depth > MOST_LEVELS) {
+            self.counts.passed = Some(Passed {
+                node: self.counts.node,
                 line,
                 by_nodes,
             });
@@ -251,23 +286,23 @@ impl<'t> Writer<'t> {
         line: u32,
     ) -> Result<(), Refusal> {
         let most = most_of_all(known.forest.nodes.len(), known.options.levels);
-        self.written = self.written.saturating_add(nodes);
-        within(line, "nodes of all types", self.written, most)
+        self.counts.written = self.counts.written.saturating_add(nodes);
+        within(line, "nodes of all types", self.counts.written, most)
     }
 
     /// A refusal where more nodes or levels were counted than a type may have.
     fn within_limits(&self) -> Result<(), Refusal>
-        ensures { IfOk result (λ done. (self.now.nodes ≤ most_nodes) × (self.now.depth ≤ most_levels)) }
+        ensures { IfOk result (λ done. (self.now.counts.nodes ≤ most_nodes) × (self.now.counts.depth ≤ most_levels)) }
     {
-        let (line, by_nodes) = match self.passed {
+        let (line, by_nodes) = match self.counts.passed {
             Some(passed) => (passed.line, passed.by_nodes),
             None => (0, false),
         };
         if by_nodes {
-            within(line, "nodes", self.nodes, MOST_NODES)?;
+            within(line, "nodes", self.counts.nodes, MOST_NODES)?;
         }
-        within(line, "levels", self.depth, MOST_LEVELS)?;
-        within(line, "nodes", self.nodes, MOST_NODES)
+        within(line, "levels", self.counts.depth, MOST_LEVELS)?;
+        within(line, "nodes", self.counts.nodes, MOST_NODES)
     }
 
     /// Writes the type whose first node this is. Where a limit is passed, the fault tells how many nodes or levels the
@@ -279,12 +314,12 @@ impl<'t> Writer<'t> {
         first: usize,
     ) -> Result<(), Refusal>
         // A type that is written has no more nodes and levels than the profile allows.
-        ensures { IfOk result (λ done. (self.new.nodes ≤ most_nodes) × (self.new.depth ≤ most_levels)) }
+        ensures { IfOk result (λ done. (self.new.counts.nodes ≤ most_nodes) × (self.new.counts.depth ≤ most_levels)) }
     {
         self.stack.push(Task::Node(first, 1))?;
         self.take_all(alloc, known)?;
-        if let Some(passed) = self.passed {
-            self.node = passed.node;
+        if let Some(passed) = self.counts.passed {
+            self.counts.node = passed.node;
         }
         self.within_limits()
     }
@@ -296,7 +331,7 @@ impl<'t> Writer<'t> {
                 break;
             };
             match self.take(alloc, known, task) {
-                Err(Refusal::At { .. }) if self.passed.is_some() => break,
+                Err(Refusal::At { .. }) if self.counts.passed.is_some() => break,
                 Err(refusal) => return Err(refusal),
                 Ok(()) => {}
             }
@@ -313,7 +348,7 @@ impl<'t> Writer<'t> {
     ) -> Result<(), Refusal> {
         match task {
             Task::Node(index, depth) => {
-                self.node = index;
+                self.counts.node = index;
                 self.write_node(alloc, known, index, depth)
             }
             Task::Text(text) => Ok(self.out.push_str(text)?),

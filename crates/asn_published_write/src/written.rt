@@ -1,7 +1,7 @@
 //! The types as they are written, and what became of each.
 use crate::settling::{Settled, assignment_of, outcome_of, settle_type};
 use crate::sources::Sources;
-use crate::writer::Known;
+use crate::writer::{Known, Own, Types};
 use asn_published_text::options::Options;
 use asn_published_types::info::State;
 use asn_published_types::numbers::Values;
@@ -79,16 +79,20 @@ fn known_of<'a, 't>(
             states: writing.written.states.as_slice(),
         },
         forest: &sources.forest,
-        firsts: sources.firsts.as_slice(),
-        names: sources.names.as_slice(),
-        level_mark: sources.level_mark.as_str(),
         options,
-        cycles: sources.order.cycles.as_slice(),
-        entry,
-        file: sources.world.text_of(assignment),
-        own_line: line_of(sources, assignment),
-        level,
-        below: writing.below.as_slice(),
+        types: Types {
+            firsts: sources.firsts.as_slice(),
+            names: sources.names.as_slice(),
+            level_mark: sources.level_mark.as_str(),
+            cycles: sources.order.cycles.as_slice(),
+        },
+        own: Own {
+            entry,
+            file: sources.world.text_of(assignment),
+            line: line_of(sources, assignment),
+            level,
+            below: writing.below.as_slice(),
+        },
     }
 }
 
@@ -107,7 +111,7 @@ impl Writing {
             return Ok(None);
         };
         let known = known_of(&*sources, options, &*self, entry, level);
-        let (file, own_line) = (known.file, known.own_line);
+        let (file, own_line) = (known.own.file, known.own.line);
         let outcome = outcome_of(alloc, &known, *first, is_refused, self.nodes)?;
         let settled = settle_type(alloc, sources, file, own_line, outcome)?;
         self.nodes = settled.written;

@@ -4,4 +4,5 @@ pub mod Given
 pub mod NotHelp
 pub mod Refusals
 pub mod SetOptions
+pub mod Subcommands
 pub mod Taken

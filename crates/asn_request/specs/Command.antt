@@ -186,7 +186,33 @@ AreOrders (o ∷ os) (s ∷ shapes) = IsOrder o s × AreOrders os shapes
 AreOrders [] (s ∷ shapes) = ⊥
 AreOrders (o ∷ os) [] = ⊥
 
--- the command, with its subcommands
+-- ---- the command
+
+-- before it has subcommands
+abbrev pub bare_tool : App
+bare_tool = record {
+  top = record (new_app (codes "asn_tool")).top { has_version = true; no_binary_name = true; subcommand_required = true };
+  subs = [];
+}
+
+-- a command with these subcommands more, of which there is one at least
+abbrev pub with_subcommands : App → List Shape → App
+with_subcommands a shapes = record { top = record a.top { is_leaf = false }; subs = a.subs ++ shapes }
+
+abbrev pub look_shapes : Option ValueParser → Option ValueParser → Option ValueParser → List Shape
+look_shapes report rules given = (flatten_app report).top ∷ module_shape ∷ (fields_app rules given).top ∷ types_shape
+    ∷ example_shape ∷ []
+
+-- the second command is the first with the subcommands for modules, fields, types and values
+abbrev pub HasLooks : App → App → Type 0
+HasLooks a b = (report rules given : Option ValueParser) × TakesNames report_names report × TakesNames rule_names rules
+    × TakesNames given_names given × (b ≡ with_subcommands a (look_shapes report rules given))
+
+-- the second command is the first with the subcommands of the orders
+abbrev pub HasOrders : App → App → Type 0
+HasOrders a b = (shapes : List Shape) × AreOrders orders shapes × (b ≡ with_subcommands a shapes)
+
+-- with its subcommands
 abbrev pub tool : Option ValueParser → Option ValueParser → Option ValueParser → List Shape → App
 tool report rules given shapes = record {
   top = record (new_app (codes "asn_tool")).top {

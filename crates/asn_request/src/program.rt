@@ -1,7 +1,7 @@
 //! The command line as `clap` knows it.
-ghost use Rattle.std.specs.Prelude.{IfOk};
+ghost use Rattle.std.specs.Prelude.{◌≡◌, IfOk};
 ghost use Rattle.clap.specs.Words.{app_of};
-ghost use Rattle.asn_request.specs.Command.{IsTool};
+ghost use Rattle.asn_request.specs.Command.{HasLooks, HasOrders, IsTool, bare_tool};
 
 use crate::help;
 use crate::words::{example, fields, flatten, module, order, reading, types};
@@ -12,19 +12,40 @@ use std::alloc::{AllocError, Global};
 pub fn command<'a>(alloc: Global) -> Result<Command<'a>, AllocError>
     ensures { IfOk result (λ c. IsTool (app_of c)) }
 {
+    let tool = bare(alloc)?;
+    let tool = with_looks(alloc, tool)?;
+    with_orders(alloc, tool)
+}
+
+/// The command, before it has subcommands.
+fn bare<'a>(alloc: Global) -> Result<Command<'a>, AllocError>
+    ensures { IfOk result (λ c. app_of c ≡ bare_tool) }
+{
     Command::new(alloc, "asn_tool")
         .version("0.1.0")
         .about("Shows, checks, encodes and converts messages of the types of ASN.1 modules")
         .after_help(help::PROGRAM)
         .no_binary_name(true)
         .subcommand_required(true)
-        .bin_name("asn_tool")?
-        .subcommand(flatten(alloc)?)?
+        .bin_name("asn_tool")
+}
+
+/// The command with the subcommands for modules, fields, types and values.
+fn with_looks<'a>(alloc: Global, tool: Command<'a>) -> Result<Command<'a>, AllocError>
+    ensures { IfOk result (λ c. HasLooks (app_of tool.entry) (app_of c)) }
+{
+    tool.subcommand(flatten(alloc)?)?
         .subcommand(module(alloc)?)?
         .subcommand(fields(alloc)?)?
         .subcommand(types(alloc)?)?
-        .subcommand(example(alloc)?)?
-        .subcommand(reading(alloc, "show", "Shows messages as JSON", help::SHOW)?)?
+        .subcommand(example(alloc)?)
+}
+
+/// The command with a subcommand for each order.
+fn with_orders<'a>(alloc: Global, tool: Command<'a>) -> Result<Command<'a>, AllocError>
+    ensures { IfOk result (λ c. HasOrders (app_of tool.entry) (app_of c)) }
+{
+    tool.subcommand(reading(alloc, "show", "Shows messages as JSON", help::SHOW)?)?
         .subcommand(reading(alloc, "check", "Checks messages", help::CHECK)?)?
         .subcommand(order(alloc, "encode", "Encodes JSON", help::ENCODE)?)?
         .subcommand(reading(

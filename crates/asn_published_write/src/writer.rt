@@ -187,7 +187,10 @@ impl<'a, 't> Known<'a, 't> {
 
     /// Whether a type lies in the cycle of references of the one that is written.
     pub fn is_below(&self, to: usize) -> bool {
-        match (self.types.cycles.get(self.own.entry), self.types.cycles.get(to)) {
+        match (
+            self.types.cycles.get(self.own.entry),
+            self.types.cycles.get(to),
+        ) {
             (Some(Some(own)), Some(Some(other))) => own == other,
             _ => false,
         }

@@ -14,11 +14,11 @@ returns c =
     let fields = (fields_app looks.0 looks.1).top in
     let one = c.in_ok-subcommand.ensures.shape c.in_ok-flatten.ensures.local ∙ ap (with_subcommand a) flat.2 in
     let two = c.in_ok-subcommand-2.ensures.shape c.in_ok-module.ensures.local ∙ ap₂ with_subcommand one c.in_ok-module.ensures.shape
-        ∙ one_more a (flatten ∷ []) module_shape in
+    ∙ one_more a (flatten ∷ []) module_shape in
     let three = c.in_ok-subcommand-3.ensures.shape c.in_ok-fields.ensures.local ∙ ap₂ with_subcommand two looks.4
-        ∙ one_more a (flatten ∷ module_shape ∷ []) fields in
+    ∙ one_more a (flatten ∷ module_shape ∷ []) fields in
     let four = c.in_ok-subcommand-4.ensures.shape c.in_ok-types.ensures.local ∙ ap₂ with_subcommand three c.in_ok-types.ensures.shape
-        ∙ one_more a (flatten ∷ module_shape ∷ fields ∷ []) types_shape in
+    ∙ one_more a (flatten ∷ module_shape ∷ fields ∷ []) types_shape in
     IfOk-weaker c.subcommand-5.result _ _
     (λ d h. (
       flat.0,
@@ -28,6 +28,6 @@ returns c =
       looks.2,
       looks.3,
       h.shape c.in_ok-example.ensures.local ∙ ap₂ with_subcommand four c.in_ok-example.ensures.shape
-        ∙ one_more a (flatten ∷ module_shape ∷ fields ∷ types_shape ∷ []) example_shape,
+          ∙ one_more a (flatten ∷ module_shape ∷ fields ∷ types_shape ∷ []) example_shape,
     ))
     c.subcommand-5.ensures

@@ -17,11 +17,11 @@ returns c =
     let top = λ (b : App). b.top in
     let one = c.in_ok-subcommand.ensures.shape c.in_ok-reading.ensures.local in
     let two = c.in_ok-subcommand-2.ensures.shape c.in_ok-reading-2.ensures.local ∙ ap (λ b. with_subcommand b s2) one
-        ∙ one_more a (s1 ∷ []) s2 in
+    ∙ one_more a (s1 ∷ []) s2 in
     let three = c.in_ok-subcommand-3.ensures.shape c.in_ok-order.ensures.local ∙ ap (λ b. with_subcommand b s3) two
-        ∙ one_more a (s1 ∷ s2 ∷ []) s3 in
+    ∙ one_more a (s1 ∷ s2 ∷ []) s3 in
     let four = c.in_ok-subcommand-4.ensures.shape c.in_ok-reading-3.ensures.local ∙ ap (λ b. with_subcommand b s4) three
-        ∙ one_more a (s1 ∷ s2 ∷ s3 ∷ []) s4 in
+    ∙ one_more a (s1 ∷ s2 ∷ s3 ∷ []) s4 in
     IfOk-weaker c.subcommand-5.result _ _
     (λ d h. (
       s1 ∷ s2 ∷ s3 ∷ s4 ∷ s5 ∷ [],

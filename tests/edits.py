@@ -6,7 +6,7 @@ usage: tests/edits.py [CRATE..]      at the top of the repository: tries all edi
        tests/edits.py --due          as the gate does: those of the crates that changed, and some of a sixteenth of the others
        tests/edits.py --due --beside the same beside `rt ci`: reads from its input the name of each crate as it is proved,
                                      and tries the crate's edits then; half of the processors are left to the proofs
-       tests/edits.py --anew CRATE.. tries those of these crates as in a clone where nothing is kept, and notes nothing
+       tests/edits.py --anew CRATE.. tries those of these crates as in a clone where nothing is kept
        tests/edits.py --list         says which edits there are, and what each changes; tries none
        tests/edits.py --self-test    tries wrong edits of a tiny crate with right ones among them, which have to be told,
                                      and shows in which order --due takes crates
@@ -26,7 +26,8 @@ Where earlier checks kept what they proved of the crate, the checks begin with t
 in the gate, which has proved the crate by `rt ci`, no function is proved once more for the edits: each function that a
 group does not change has a hole for its proof and no body to look at, and the check goes past holes (`--allow-holes`),
 which takes the function at its contract. Only cycles of functions with an edited member are first proved as they stand,
-since a cycle has one proof. Whether the crate itself is proved is then for `rt ci` to say.
+since a cycle has one proof; of that a group proves anew the goals that its edits change, as the checker keeps each goal
+apart. Whether the crate itself is proved is then for `rt ci` to say.
 
 tests/edits/tried has for each crate a sum of what its edits were tried over (the crate, its edits, the contracts and
 definitions below it, and the logic of the kit) and a sum of the crate and its edits alone. A run over a crate notes both
@@ -253,28 +254,9 @@ def has_goal(function, goal):
     return f"::{function}".endswith(f"::{goal.partition('-')[0]}")
 
 
-def leave_answers(file, own):
-    """In a cycle's answers to its goals, puts a hole in the place of each that is of no function of these."""
-    kept, name = [], None
-    for line in text_of(file).splitlines():
-        found = re.match(r"pub (\S+) : goal\.", line)
-        if found:
-            name, is_own, is_told = found[1], any(has_goal(it, found[1]) for it in own), False
-        elif not line or line.startswith(("use ", "abbrev ", "--")):
-            name = None
-        if name and not is_own and line.startswith(f"{name} "):
-            kept += [] if is_told else [f"{name} = ?"]
-            is_told = True
-        elif not name or is_own or not is_told:
-            kept.append(line)
-    with open(file, "w", encoding="utf-8") as it:
-        it.write("\n".join(kept) + "\n")
-
-
 def take_others_at_contracts(crate, folder, edits):
     """In a copy of the crate with these edits, gives each function that they do not change a hole for its proof and a body
-    of which nothing is left to check, so that its contract alone is read. A cycle with an edited member stays as it is,
-    with holes in the place of the answers to goals of the other members."""
+    of which nothing is left to check, so that its contract alone is read. A cycle with an edited member stays as it is."""
     own = {name for it in edits for name, _ in it.functions}
     cycles = {cycle.rpartition(" ")[2] for it in edits for _, cycle in it.functions if cycle}
     types = modules_of_types(crate.folder)
@@ -291,13 +273,10 @@ def take_others_at_contracts(crate, folder, edits):
         text = CYCLE.sub(lambda it: it[0] if it[1] in cycles else "", "".join(kept) + text[at:])
         with open(file, "w", encoding="utf-8") as it:
             it.write(text)
-    changed = {name for it in edits if it.pairs for name, _ in it.functions}
     for at, names, _ in os.walk(f"{folder}/proofs"):
         for name in [it for it in names if it[0] == "+" and it[1:] not in cycles | {it.rpartition("::")[2] for it in own}]:
             shutil.rmtree(f"{at}/{name}")
             names.remove(name)
-        for name in [it for it in names if it[0] == "+" and it[1:] in cycles and os.path.isfile(f"{at}/{it}/Answers.antt")]:
-            leave_answers(f"{at}/{name}/Answers.antt", changed)
 
 
 # ---- what a check says of a function
@@ -839,7 +818,7 @@ def main(words):
         part = part_of(drawn(sums))
         say(f"the turn: part {part + 1} of {len(TURNS) + 1}{', with the archives' if part == ARCHIVES else ''}")
     results = try_all(chosen, tried, "--beside" in words)
-    if "--due" not in words and not single and not ANEW:
+    if "--due" not in words and not single:
         note(results, sums)
     return summary(results, edits, left, waiting)
 

@@ -3,7 +3,7 @@
 
 usage: tests/edits.py [CRATE..]      at the top of the repository: tries all edits of these crates, or of all
        tests/edits.py CRATE/NAME..   tries these edits alone (NAME without its ending), and notes nothing
-       tests/edits.py --due          as the gate does: those of the crates that changed, and some of a sixteenth of the others
+       tests/edits.py --due          as the gate does: those of the crates that changed, and some of a quarter of the others
        tests/edits.py --due --beside the same beside `rt ci`: reads from its input the name of each crate as it is proved,
                                      and tries the crate's edits then; half of the processors are left to the proofs
        tests/edits.py --anew CRATE.. tries those of these crates as in a clone where nothing is kept
@@ -37,8 +37,9 @@ there where every edit was refused, and tests/edits/alone.txt says which edits h
 the edits of every crate due. It takes crates in this order, and passes over one that has more edits than are left:
 1. those whose own text or edits changed since they were tried, or were never noted;
 2. those for which only a contract or a definition below them changed;
-3. of the others those of one part of sixteen (`TURNS`; by estimate each takes about as long), and of their edits no more
-   than `MOST_IN_TURN`, so that a sum that was noted wrongly shows in time.
+3. of the others those of one part of four (`TURNS`; by estimate each takes about as long), and of each crate's edits as
+   many as one check takes, no two of one function and no more than `MOST_OF_CRATE`, so that a sum that was noted wrongly
+   shows in time.
 Which of the first two kinds come first where not all have room, which part is the third, and which of its edits are tried,
 is drawn from the sums of all crates (`drawn`). So it is the same wherever this text is tried, another as soon as a text
 changes that an edit rests on, and does not follow the number or the words of commits. What a merge has no time for is told;
@@ -64,31 +65,18 @@ from source_functions import blanked, functions, module_of, text_of
 from sums import own_sum_of, sum_of
 
 EDITS, TRIED, ALONE = "tests/edits", "tests/edits/tried", "tests/edits/alone.txt"
-# the crates whose edits are tried in the same run, in sixteen parts that by estimate take about as long; the others are the last
-# part (asn_newer asn_module asn_explain)
+# the crates that have their turn in the same run, in four parts that by estimate take about as long; the others are the last part
 TURNS = (
-    ["asn_values"],
-    ["asn_per"],
-    ["asn_walk_write"],
-    ["asn_walk_feed"],
-    "asn_tool asn_look asn_module_files asn_request asn_examples".split(),
-    "asn_published_types asn_published_text".split(),
-    "asn_rules asn_published asn_published_report asn_published_write".split(),
-    "tulvorn_c asn_walk".split(),
-    "asn_walk_read asn_fields".split(),
-    "asn_plan asn_window asn_sinks".split(),
-    "asn_oer uses_tulvorn asn_json_layout".split(),
-    "asn_resuming asn_notation asn_first".split(),
-    "asn_convert asn_walk_into asn_jobs".split(),
-    "asn_json asn_view tulvorn".split(),
-    "asn_bits asn_message asn_source".split(),
+    "asn_walk_feed asn_values tulvorn_c asn_first asn_view asn_bits asn_source asn_sinks asn_published_text".split(),
+    "asn_walk_write asn_newer asn_convert asn_published asn_per asn_notation asn_limits".split(),
+    "asn_plan asn_walk_read uses_tulvorn asn_json asn_oer asn_request asn_rules asn_explain asn_jobs".split(),
 )
-# the part with few edits, in whose place the gate proves and calls the archives of the library for C (tests/gate.py)
-ARCHIVES = TURNS.index(["asn_published_types", "asn_published_text"])
+# in one run of how many the gate also proves and calls the archives of the library for C (tests/gate.py)
+ARCHIVES = 16
 # how many edits one merge has the time for, beside the proofs of all crates
 MOST = 450
-# how many edits of crates that did not change one merge tries
-MOST_IN_TURN = 48
+# how many edits of a crate that did not change one merge tries
+MOST_OF_CRATE = 12
 # the seconds that a check of edits may take, and three times as many beside proofs, which come first
 LIMIT = 1200
 # whether nothing that earlier checks kept is taken
@@ -578,11 +566,20 @@ def in_order(changed, below, others, counts, number):
     return taken, [it for it in [*changed, *below] if it not in taken]
 
 
-def some_of(names, edits, number):
-    """The edits of crates that have their turn that are tried, by a number that was drawn: each comes at times."""
-    order = lambda it: hashlib.sha256(f"{number} {it.label}".encode()).digest()
-    some = sorted((it for name in names for it in edits[name]), key=order)[:MOST_IN_TURN]
-    return {name: [it for it in edits[name] if it in some] for name in names}
+def some_of(edits, number):
+    """The edits of a crate that has its turn that are tried, by a number that was drawn, no two of one function, so that one
+    check judges them: each comes at times."""
+    some, used = [], set()
+    for edit in sorted(edits, key=lambda it: hashlib.sha256(f"{number} {it.label}".encode()).digest()):
+        if len(some) < MOST_OF_CRATE and not used & {*edit.functions}:
+            some.append(edit)
+            used.update(edit.functions)
+    return [it for it in edits if it in some]
+
+
+def has_archives(number):
+    """Whether the archives of the library for C have their turn, by a number that was drawn."""
+    return number // (len(TURNS) + 1) % ARCHIVES == 0
 
 
 def due_of(chosen, edits, sums):
@@ -592,10 +589,10 @@ def due_of(chosen, edits, sums):
     due = [it for it in names if known.get(it, ())[:1] != sums[it][:1]]
     changed = [it for it in due if known.get(it, ())[1:] != sums[it][1:]]
     below, others = [it for it in due if it not in changed], [it for it in names if it not in due]
-    counts = {name: len(found) for name, found in edits.items()}
+    tried = {name: found if name in due else some_of(found, drawn(sums)) for name, found in edits.items()}
+    counts = {name: len(found) for name, found in tried.items()}
     taken, waiting = in_order(changed, below, others, counts, drawn(sums))
-    some = some_of([it for it in taken if it in others], edits, drawn(sums))
-    tried = {name: found for name in taken if (found := some.get(name, edits[name]))}
+    tried = {name: tried[name] for name in taken}
     left = [it for it in names if it not in tried and it not in waiting]
     return [it for it in chosen if it.name in tried], tried, left, waiting
 
@@ -747,10 +744,12 @@ def order_is_shown():
     first = {in_order(["a", "b", "c"], [], [], dict.fromkeys("abc", MOST), it)[0][0] for it in range(100)}
     parts = {it for number in range(100) for it in in_order([], [], others, dict.fromkeys(others, 1), number)[0]}
     one, two = {"a": ("1", "1"), "b": ("2", "2")}, {"a": ("1", "1"), "b": ("3", "2")}
-    # so has each edit of a part of more edits than are tried
-    named = {name: [SimpleNamespace(label=f"{name}/{it}") for it in range(MOST_IN_TURN)] for name in "ab"}
-    some = [[it.label for found in some_of("ab", named, number).values() for it in found] for number in range(100)]
-    is_some = {*map(len, some)} == {MOST_IN_TURN} and {it for found in some for it in found} == {it.label for found in named.values() for it in found}
+    # so has each edit of a crate of more edits than are tried, no two of one function in one run
+    named = [SimpleNamespace(label=f"a/{it}", functions=[it // 2]) for it in range(4 * MOST_OF_CRATE)]
+    some = [some_of(named, number) for number in range(100)]
+    is_some = {*map(len, some)} == {MOST_OF_CRATE} and {it.label for found in some for it in found} == {it.label for it in named}
+    is_some = is_some and all(len({it.functions[0] for it in found}) == len(found) for found in some)
+    is_some = is_some and sum(map(has_archives, range(ARCHIVES * (len(TURNS) + 1)))) == len(TURNS) + 1
     well = not wrong and is_some and first == {*"abc"} and parts == {*others} and drawn(one) != drawn(two)
     say(f"the order in which crates are tried: {'what changed comes first' if well else f'FAILED: {wrong[:1] or [first, parts]}'}")
     return well
@@ -815,8 +814,8 @@ def main(words):
     tried, left, waiting = edits, [], []
     if "--due" in words:
         chosen, tried, left, waiting = due_of(chosen, edits, sums)
-        part = part_of(drawn(sums))
-        say(f"the turn: part {part + 1} of {len(TURNS) + 1}{', with the archives' if part == ARCHIVES else ''}")
+        number = drawn(sums)
+        say(f"the turn: part {part_of(number) + 1} of {len(TURNS) + 1}{', with the archives' if has_archives(number) else ''}")
     results = try_all(chosen, tried, "--beside" in words)
     if "--due" not in words and not single:
         note(results, sums)

@@ -49,6 +49,7 @@ import functools
 import hashlib
 import os
 import re
+import resource
 import shutil
 import signal
 import subprocess
@@ -77,7 +78,7 @@ ARCHIVES = 16
 MOST = 450
 # how many edits of a crate that did not change one merge tries
 MOST_OF_CRATE = 12
-# the seconds that a check of edits may take, and three times as many beside proofs, which come first
+# the seconds of a processor that a check of edits may take
 LIMIT = 1200
 # whether nothing that earlier checks kept is taken
 ANEW = False
@@ -336,13 +337,11 @@ def checked(crate, folder, flags, kept):
     words = check_words(crate, flags, kept)
     how = {"cwd": folder, "stdin": subprocess.DEVNULL, "stdout": subprocess.PIPE, "stderr": subprocess.STDOUT}
     with subprocess.Popen(words, text=True, errors="replace", **how) as ran:
-        late = threading.Timer(LIMIT, ran.kill)
-        late.start()
+        resource.prlimit(ran.pid, resource.RLIMIT_CPU, (LIMIT, LIMIT))
         said = ran.stdout.read()
         _, status, used = os.wait4(ran.pid, 0)
-        late.cancel()
         ran.returncode = os.waitstatus_to_exitcode(status)
-    return "" if ran.returncode == -signal.SIGKILL else said, used.ru_utime + used.ru_stime
+    return "" if ran.returncode in (-signal.SIGKILL, -signal.SIGXCPU) else said, used.ru_utime + used.ru_stime
 
 
 def check(crate, edits, flags, seed, at_contracts, grows=False):
@@ -606,8 +605,6 @@ class Beside:
     """The crates that `rt ci` has proved, as the input names them, and the processors that its proofs take until it ends."""
 
     def __init__(self, chosen, number):
-        global LIMIT
-        LIMIT *= 3
         self.told = {it.name: threading.Event() for it in chosen}
         self.well, self.kept = set(), number - number // 2
         for _ in range(self.kept):

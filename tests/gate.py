@@ -160,10 +160,10 @@ PROVED = re.compile(r"rt: (\w+) (?:proved$|is kept: )")
 def proofs_and_edits(parts, turn, once_proved):
     """The proofs, and the edits beside them: each crate that is proved is named to tests/edits.py. What else waits for the
     proofs begins with their end."""
-    tried = begin(["nice", "-n", "5", "tests/edits.py", "--due", "--beside"], subprocess.PIPE)
+    tried = begin(["nice", "-n", "19", "tests/edits.py", "--due", "--beside"], subprocess.PIPE)
 
     def follow_edits():
-        step(parts["edits"], ["nice", "-n", "5", "tests/edits.py", "--self-test"])
+        step(parts["edits"], ["nice", "-n", "19", "tests/edits.py", "--self-test"])
         follow(parts["edits"], tried, turn.hear)
         turn.told.set()
 

@@ -1,6 +1,6 @@
 //! Writes the type of an assignment in the notation of the profile, node after node from a stack.
-ghost use Rattle.std.specs.Prelude.{◌≤◌, IfOk};
-ghost use Rattle.asn_published_write.specs.Limits.{most_levels, most_nodes};
+ghost use Rattle.std.specs.Prelude.{IfOk};
+ghost use Rattle.asn_published_write.specs.Limits.{IsWithin};
 
 use asn_published_text::nodes::{Need, Node};
 use asn_published_text::options::Options;
@@ -96,7 +96,7 @@ pub(crate) struct Counts {
     pub node: usize,
 }
 
-/// What is told of a type that is being written.
+/// The remarks on a type that is being written, and its status.
 #[derive(Drop)]
 pub(crate) struct Told {
     pub notes: Vec<Note>,
@@ -295,7 +295,7 @@ impl<'t> Writer<'t> {
 
     /// A refusal where more nodes or levels were counted than a type may have.
     fn within_limits(&self) -> Result<(), Refusal>
-        ensures { IfOk result (λ done. (self.now.counts.nodes ≤ most_nodes) × (self.now.counts.depth ≤ most_levels)) }
+        ensures { IfOk result (λ done. IsWithin self.now.counts.nodes self.now.counts.depth) }
     {
         let (line, by_nodes) = match self.counts.passed {
             Some(passed) => (passed.line, passed.by_nodes),
@@ -317,7 +317,7 @@ impl<'t> Writer<'t> {
         first: usize,
     ) -> Result<(), Refusal>
         // A type that is written has no more nodes and levels than the profile allows.
-        ensures { IfOk result (λ done. (self.new.counts.nodes ≤ most_nodes) × (self.new.counts.depth ≤ most_levels)) }
+        ensures { IfOk result (λ done. IsWithin self.new.counts.nodes self.new.counts.depth) }
     {
         self.stack.push(Task::Node(first, 1))?;
         self.take_all(alloc, known)?;

@@ -1,5 +1,6 @@
 //! Refuses what the profile does not take of the members of a type: too many of them, and a name of two of them.
-use crate::writer::{Known, Writer};
+use crate::known::Known;
+use crate::writer::Writer;
 use asn_published_text::nodes::{Holder, MemberKind};
 use asn_published_text::refusal::{Refusal, Why, refused};
 use asn_published_types::building::Forest;

@@ -1,5 +1,6 @@
 //! DEFAULTs that the profile takes.
-use crate::writer::{Known, Writer};
+use crate::known::Known;
+use crate::writer::Writer;
 use asn_published_text::refusal::Refusal;
 use asn_published_types::bounds::{Numbers, is_integer, numbers_between};
 use asn_published_types::info::Base;

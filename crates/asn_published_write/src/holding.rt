@@ -1,5 +1,6 @@
 //! Writes SEQUENCE, SET and CHOICE: their members in the order that the profile has.
-use crate::writer::{Known, Task, Writer};
+use crate::known::Known;
+use crate::writer::{Task, Writer};
 use crate::writing::is_extensible;
 use asn_published_text::extents::after_tags;
 use asn_published_text::nodes::{Holder, Member, MemberKind, Need, Node, Shape};

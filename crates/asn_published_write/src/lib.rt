@@ -4,6 +4,7 @@
 mod checking;
 mod defaults;
 mod holding;
+mod known;
 mod letters;
 mod references;
 mod settling;

@@ -1,5 +1,6 @@
 //! Writes lists, and names of types with further constraints.
-use crate::writer::{Known, Task, Writer};
+use crate::known::Known;
+use crate::writer::{Task, Writer};
 use asn_published_text::nodes::{Member, Node, Shape};
 use asn_published_text::refusal::{Refusal, Why, refused};
 use asn_published_types::info::{Base, Info, State};

@@ -1,6 +1,7 @@
 //! What becomes of one type: its text, what is known of it, and what is said of it.
+use crate::known::{Known, path_of};
 use crate::sources::Sources;
-use crate::writer::{Known, Writer, path_of};
+use crate::writer::Writer;
 use asn_published_text::refusal::{Refusal, Why};
 use asn_published_types::info::State;
 use asn_published_types::report::{Note, Remark, Status};

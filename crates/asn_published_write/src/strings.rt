@@ -1,7 +1,8 @@
 //! Writes INTEGER and strings, with what their constraints leave.
+use crate::known::Known;
 use crate::letters::{keeps_codes, name_of};
 use crate::widths::{is_one_number, is_zero};
-use crate::writer::{Known, Writer};
+use crate::writer::Writer;
 use asn_published_text::nodes::{Letters, Node, Shape};
 use asn_published_text::refusal::{Refusal, Why, refused};
 use asn_published_types::bounds::{

@@ -1,5 +1,6 @@
 //! Types of which no value has a bit in PER: the profile has no lists of them.
-use crate::writer::{Known, Writer};
+use crate::known::Known;
+use crate::writer::Writer;
 use asn_published_text::nodes::Need;
 use asn_published_text::refusal::{Refusal, Why, refused};
 use asn_published_types::bounds::{Numbers, lengths_between, numbers_between};

@@ -1,5 +1,6 @@
 //! Writes one node: a simple type, the items of an ENUMERATED, or the beginning of a type that holds others.
-use crate::writer::{Known, Writer};
+use crate::known::Known;
+use crate::writer::Writer;
 use asn_published_text::nodes::{Node, Shape};
 use asn_published_text::refusal::{Refusal, Why, refused};
 use asn_published_types::info::{Base, Info};

@@ -1,7 +1,7 @@
 //! The types as they are written, and what became of each.
+use crate::known::{Known, Own, Types};
 use crate::settling::{Settled, assignment_of, outcome_of, settle_type};
 use crate::sources::Sources;
-use crate::writer::{Known, Own, Types};
 use asn_published_text::options::Options;
 use asn_published_types::info::State;
 use asn_published_types::numbers::Values;

@@ -3,7 +3,7 @@
 
 usage: tests/edits.py [CRATE..]      at the top of the repository: tries all edits of these crates, or of all
        tests/edits.py CRATE/NAME..   tries these edits alone (NAME without its ending), and notes nothing
-       tests/edits.py --due          as the gate does: those of the crates that changed, and some of a quarter of the others
+       tests/edits.py --due          as the gate does: those of the crates that changed, and some of the crates whose turn it is
        tests/edits.py --due --beside the same beside `rt ci`: reads from its input the name of each crate as it is proved,
                                      and tries the crate's edits then; half of the processors are left to the proofs
        tests/edits.py --anew CRATE.. tries those of these crates as in a clone where nothing is kept
@@ -37,13 +37,14 @@ there where every edit was refused, and tests/edits/alone.txt says which edits h
 the edits of every crate due. It takes crates in this order, and passes over one that has more edits than are left:
 1. those whose own text or edits changed since they were tried, or were never noted;
 2. those for which only a contract or a definition below them changed;
-3. of the others those of one part of four (`TURNS`; by estimate each takes about as long), and of each crate's edits as
-   many as one check takes, no two of one function and no more than `MOST_OF_CRATE`, so that a sum that was noted wrongly
-   shows in time.
-Which of the first two kinds come first where not all have room, which part is the third, and which of its edits are tried,
-is drawn from the sums of all crates (`drawn`). So it is the same wherever this text is tried, another as soon as a text
-changes that an edit rests on, and does not follow the number or the words of commits. What a merge has no time for is told;
-it is not noted, and so stays due.
+3. of the others those of one part of four (`TURNS`; by estimate each takes about as long) and one of those that lie above
+   so many libraries that reading them takes longer than trying edits (`HIGH`), and of each crate's edits `MOST_OF_CRATE`
+   at most, no two of one function, so that a sum that was noted wrongly shows in time. Edits of a cycle of functions, which
+   has to be proved as it stands before, are taken in one turn of eight of their crate (`CYCLES`), and the others in the rest.
+Which of the first two kinds come first where not all have room, which crates are the third, and which of their edits are
+tried, is drawn from the sums of all crates (`drawn`). So it is the same wherever this text is tried, another as soon as a
+text changes that an edit rests on, and does not follow the number or the words of commits. What a merge has no time for is
+told; it is not noted, and so stays due.
 """
 import functools
 import hashlib
@@ -66,18 +67,23 @@ from source_functions import blanked, functions, module_of, text_of
 from sums import own_sum_of, sum_of
 
 EDITS, TRIED, ALONE = "tests/edits", "tests/edits/tried", "tests/edits/alone.txt"
-# the crates that have their turn in the same run, in four parts that by estimate take about as long; the others are the last part
+# the crates above many libraries, which each check of their edits reads: one of them has its turn in a run
+HIGH = "asn_message asn_newer asn_convert asn_first asn_module_files asn_look asn_tool tulvorn tulvorn_c uses_tulvorn".split()
+# those of the other crates that have their turn in the same run, in four parts that by estimate take about as long; what is
+# not named here is the last part
 TURNS = (
-    "asn_walk_feed asn_values tulvorn_c asn_first asn_view asn_bits asn_source asn_sinks asn_published_text".split(),
-    "asn_walk_write asn_newer asn_convert asn_published asn_per asn_notation asn_limits".split(),
-    "asn_plan asn_walk_read uses_tulvorn asn_json asn_oer asn_request asn_rules asn_explain asn_jobs".split(),
+    "asn_walk_feed asn_values asn_view asn_bits asn_source asn_sinks asn_published_text asn_published".split(),
+    "asn_walk_write asn_per asn_notation asn_limits asn_window asn_json asn_json_layout asn_published_types".split(),
+    "asn_plan asn_walk_read asn_oer asn_rules asn_request asn_explain".split(),
 )
 # in one run of how many the gate also proves and calls the archives of the library for C (tests/gate.py)
 ARCHIVES = 16
+# in one turn of how many of a crate its edits of cycles of functions are tried
+CYCLES = 8
 # how many edits one merge has the time for, beside the proofs of all crates
 MOST = 450
 # how many edits of a crate that did not change one merge tries
-MOST_OF_CRATE = 12
+MOST_OF_CRATE = 6
 # the seconds of a processor that a check of edits may take
 LIMIT = 1200
 # whether nothing that earlier checks kept is taken
@@ -543,42 +549,48 @@ def drawn(sums):
     return int(hashlib.sha256(repr(sorted(sums.items())).encode()).hexdigest(), 16)
 
 
-def turn_of(name):
-    """The part in which a crate is tried that did not change."""
-    return next((at for at, names in enumerate(TURNS) if name in names), len(TURNS))
+def parts_of(number):
+    """What has its turn by a number that was drawn: which part, which of the crates of `HIGH`, and whether the archives of
+    the library for C have."""
+    number, part = divmod(number, len(TURNS) + 1)
+    number, high = divmod(number, len(HIGH))
+    return part, HIGH[high], number % ARCHIVES == 0
 
 
-def part_of(number):
-    """The part that has its turn, by a number that was drawn."""
-    return number % (len(TURNS) + 1)
+def in_turn(name, number):
+    """Whether a crate that did not change has its turn, by a number that was drawn."""
+    part, high, _ = parts_of(number)
+    own_part = next((at for at, names in enumerate(TURNS) if name in names), len(TURNS))
+    return name == high if name in HIGH else own_part == part
+
+
+def mixed(number, names, key=str):
+    """These names, or what else has such a key, in an order that follows a number that was drawn."""
+    return sorted(names, key=lambda it: hashlib.sha256(f"{number} {key(it)}".encode()).digest())
 
 
 def in_order(changed, below, others, counts, number):
     """The crates that --due takes, one after the other, and the changed ones that have to wait: of those that changed, those
     below which something did, and the others, each with the count of its edits, by a number that was drawn."""
-    mixed = lambda names: sorted(names, key=lambda it: hashlib.sha256(f"{number} {it}".encode()).digest())
-    turn = [it for it in others if turn_of(it) == part_of(number)]
+    turn = [it for it in others if in_turn(it, number)]
     taken = []
-    for name in [*mixed(changed), *mixed(below), *turn]:
+    for name in [*mixed(number, changed), *mixed(number, below), *turn]:
         if not taken or sum(counts[it] for it in [*taken, name]) <= MOST:
             taken.append(name)
     return taken, [it for it in [*changed, *below] if it not in taken]
 
 
-def some_of(edits, number):
+def some_of(name, edits, number):
     """The edits of a crate that has its turn that are tried, by a number that was drawn, no two of one function, so that one
     check judges them: each comes at times."""
+    of_cycles = [it for it in edits if any(cycle for _, cycle in it.functions)]
+    have_turn = int.from_bytes(hashlib.sha256(f"{number} {name}".encode()).digest(), "big") % CYCLES == 0
     some, used = [], set()
-    for edit in sorted(edits, key=lambda it: hashlib.sha256(f"{number} {it.label}".encode()).digest()):
+    for edit in mixed(number, of_cycles if of_cycles and have_turn else [it for it in edits if it not in of_cycles], lambda it: it.label):
         if len(some) < MOST_OF_CRATE and not used & {*edit.functions}:
             some.append(edit)
             used.update(edit.functions)
     return [it for it in edits if it in some]
-
-
-def has_archives(number):
-    """Whether the archives of the library for C have their turn, by a number that was drawn."""
-    return number // (len(TURNS) + 1) % ARCHIVES == 0
 
 
 def due_of(chosen, edits, sums):
@@ -588,7 +600,7 @@ def due_of(chosen, edits, sums):
     due = [it for it in names if known.get(it, ())[:1] != sums[it][:1]]
     changed = [it for it in due if known.get(it, ())[1:] != sums[it][1:]]
     below, others = [it for it in due if it not in changed], [it for it in names if it not in due]
-    tried = {name: found if name in due else some_of(found, drawn(sums)) for name, found in edits.items()}
+    tried = {name: found if name in due else some_of(name, found, drawn(sums)) for name, found in edits.items()}
     counts = {name: len(found) for name, found in tried.items()}
     taken, waiting = in_order(changed, below, others, counts, drawn(sums))
     tried = {name: tried[name] for name in taken}
@@ -723,7 +735,7 @@ RIGHT = {
 
 def order_is_shown():
     """Whether --due keeps its order, whatever number is drawn: of crates of 100 edits each, as far as they have room."""
-    others = [name for names in TURNS for name in names]
+    others = [name for names in (*TURNS, HIGH, ["the last part"]) for name in names]
     wrong = []
     for number in range(1000):
         for changed, below in ((0, 0), (3, 2), (4, 0), (6, 3), (0, 9)):
@@ -731,24 +743,25 @@ def order_is_shown():
             counts = dict.fromkeys([*names[0], *names[1], *others], 100)
             taken, waiting = in_order(*names, others, counts, number)
             room = MOST // 100
-            turn = [it for it in others if turn_of(it) == part_of(number)]
+            turn = [it for it in others if in_turn(it, number)]
             kinds = [0 if it in names[0] else 1 if it in names[1] else 2 for it in taken]
             wanted = [*[0] * changed, *[1] * below, *[2] * len(turn)][:room]
             is_left = {*names[0], *names[1]} == {*[it for it in taken if it not in turn], *waiting}
             if kinds != wanted or not is_left or {*taken} - {*names[0], *names[1], *turn}:
                 wrong.append((number, taken))
-    # each of those that do not all have room comes first at times, and each part has its turn
+    # each of those that do not all have room comes first at times, and each crate and the archives have their turn
     first = {in_order(["a", "b", "c"], [], [], dict.fromkeys("abc", MOST), it)[0][0] for it in range(100)}
     parts = {it for number in range(100) for it in in_order([], [], others, dict.fromkeys(others, 1), number)[0]}
+    is_each = parts == {*others} and sum(parts_of(it)[2] for it in range(4 * len(HIGH) * ARCHIVES)) == 4 * len(HIGH)
     one, two = {"a": ("1", "1"), "b": ("2", "2")}, {"a": ("1", "1"), "b": ("3", "2")}
-    # so has each edit of a crate of more edits than are tried, no two of one function in one run
-    named = [SimpleNamespace(label=f"a/{it}", functions=[it // 2]) for it in range(4 * MOST_OF_CRATE)]
-    some = [some_of(named, number) for number in range(100)]
+    # so has each edit of a crate of more edits than are tried, no two of one function and none of a cycle beside others
+    named = [SimpleNamespace(label=f"a/{it}", functions=[(it // 2, "cycle" if it % 8 < 2 else None)]) for it in range(8 * MOST_OF_CRATE)]
+    some = [some_of("a", named, number) for number in range(400)]
     is_some = {*map(len, some)} == {MOST_OF_CRATE} and {it.label for found in some for it in found} == {it.label for it in named}
-    is_some = is_some and all(len({it.functions[0] for it in found}) == len(found) for found in some)
-    is_some = is_some and sum(map(has_archives, range(ARCHIVES * (len(TURNS) + 1)))) == len(TURNS) + 1
-    well = not wrong and is_some and first == {*"abc"} and parts == {*others} and drawn(one) != drawn(two)
-    say(f"the order in which crates are tried: {'what changed comes first' if well else f'FAILED: {wrong[:1] or [first, parts]}'}")
+    is_some = is_some and all(len({it.functions[0][0] for it in found}) == len(found) for found in some)
+    is_some = is_some and all(len({it.functions[0][1] for it in found}) == 1 for found in some)
+    well = not wrong and is_each and is_some and first == {*"abc"} and drawn(one) != drawn(two)
+    say(f"the order in which crates are tried: {'what changed comes first' if well else f'FAILED: {wrong[:1] or [first, parts, is_each, is_some]}'}")
     return well
 
 
@@ -811,8 +824,8 @@ def main(words):
     tried, left, waiting = edits, [], []
     if "--due" in words:
         chosen, tried, left, waiting = due_of(chosen, edits, sums)
-        number = drawn(sums)
-        say(f"the turn: part {part_of(number) + 1} of {len(TURNS) + 1}{', with the archives' if has_archives(number) else ''}")
+        part, high, has_archives = parts_of(drawn(sums))
+        say(f"the turn: part {part + 1} of {len(TURNS) + 1}, and {high}{', with the archives' if has_archives else ''}")
     results = try_all(chosen, tried, "--beside" in words)
     if "--due" not in words and not single:
         note(results, sums)

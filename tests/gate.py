@@ -8,7 +8,7 @@ usage: tests/gate.py [PART..]      the parts are proofs, edits and tests; all th
 1. proofs: `rt ci` proves every crate from nothing, as many side by side as there are processors where memory holds them
    (`of_proofs`), and runs the programs as two compilers build them.
 2. edits: tests/edits.py tries itself on a tiny crate, and then the wrong bodies of the crates that changed since they
-   were tried, and some of those of a quarter of the others. In a clone with no out/, where all parts are asked for, it goes
+   were tried, and six of each crate whose turn it is. In a clone with no out/, where all parts are asked for, it goes
    beside the proofs: a crate's edits begin when the crate is proved, on processors that no proof takes.
 3. tests: the programs of tests/programs are built without a proof of their own (tests/room.py), and what they write is
    compared; tests/refused_allocations.sh refuses in turn each allocation of programs; tests/first.py runs `asn_first`,
@@ -17,8 +17,8 @@ usage: tests/gate.py [PART..]      the parts are proofs, edits and tests; all th
    has built them, side by side;
    tests/octet_counts.py and tests/published_rows.py look at rows without a program;
    bindings/tests.sh calls the library for C from four languages, and skips a language whose compiler is not there: each
-   time as LLVM compiles it with the test programs, without a second proof, and in one merge of sixteen, drawn as the
-   quarter of the crates, as each of two compilers makes it of a proof of its own. Beside the proofs, those that want
+   time as LLVM compiles it with the test programs, without a second proof, and in one merge of sixteen, drawn with the
+   edits, as each of two compilers makes it of a proof of its own. Beside the proofs, those that want
    none of what is proved begin at once.
 
 What a step writes is shown as it comes: a line for each crate that is proved, and for each group of edits that is tried.

@@ -5,11 +5,11 @@ ghost use Rattle.asn_fields.specs.Tells.{Tells};
 ghost use Rattle.asn_look.specs.Named.{ruling_of};
 
 use crate::explaining::why_refused;
+use crate::fault::ShowFault;
 use crate::fronts::front_len;
 use crate::looking::written;
 use asn_fields::{MessageFields, PAGE_END, fields, page_head, page_note};
 use asn_jobs::{OctetForm, Order, Place, RuleName, RunFault, next_text, octets_in, place_text};
-use asn_module_files::Stop;
 use asn_oer::Oer;
 use asn_per::Per;
 use asn_request::asking::Forms;
@@ -49,7 +49,7 @@ pub fn show_messages<'a, R: BufRead>(
     shown: Shown<'_>,
     files: &[&'a str],
     lines: &mut R,
-) -> Result<u8, Stop<'a>> {
+) -> Result<u8, ShowFault<'a>> {
     let mut so_far = SoFar {
         count: 0,
         all_good: true,
@@ -75,14 +75,14 @@ fn show_file<'a>(
     shown: Shown<'_>,
     file: &'a str,
     so_far: &mut SoFar,
-) -> Result<(), Stop<'a>> {
+) -> Result<(), ShowFault<'a>> {
     let opened = match fs::open(rt, file) {
         Ok(opened) => opened,
-        Err(fault) if fault.kind() == ErrorKind::OutOfMemory => return Err(Stop::Memory),
-        Err(_) => return Err(Stop::Unread(file)),
+        Err(fault) if fault.kind() == ErrorKind::OutOfMemory => return Err(ShowFault::Memory),
+        Err(_) => return Err(ShowFault::Unread(file)),
     };
     let Ok(mut input) = BufReader::new(rt.alloc(), opened) else {
-        return Err(Stop::Memory);
+        return Err(ShowFault::Memory);
     };
     show_input(rt, shown, file, &mut input, so_far)
 }
@@ -94,15 +94,15 @@ fn show_input<'a, R: BufRead>(
     file: &'a str,
     input: &mut R,
     so_far: &mut SoFar,
-) -> Result<(), Stop<'a>> {
+) -> Result<(), ShowFault<'a>> {
     let mut text = Vec::new(rt.alloc());
     let mut lines = 0;
     for _ in 0..u64::MAX {
         let line = match next_text(input, shown.forms.given, &mut text, &mut lines) {
             Ok(Some(line)) => line,
             Ok(None) => return Ok(()),
-            Err(RunFault::Read) if !file.is_empty() => return Err(Stop::Unread(file)),
-            Err(fault) => return Err(Stop::from(fault)),
+            Err(RunFault::Read) if !file.is_empty() => return Err(ShowFault::Unread(file)),
+            Err(fault) => return Err(ShowFault::from(fault)),
         };
         let place = Place {
             file,
@@ -112,7 +112,7 @@ fn show_input<'a, R: BufRead>(
         show_text(rt, shown, place, text.as_slice(), so_far)?;
     }
     // (more texts than 64 bits count)
-    Err(Stop::Memory)
+    Err(ShowFault::Memory)
 }
 
 /// Shows the message of a text, or the messages that stand in it one after the other.
@@ -122,7 +122,7 @@ fn show_text<'a>(
     place: Place<'_>,
     text: &[u8],
     so_far: &mut SoFar,
-) -> Result<(), Stop<'a>> {
+) -> Result<(), ShowFault<'a>> {
     let Some(octets) = octets_of(rt.alloc(), shown.forms, text)? else {
         return show_none(rt, shown, place, so_far);
     };
@@ -140,7 +140,7 @@ fn show_each<'a>(
     place: Place<'_>,
     octets: &[u8],
     so_far: &mut SoFar,
-) -> Result<(), Stop<'a>> {
+) -> Result<(), ShowFault<'a>> {
     let mut rest = octets;
     for message in 1..u64::MAX {
         if rest.is_empty() {
@@ -161,13 +161,17 @@ fn show_each<'a>(
 }
 
 /// The octets of a text of this form, if it is one.
-fn octets_of<'a>(alloc: Global, forms: Forms, text: &[u8]) -> Result<Option<Vec<u8>>, Stop<'a>> {
+fn octets_of<'a>(
+    alloc: Global,
+    forms: Forms,
+    text: &[u8],
+) -> Result<Option<Vec<u8>>, ShowFault<'a>> {
     match forms.given {
         Some(form) => Ok(octets_in(alloc, form, text)?),
         None if forms.is_split => Ok(octets_in(alloc, OctetForm::Hex, text)?),
         None => match hex::decode(alloc, text) {
             Ok(octets) => Ok(Some(octets)),
-            Err(FromHexError::OutOfMemory) => Err(Stop::Memory),
+            Err(FromHexError::OutOfMemory) => Err(ShowFault::Memory),
             Err(_) => Ok(None),
         },
     }
@@ -179,7 +183,7 @@ fn show_none<'a>(
     shown: Shown<'_>,
     place: Place<'_>,
     so_far: &mut SoFar,
-) -> Result<(), Stop<'a>> {
+) -> Result<(), ShowFault<'a>> {
     let refusal = match shown.forms.given {
         Some(OctetForm::Base64) => "! base64",
         _ => "! hex",
@@ -200,7 +204,7 @@ fn show_message<'a>(
     place: Place<'_>,
     octets: &[u8],
     so_far: &mut SoFar,
-) -> Result<(), Stop<'a>> {
+) -> Result<(), ShowFault<'a>> {
     let (text, is_good) = message_text(rt.alloc(), shown, place, octets)?;
     so_far.all_good &= is_good;
     put(rt, shown, text.as_str(), so_far)?;
@@ -247,7 +251,7 @@ fn put<'a>(
     shown: Shown<'_>,
     text: &str,
     so_far: &mut SoFar,
-) -> Result<(), Stop<'a>> {
+) -> Result<(), ShowFault<'a>> {
     if so_far.count > 0 && !shown.is_page {
         written(rt, "\n")?;
     }

@@ -1,31 +1,28 @@
 //! What is shown of a module: its types, values of a type to begin from, and messages field by field.
 use crate::examples::example_line;
+use crate::fault::ShowFault;
 use crate::field_lines::{Shown, show_messages};
 use asn_fields::outline;
 use asn_module::Module;
-use asn_module_files::{Stop, module_of};
 use asn_request::asking::Asking;
 use asn_request::look::{Look, Looking};
 use asn_values::Checked;
 use std::io::BufRead;
 
-/// Shows what is asked for of the module that is this text, and gives the exit status; `None` where it is none, or has no
-/// type of the name, and nothing is shown.
+/// Shows what is asked for of a module, and gives the exit status; `None` where it has no type of the name, and nothing is
+/// shown.
 ///
 /// # Errors
 /// Where reading, writing or memory failed.
 pub fn show_of<'a, R: BufRead>(
     rt: &HostRuntime,
     look: &Look,
-    text: &[u8],
+    module: &Module,
     asking: &Asking<'a>,
     lines: &mut R,
-) -> Result<Option<u8>, Stop<'a>> {
-    let Some(module) = module_of(rt.alloc(), text)? else {
-        return Ok(None);
-    };
+) -> Result<Option<u8>, ShowFault<'a>> {
     let Some(name) = &look.type_name else {
-        return Ok(Some(show_names(rt, &module)?));
+        return Ok(Some(show_names(rt, module)?));
     };
     let name = name.as_str();
     match module.type_named(name) {
@@ -42,7 +39,7 @@ fn show_type<'a, R: BufRead>(
     ty: &Checked,
     asking: &Asking<'a>,
     lines: &mut R,
-) -> Result<u8, Stop<'a>> {
+) -> Result<u8, ShowFault<'a>> {
     match look.what {
         Looking::Fields => {
             let shown = Shown {
@@ -64,7 +61,7 @@ fn show_type<'a, R: BufRead>(
 }
 
 /// Writes the names of the types, a line each.
-fn show_names<'a>(rt: &HostRuntime, module: &Module) -> Result<u8, Stop<'a>> {
+fn show_names<'a>(rt: &HostRuntime, module: &Module) -> Result<u8, ShowFault<'a>> {
     let mut text = String::new(rt.alloc());
     for name in module.type_names() {
         text.push_str(name)?;
@@ -76,7 +73,7 @@ fn show_names<'a>(rt: &HostRuntime, module: &Module) -> Result<u8, Stop<'a>> {
 
 /// Writes as many values as are asked for, a line each: those of the seed and of the numbers after it, from 0 where none is
 /// given; where neither a seed nor a count is given, the least value.
-fn show_examples<'a>(rt: &HostRuntime, look: &Look, ty: &Checked) -> Result<u8, Stop<'a>> {
+fn show_examples<'a>(rt: &HostRuntime, look: &Look, ty: &Checked) -> Result<u8, ShowFault<'a>> {
     let Look { seed, count, .. } = *look;
     if seed.is_none() && count.is_none() {
         written(rt, example_line(rt.alloc(), ty, None)?.as_str())?;
@@ -91,9 +88,9 @@ fn show_examples<'a>(rt: &HostRuntime, look: &Look, ty: &Checked) -> Result<u8, 
 }
 
 /// Writes to standard output.
-pub fn written<'a>(rt: &HostRuntime, text: &str) -> Result<(), Stop<'a>> {
+pub fn written<'a>(rt: &HostRuntime, text: &str) -> Result<(), ShowFault<'a>> {
     match rt.print(text) {
         Ok(()) => Ok(()),
-        Err(fault) => Err(Stop::of_print(&fault)),
+        Err(fault) => Err(ShowFault::of_print(&fault)),
     }
 }

@@ -1,8 +1,8 @@
 //! What is shown of the module of files or of standard input.
 use crate::running::run_on;
 use asn_convert::{Job, Order, cut_input, read_all};
-use asn_look::show_of;
-use asn_module_files::{Stop, input_given, input_of_files, tell_text, tells_of_module};
+use asn_look::{ShowFault, show_of};
+use asn_module_files::{Stop, input_given, input_of_files, module_of, tell_text, tells_of_module};
 use asn_published::Options;
 use asn_request::asking::Asking;
 use asn_request::look::{Look, Looking};
@@ -114,8 +114,23 @@ fn show_or_refuse<'a, R: BufRead>(
     asking: &Asking<'a>,
     lines: &mut R,
 ) -> Result<u8, Stop<'a>> {
-    match show_of(rt, look, text, asking, lines)? {
-        Some(status) => Ok(status),
-        None => run_on(rt, job, text),
+    let Some(module) = module_of(rt.alloc(), text)? else {
+        return run_on(rt, job, text);
+    };
+    match show_of(rt, look, &module, asking, lines) {
+        Ok(Some(status)) => Ok(status),
+        Ok(None) => run_on(rt, job, text),
+        Err(fault) => Err(stop_of(fault)),
+    }
+}
+
+/// Why the program stops where not all is shown.
+fn stop_of(fault: ShowFault<'_>) -> Stop<'_> {
+    match fault {
+        ShowFault::Unread(file) => Stop::Unread(file),
+        ShowFault::Read => Stop::Read,
+        ShowFault::Write => Stop::Write,
+        ShowFault::Closed => Stop::Closed,
+        ShowFault::Memory => Stop::Memory,
     }
 }

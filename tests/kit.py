@@ -93,4 +93,4 @@ def tried_whole(crate, edit, kept):
     found, text = rt.must_fail(crate, edit, ["--jobs", "1"], kept)
     at_limit = found == getattr(rt, "AT_LIMIT", None)
     is_refused = found is True or found == getattr(rt, "REFUSED", True) or at_limit
-    return is_refused, at_limit or "(only b" in text, text.split(": ", 1)[-1]
+    return is_refused, at_limit or "(only b" in text, text.split(": ", 1)[-1].removeprefix("NOT REFUSED: ")

@@ -23,7 +23,8 @@ usage: tests/gate.py [PART..]      the parts are proofs, edits and tests; all th
 
 What a step writes is shown as it comes: a line for each crate that is proved, and for each group of edits that is tried.
 The end says how many minutes of a processor each part and each of its steps took, and how many by the clock the part took
-from its first line to its last.
+from its first line to its last; and how many times as long as at best the processors took for the same work (speed.py),
+since other guests of their host, or what else runs, makes each minute longer.
 The last line is 'N passed, M failed': crates, edits, rows of the test programs, scripts, and steps of bindings/tests.sh.
 The line before it is 'K skipped' where steps were.
 """
@@ -42,6 +43,7 @@ TOP = os.path.dirname(os.path.dirname(os.path.abspath(__file__)))
 sys.path.insert(0, f"{TOP}/tests")
 from kit import rt
 from room import files_of
+from speed import Speed
 
 # the test programs that are parts of one (tests/programs/checks)
 PARTS_OF_ONE = ("rows", "hostile", "texts", "types", "names", "fields", "published", "memory", "memory_texts")
@@ -317,18 +319,24 @@ def run(names):
     return parts
 
 
+def tell_all(used, clock, times):
+    """Says how many minutes of a processor and by the clock all parts took, and how many they would be at the best speed of
+    the processors, which took so many times as long."""
+    say(f"in all: {used:.1f} minutes of a processor, {clock:.1f} by the clock on {len(os.sched_getaffinity(0))} processors")
+    say(f"these took {times:.2f} times as long for the same work as at best, where it would be some {used / times:.1f} and {clock / times:.1f}")
+
+
 def main(names):
     if any(it not in PARTS for it in names):
         print(__doc__, file=sys.stderr)
         return 2
     os.chdir(TOP)
-    start, form = time.time(), Part()
+    start, speed, form = time.time(), Speed(), Part()
     step(form, ["tests/prove.py", "--form"])
     parts = {"form": form, **(run(names or [*PARTS]) if not form.failed else {})}
     for name, it in parts.items():
         it.tell(name)
-    used = sum(it.seconds() for it in parts.values()) / 60
-    say(f"in all: {used:.1f} minutes of a processor, {(time.time() - start) / 60:.1f} by the clock on {len(os.sched_getaffinity(0))} processors")
+    tell_all(sum(it.seconds() for it in parts.values()) / 60, (time.time() - start) / 60, speed.times_as_long())
     lost = [name for it in parts.values() for name in it.lost]
     if lost:
         say(f"FAILED: {' '.join(lost)}")

@@ -323,7 +323,8 @@ def tell_all(used, clock, times):
     """Says how many minutes of a processor and by the clock all parts took, and how many they would be at the best speed of
     the processors, which took so many times as long."""
     say(f"in all: {used:.1f} minutes of a processor, {clock:.1f} by the clock on {len(os.sched_getaffinity(0))} processors")
-    say(f"these took {times:.2f} times as long for the same work as at best, where it would be some {used / times:.1f} and {clock / times:.1f}")
+    at_best = f"some {used / times:.1f} minutes of a processor, and {clock / times:.1f} by the clock"
+    say(f"for the same work these took {times:.2f} times as long as at best, where all would be {at_best}")
 
 
 def main(names):

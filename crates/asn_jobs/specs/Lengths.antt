@@ -1,5 +1,5 @@
 -- How long messages are.
-use Rattle.std.specs.Prelude.{◌≡◌, ◌≤◌, ◌<◌, ℕ, List, length, sum}
+use Rattle.std.specs.Prelude.{◌≡◌, ◌≤◌, ◌<◌, ◌+◌, ◌⊎◌, ◌^◌, ℕ, List, length, sum}
 use Rattle.std.specs.List.{All, Contains}
 use Rattle.asn_jobs.specs.declared.sizes.Sizes.{Sizes}
 
@@ -13,3 +13,7 @@ pub record AreSizesOf (lengths : List ℕ) (s : Sizes) : Type 0 where
   pub least_is_one : 0 < length lengths → Contains lengths s.least
   pub greatest_is_one : 0 < length lengths → Contains lengths s.greatest
   pub none : length lengths ≡ 0 → (s.least ≡ 0) × (s.greatest ≡ 0)
+
+-- with one message of so many octets more, the messages or their octets are more than 64 bits count
+abbrev pub PassCounts : Sizes → ℕ → Type 0
+PassCounts s octets = (2 ^ 64 ≤ s.count + 1) ⊎ (2 ^ 64 ≤ s.octets + octets)

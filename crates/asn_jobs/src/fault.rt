@@ -1,4 +1,7 @@
 //! Why something is not counted.
+ghost use Rattle.std.specs.Prelude.{◌≡◌};
+ghost use Rattle.asn_jobs.specs.declared.fault.CountFault.TheVariants as count_fault;
+
 use std::alloc::{AllocError, AllocFailed};
 use thiserror::Error;
 
@@ -14,12 +17,16 @@ pub enum CountFault {
 }
 
 impl From<AllocError> for CountFault {
+    ghost from_gives = { λ _ e. e ≡ count_fault.Memory };
+
     fn from(_: AllocError) -> CountFault {
         CountFault::Memory
     }
 }
 
 impl<T: Drop> From<AllocFailed<T>> for CountFault {
+    ghost from_gives = { λ _ e. e ≡ count_fault.Memory };
+
     fn from(_: AllocFailed<T>) -> CountFault {
         CountFault::Memory
     }

@@ -1,5 +1,6 @@
 //! How long messages are.
-ghost use Rattle.std.specs.Prelude.{◌≡◌, ◌<◌, ◌≤◌, ◌⊎◌, ◌++◌, ◌∷◌, [], List, ℕ, IfOk};
+ghost use Rattle.std.specs.Prelude.{◌≡◌, ◌<◌, ◌≤◌, ◌⊎◌, ◌++◌, ◌∷◌, [], List, ℕ, IfOk, IfErr};
+ghost use Rattle.asn_jobs.specs.declared.fault.CountFault.TheVariants as count_fault;
 
 use crate::fault::CountFault;
 
@@ -17,7 +18,7 @@ pub struct Sizes {
 }
 
 impl Sizes {
-    ghost use Rattle.asn_jobs.specs.Lengths.{AreSizesOf};
+    ghost use Rattle.asn_jobs.specs.Lengths.{AreSizesOf, PassCounts};
 
     /// The sizes of no message.
     pub fn new() -> Sizes
@@ -36,8 +37,9 @@ impl Sizes {
     /// # Errors
     /// `Full` where the messages or their octets are more than 2^64 - 1.
     pub fn with(self, length: u64) -> Result<Sizes, CountFault>
-        ensures { IfOk result (λ sizes. (lengths : List ℕ) → AreSizesOf lengths self
+        ensures sizes { IfOk result (λ sizes. (lengths : List ℕ) → AreSizesOf lengths self
             → AreSizesOf (lengths ++ length ∷ []) sizes) }
+        ensures full { IfErr result (λ why. (why ≡ count_fault.Full) × PassCounts self length) }
     {
         let Some(count) = self.count.checked_add(1) else {
             return Err(CountFault::Full);

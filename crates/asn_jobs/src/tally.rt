@@ -31,7 +31,8 @@ impl Tally {
     pub fn add(&mut self, alloc: Global, word: &str) -> Result<(), CountFault>
         ensures counted { OnOk result ((words : List (List ℕ)) → IsCountedBy words self.old.counts
             → IsCountedBy (words ++ word.now ∷ []) self.new.counts) }
-        ensures full { IfErr result (λ why. why ≡ count_fault.Full → 2 ^ 64 ≤ count_of self.old.counts word.now + 1) }
+        ensures full { IfErr result (λ why. why ≡ count_fault.Full
+            → 2 ^ 64 ≤ count_of self.old.counts word.now + 1) }
     {
         let Some(next) = self.count_of(word).checked_add(1) else {
             return Err(CountFault::Full);

@@ -14,6 +14,6 @@ pub record AreSizesOf (lengths : List ℕ) (s : Sizes) : Type 0 where
   pub greatest_is_one : 0 < length lengths → Contains lengths s.greatest
   pub none : length lengths ≡ 0 → (s.least ≡ 0) × (s.greatest ≡ 0)
 
--- with one message of so many octets more, the messages or their octets are more than 64 bits count
+-- one message more, of this length, makes the messages or their octets more than 2^64 - 1
 abbrev pub PassCounts : Sizes → ℕ → Type 0
 PassCounts s octets = (2 ^ 64 ≤ s.count + 1) ⊎ (2 ^ 64 ≤ s.octets + octets)

@@ -3,3 +3,4 @@ pub mod Counts
 pub mod Lengths
 pub mod Lines
 pub mod Steps
+pub mod Taken

@@ -1,4 +1,5 @@
 pub mod Counts
+pub mod Cutting
 pub mod Ending
 pub mod Lengths
 pub mod Lines

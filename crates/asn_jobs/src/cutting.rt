@@ -1,15 +1,20 @@
 //! The texts of messages, cut one after the other from an input.
+ghost use Rattle.std.specs.Prelude.{◌≡◌, ◌≤◌, length, None, Some};
+ghost use Rattle.std.specs.Io.BufRead.{strip_last};
+ghost use Rattle.asn_jobs.specs.Cutting.{from_word, has_word, is_blank_line, is_gap, lines_after, AddsBlock, AddsLine, CutsFirst, FindsLine};
+ghost use Rattle.asn_jobs.specs.declared.texts.OctetForm.TheVariants as form;
+
 use crate::job::RunFault;
-use crate::texts::OctetForm;
+use crate::texts::{OctetForm, is_blank, uncommented};
 use std::io;
 use std::io::{BufRead, ErrorKind};
 
 /// Puts the next text of the input in place of the one before, and tells the number of the line, counted from 1, at which
 /// it begins; `None` where there is none. `lines` is how many lines were read: 0 at first.
 ///
-/// A text is a line, without its LF. Of a form that is named the CARRIAGE RETURN in front of the LF is left out too; a line
-/// of `Hex` without a digit is passed over; a text of `HexBlock` goes up to a line of blanks; one of `Binary` is all of the
-/// input.
+/// A text is a line, without its LF; of `Base64` without a CARRIAGE RETURN in front of that, too; of `Hex` a line that has no
+/// more than blanks and a comment is passed over; a text of `HexBlock` goes from the first line that has more up to a blank
+/// one, or to the end; one of `Binary` is all of the input.
 ///
 /// # Errors
 /// `Read` where the reader answered a fault, `Memory` where an allocation failed.
@@ -18,23 +23,153 @@ pub fn next_text<R: BufRead>(
     form: Option<OctetForm>,
     text: &mut Vec<u8>,
     lines: &mut u64,
-) -> Result<Option<u64>, RunFault> {
-    text.clear();
+) -> Result<Option<u64>, RunFault>
+    ensures { CutsFirst result form lines.old (R.remaining input.old) lines.new (R.remaining input.new) text.new.items }
+{
     match form {
-        Some(OctetForm::Binary) => whole(input, text, lines),
+        None => next_plain(input, text, lines),
+        Some(OctetForm::Base64) => next_base64(input, text, lines),
+        Some(OctetForm::Hex) => next_hex(input, text, lines),
         Some(OctetForm::HexBlock) => next_block(input, text, lines),
-        Some(OctetForm::Hex) => next_filled(input, text, lines),
-        Some(OctetForm::Base64) => {
-            let is_there = add_line(input, text, lines)?;
-            cut_return(text);
-            Ok(if is_there { Some(*lines) } else { None })
+        Some(OctetForm::Binary) => whole(input, text, lines),
+    }
+}
+
+/// The next line, without its LF.
+fn next_plain<R: BufRead>(
+    input: &mut R,
+    text: &mut Vec<u8>,
+    lines: &mut u64,
+) -> Result<Option<u64>, RunFault>
+    ensures { CutsFirst result None lines.old (R.remaining input.old) lines.new (R.remaining input.new) text.new.items }
+{
+    if !take_line(input, text, lines)? {
+        return Ok(None);
+    }
+    cut_octet(text, b'\n');
+    Ok(Some(*lines))
+}
+
+/// The next line, without its LF and the CARRIAGE RETURN in front of that.
+fn next_base64<R: BufRead>(
+    input: &mut R,
+    text: &mut Vec<u8>,
+    lines: &mut u64,
+) -> Result<Option<u64>, RunFault>
+    ensures { CutsFirst result (Some form.Base64) lines.old (R.remaining input.old) lines.new (R.remaining input.new)
+        text.new.items }
+{
+    if !take_line(input, text, lines)? {
+        return Ok(None);
+    }
+    cut_octet(text, b'\n');
+    cut_octet(text, b'\r');
+    Ok(Some(*lines))
+}
+
+/// The next line that has more than blanks and a comment, without its LF.
+fn next_hex<R: BufRead>(
+    input: &mut R,
+    text: &mut Vec<u8>,
+    lines: &mut u64,
+) -> Result<Option<u64>, RunFault>
+    ensures { CutsFirst result (Some form.Hex) lines.old (R.remaining input.old) lines.new (R.remaining input.new)
+        text.new.items }
+{
+    if !find_word(input, text, lines)? {
+        return Ok(None);
+    }
+    cut_octet(text, b'\n');
+    Ok(Some(*lines))
+}
+
+/// The next line that has more than blanks and a comment, and those after it up to a blank one.
+fn next_block<R: BufRead>(
+    input: &mut R,
+    text: &mut Vec<u8>,
+    lines: &mut u64,
+) -> Result<Option<u64>, RunFault>
+    ensures { CutsFirst result (Some form.HexBlock) lines.old (R.remaining input.old) lines.new
+        (R.remaining input.new) text.new.items }
+{
+    if !find_word(input, text, lines)? {
+        return Ok(None);
+    }
+    let first = *lines;
+    add_block(input, text, lines)?;
+    Ok(Some(first))
+}
+
+/// All of the input, once.
+fn whole<R: BufRead>(
+    input: &mut R,
+    text: &mut Vec<u8>,
+    lines: &mut u64,
+) -> Result<Option<u64>, RunFault>
+    ensures { CutsFirst result (Some form.Binary) lines.old (R.remaining input.old) lines.new (R.remaining input.new)
+        text.new.items }
+{
+    if *lines > 0 {
+        return Ok(None);
+    }
+    *lines = 1;
+    text.clear();
+    match input.read_to_end(text) {
+        Ok(_) => Ok(Some(1)),
+        Err(fault) => Err(fault_of(&fault)),
+    }
+}
+
+/// Puts the next line that has more than blanks and a comment in place of the text. False where there is none.
+fn find_word<R: BufRead>(
+    input: &mut R,
+    text: &mut Vec<u8>,
+    lines: &mut u64,
+) -> Result<bool, RunFault>
+    ensures { FindsLine result (λ octets. from_word (lines_after lines.old octets)) (R.remaining input.old) lines.new
+        (R.remaining input.new) text.new.items }
+{
+    for _ in 0..u64::MAX {
+        if !take_line(input, text, lines)? {
+            return Ok(false);
         }
-        None => {
-            let is_there = add_line(input, text, lines)?;
-            cut_octet(text, b'\n');
-            Ok(if is_there { Some(*lines) } else { None })
+        if has_word(text.as_slice()) {
+            return Ok(true);
         }
     }
+    // (more lines than 64 bits count)
+    Err(RunFault::Memory)
+}
+
+/// Appends the next lines, up to a blank one, to the text.
+fn add_block<R: BufRead>(input: &mut R, text: &mut Vec<u8>, lines: &mut u64) -> Result<(), RunFault>
+    ensures { AddsBlock result lines.old (R.remaining input.old) lines.new (R.remaining input.new) text.old.items
+        text.new.items }
+{
+    for _ in 0..u64::MAX {
+        let before = text.len();
+        if !add_line(input, text, lines)? {
+            return Ok(());
+        }
+        if is_blank_line(&text[before..]) {
+            return Ok(());
+        }
+    }
+    // (more lines than 64 bits count)
+    Err(RunFault::Memory)
+}
+
+/// Puts the next line, with its LF, in place of the text. False where there is none.
+fn take_line<R: BufRead>(
+    input: &mut R,
+    text: &mut Vec<u8>,
+    lines: &mut u64,
+) -> Result<bool, RunFault>
+    ensures { FindsLine result (lines_after lines.old) (R.remaining input.old) lines.new (R.remaining input.new)
+        text.new.items }
+{
+    text.clear();
+    add_line(input, text, lines)
 }
 
 /// Appends the next line, with its LF, to the text. False where there is none.
@@ -42,7 +177,11 @@ fn add_line<R: BufRead>(
     input: &mut R,
     text: &mut Vec<u8>,
     lines: &mut u64,
-) -> Result<bool, RunFault> {
+) -> Result<bool, RunFault>
+    ensures line { AddsLine result lines.old (R.remaining input.old) lines.new (R.remaining input.new) text.old.items
+        text.new.items }
+    ensures kept { length text.old.items ≤ length text.new.items }
+{
     match input.read_until(b'\n', text) {
         Ok(0) => Ok(false),
         Ok(_) => {
@@ -63,93 +202,31 @@ fn fault_of(fault: &io::Error) -> RunFault {
 }
 
 /// Takes the last octet away, if it is this one.
-fn cut_octet(text: &mut Vec<u8>, octet: u8) {
+fn cut_octet(text: &mut Vec<u8>, octet: u8)
+    ensures { text.new.items ≡ strip_last octet text.old.items }
+{
     if text.last() == Some(&octet) {
         text.pop();
     }
 }
 
-/// Takes the LF at the end away, and the CARRIAGE RETURN in front of it.
-fn cut_return(text: &mut Vec<u8>) {
-    cut_octet(text, b'\n');
-    cut_octet(text, b'\r');
-}
-
-/// All of the input, once.
-fn whole<R: BufRead>(
-    input: &mut R,
-    text: &mut Vec<u8>,
-    lines: &mut u64,
-) -> Result<Option<u64>, RunFault> {
-    if *lines > 0 {
-        return Ok(None);
-    }
-    *lines = 1;
-    match input.read_to_end(text) {
-        Ok(_) => Ok(Some(1)),
-        Err(fault) => Err(fault_of(&fault)),
-    }
-}
-
-/// The next line that has more than blanks and a comment.
-fn next_filled<R: BufRead>(
-    input: &mut R,
-    text: &mut Vec<u8>,
-    lines: &mut u64,
-) -> Result<Option<u64>, RunFault> {
-    for _ in 0..u64::MAX {
-        text.clear();
-        if !add_line(input, text, lines)? {
-            return Ok(None);
-        }
-        if has_word(text.as_slice()) {
-            cut_octet(text, b'\n');
-            return Ok(Some(*lines));
-        }
-    }
-    Err(RunFault::Memory)
-}
-
-/// The next lines up to one of blanks. Lines in front of the first that has more than blanks and a comment are passed over.
-fn next_block<R: BufRead>(
-    input: &mut R,
-    text: &mut Vec<u8>,
-    lines: &mut u64,
-) -> Result<Option<u64>, RunFault> {
-    let mut first = None;
-    for _ in 0..u64::MAX {
-        let before = text.len();
-        if !add_line(input, text, lines)? {
-            return Ok(first);
-        }
-        let (_, line) = text.as_slice().split_at(before.min(text.len()));
-        if first.is_none() && has_word(line) {
-            first = Some(*lines);
-        }
-        if first.is_some() && line.iter().all(|octet| is_blank(*octet)) {
-            return Ok(first);
-        }
-        if first.is_none() {
-            text.clear();
-        }
-    }
-    Err(RunFault::Memory)
-}
-
 /// Whether the line has more than blanks and a comment.
-fn has_word(line: &[u8]) -> bool {
-    for octet in line {
-        if *octet == b'#' {
-            return false;
-        }
-        if !is_blank(*octet) {
-            return true;
-        }
-    }
-    false
+fn has_word(line: &[u8]) -> bool
+    ensures { result ≡ has_word line.now }
+{
+    !is_blank_line(uncommented(line))
+}
+
+/// Whether the line has nothing but blanks.
+fn is_blank_line(line: &[u8]) -> bool
+    ensures { result ≡ is_blank_line line.now }
+{
+    line.iter().all(|octet| is_gap(*octet))
 }
 
 /// Whether an octet is a SPACE, a CHARACTER TABULATION, a LF or a CARRIAGE RETURN.
-fn is_blank(octet: u8) -> bool {
-    octet == b' ' || octet == b'\t' || octet == b'\n' || octet == b'\r'
+fn is_gap(octet: u8) -> bool
+    ensures { result ≡ is_gap octet }
+{
+    is_blank(octet) || octet == b'\n'
 }

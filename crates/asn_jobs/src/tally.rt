@@ -1,5 +1,5 @@
 //! How often each word was added.
-ghost use Rattle.std.specs.Prelude.{◌≡◌, ◌≤◌, ◌+◌, ◌^◌, ◌++◌, ◌∷◌, [], List, ℕ, OnOk, IfErr};
+ghost use Rattle.std.specs.Prelude.{◌≡◌, ◌≤◌, ◌+◌, ◌^◌, ◌++◌, ◌∷◌, [], List, ℕ, OnOk, OnErr, IfErr};
 ghost use Rattle.asn_jobs.specs.declared.fault.CountFault.TheVariants as count_fault;
 
 use crate::fault::CountFault;
@@ -27,12 +27,13 @@ impl Tally {
     /// Counts the word once more.
     ///
     /// # Errors
-    /// `Full` where it was added 2^64 - 1 times, `Memory` where an allocation failed.
+    /// `Full` where it was added 2^64 - 1 times, `Memory` where an allocation failed. The tally is as it was then.
     pub fn add(&mut self, alloc: Global, word: &str) -> Result<(), CountFault>
         ensures counted { OnOk result ((words : List (List ℕ)) → IsCountedBy words self.old.counts
             → IsCountedBy (words ++ word.now ∷ []) self.new.counts) }
         ensures full { IfErr result (λ why. why ≡ count_fault.Full
             → 2 ^ 64 ≤ count_of self.old.counts word.now + 1) }
+        ensures unchanged { OnErr result (self.new.counts.entries ≡ self.old.counts.entries) }
     {
         let Some(next) = self.count_of(word).checked_add(1) else {
             return Err(CountFault::Full);

@@ -76,7 +76,7 @@ fn push_line(digits: &mut Vec<u8>, line: &[u8]) -> Result<(), AllocError>
 }
 
 /// The line up to its comment.
-fn uncommented(line: &[u8]) -> &[u8]
+pub(crate) fn uncommented(line: &[u8]) -> &[u8]
     ensures { result.now ≡ before_first is_comment line.now }
 {
     match line.iter().position(|octet| *octet == b'#') {
@@ -86,7 +86,7 @@ fn uncommented(line: &[u8]) -> &[u8]
 }
 
 /// Whether an octet stands between words: a space, a tabulator or a carriage return.
-fn is_blank(octet: u8) -> bool
+pub(crate) fn is_blank(octet: u8) -> bool
     ensures { result ≡ is_blank octet }
 {
     octet == b' ' || octet == b'\t' || octet == b'\r'

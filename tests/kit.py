@@ -23,6 +23,10 @@ def kit_command():
 rt = kit_command()
 rtlib = rt.rtlib
 
+# How many milliseconds the checker keeps memory that it has freed. What it frees it mostly takes again soon: where it gives
+# that back sooner, and takes it anew, a check takes some 2 hundredths longer. Its allocator, mimalloc, reads this.
+os.environ.setdefault("MIMALLOC_PURGE_DELAY", "10000")
+
 
 def remember_stamps():
     """Has the sum of a crate, which a check compares with that of what was kept, not made anew while no file of the crate

@@ -47,8 +47,9 @@ from speed import Speed
 
 # the test programs that are parts of one (tests/programs/checks)
 PARTS_OF_ONE = ("rows", "hostile", "texts", "types", "names", "fields", "published", "memory", "memory_texts")
-# before the words of what goes beside the proofs and comes after them
-BEHIND = ["nice", "-n", "10"]
+# before the words of what goes beside the proofs: it takes what processors these leave, as they all are taken until few
+# crates are left
+BEHIND = ["nice", "-n", "19"]
 # the memory of a proof, and for each processor of what goes beside the proofs, edits and tests
 MEMORY = 5_500_000_000
 FIRST, TOOL = "crates/asn_first/out/asn_first", "crates/asn_tool/out/asn_tool"

@@ -3,3 +3,4 @@ pub mod Fronts
 pub mod Laying
 pub mod Looking
 pub mod Named
+pub mod Streams

@@ -3,9 +3,10 @@
 A minute of a processor is less work where other guests of the same host share its core and its cache, and the system
 counts a whole minute all the same: `steal` tells only of the time that a processor was taken away. So a fixed piece of work
 is measured again and again, on each processor in turn, by the time of its own thread: how many times as long as at best it
-takes on the average. All else is slower by about as much, as far as one run shows: a draft of this told 1.70 while the
-proofs of all crates took 1.69 times the minutes that they had taken on an idle host. What the checks that run side by side
-do to each other counts too, so that what is reckoned at best may be less than what an idle host would take.
+takes on the average. All else is slower by about as much, as far as two runs show: 1.70 times was told where the proofs of
+all crates took 1.69 times the minutes that they had taken on an idle host, and 1.59 where they took 1.45. The work wants no
+memory, so that it does not see how full the memory and the caches of the host are; and what the checks that run side by
+side do to each other counts too. So what is reckoned at best may be less than what an idle host would take.
 """
 import os
 import statistics

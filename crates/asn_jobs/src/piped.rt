@@ -42,7 +42,8 @@ impl<W: Write> Write for Piped<W> {
         ensures bound { WritesAtMost result buf.now }
         ensures bytes { WriteAppends (W.contents self.old.inner) (W.contents self.new.inner) result buf.now }
         ensures closes { IfErr result (λ e. error_kind e ≡ kind.BrokenPipe → self.new.is_closed ≡ true) }
-        ensures stays { IfErr result (λ e. error_kind e ≢ kind.BrokenPipe → self.new.is_closed ≡ self.old.is_closed) }
+        ensures stays { IfErr result (λ e. error_kind e ≢ kind.BrokenPipe
+            → self.new.is_closed ≡ self.old.is_closed) }
         ensures written { OnOk result (self.new.is_closed ≡ self.old.is_closed) }
     {
         let result = self.inner.write(buf);

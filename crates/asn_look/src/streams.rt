@@ -21,8 +21,8 @@ use std::io::{BufRead, ErrorKind};
 pub enum Next {
     /// A message.
     Message,
-    /// Octets that begin with no message, which may be cut short by the input's end. All that were read, where a value of
-    /// the type has no octets.
+    /// Octets that begin with no message, which may be cut short by the input's end. All that were read, where a value
+    /// of the type has no octets.
     Last,
     /// Nothing.
     End,
@@ -71,9 +71,11 @@ fn feed_message<S: Rules, R: BufRead>(
     session: &mut Session<S>,
     octets: &mut Vec<u8>,
 ) -> Result<Next, RunFault>
-    ensures taken { OnOk result (Takes (R.remaining input.old) (R.remaining input.new) octets.old.items octets.new.items) }
+    ensures taken { OnOk result (Takes (R.remaining input.old) (R.remaining input.new)
+        octets.old.items octets.new.items) }
     ensures known { (t : Shape) → Waits S.ruling (λ q. S.took q.inner) session.old t octets.old.items
-        → IfOk result (λ next. IsNext S.ruling t next octets.new.items (R.remaining input.old) (R.remaining input.new)) }
+        → IfOk result (λ next.
+        IsNext S.ruling t next octets.new.items (R.remaining input.old) (R.remaining input.new)) }
 {
     for _ in 0..u64::MAX {
         match fed::<S, R>(input, session, octets)? {
@@ -133,14 +135,15 @@ fn opened<S: Rules>(alloc: Global, ty: &Checked) -> Result<Session<S>, RunFault>
     }
 }
 
-/// Feeds the session what was read, and appends what of that belongs to the message. Tells what stands there, if that is
-/// known now.
+/// Feeds the session what was read, and appends what of that belongs to the message. Tells what stands there, if that
+/// is known now.
 fn fed<S: Rules, R: BufRead>(
     input: &mut R,
     session: &mut Session<S>,
     octets: &mut Vec<u8>,
 ) -> Result<Option<Next>, RunFault>
-    ensures taken { OnOk result (Takes (R.remaining input.old) (R.remaining input.new) octets.old.items octets.new.items) }
+    ensures taken { OnOk result (Takes (R.remaining input.old) (R.remaining input.new)
+        octets.old.items octets.new.items) }
     ensures known { (t : Shape) → Waits S.ruling (λ q. S.took q.inner) session.old t octets.old.items
         → IfOk result (λ o. IsKnown S.ruling (λ q. S.took q.inner) session.new t o octets.new.items) }
     ensures end { IfOk result (λ o. o ≡ Some next.End → Ends (R.remaining input.old) (R.remaining input.new)) }
@@ -165,7 +168,8 @@ fn answered<S: Rules>(
 ) -> Result<(usize, Option<Next>), RunFault>
     ensures within { IfOk result (λ p. p.0 ≤ length piece.now) }
     ensures some { IfOk result (λ p. p.1 ≢ Some next.End) }
-    ensures known { (t : Shape) (s : List ℕ) → 0 < length piece.now → Waits S.ruling (λ q. S.took q.inner) session.old t s
+    ensures known { (t : Shape) (s : List ℕ) → 0 < length piece.now
+        → Waits S.ruling (λ q. S.took q.inner) session.old t s
         → IfOk result (λ p. IsKnown S.ruling (λ q. S.took q.inner) session.new t p.1 (s ++ take p.0 piece.now)) }
 {
     match session.feed(piece) {

@@ -76,7 +76,8 @@ enum {
     /* of tulvorn_read_newer alone: */
     TULVORN_NO_MESSAGE = 16,        /* no message of any version begins so */
     TULVORN_CUT_MESSAGE = 17,       /* the octets end before a message of any version does */
-    TULVORN_TOO_MANY_ADDITIONS = 18, /* more extension additions than the profile allows */
+    TULVORN_TOO_MANY_ADDITIONS = 18, /* a count of additions, the index or tag of an alternative, or the index of an
+                                        item, past those of the profile */
     /* of tulvorn_feed alone: */
     TULVORN_MORE = 19,              /* the octets so far are no whole encoding, and one may still follow */
     TULVORN_SPENT = 20              /* the session has given its value, or wanted memory, before */
@@ -84,7 +85,8 @@ enum {
 
 /* ---- why, where octets are TULVORN_REFUSED: what was being read */
 enum {
-    TULVORN_SEALED = 1,    /* the last unit of an open type field or a UTF8String: its content is not one */
+    TULVORN_SEALED = 1,    /* the last unit of an open type field whose content is no encoding, or of a UTF8String that
+                              is no UTF-8 */
     TULVORN_DEFAULT = 2,   /* the value of a component with a DEFAULT */
     TULVORN_LENGTH = 3,    /* a length or a quantity */
     TULVORN_EXTENSION = 4, /* an extension bit, or the number or the presence bits of extension additions */
@@ -165,8 +167,8 @@ uint32_t tulvorn_explain(tulvorn_handle *type, uint32_t rules, const uint8_t *oc
                          tulvorn_handle *words);
 
 /* ---- sessions: a message whose octets come in pieces. What a session answers depends on all octets that it took, and
-   not on how they were cut. It keeps them, and reads them again with each piece: a message of n octets that come one by
-   one is read n times. */
+   not on how they were cut. It goes on where the last piece ended, and keeps only the content so far of the open type
+   field or UTF8String in which the octets end: what it costs grows with the octets, however they are cut. */
 
 /* Puts into `session` a session for a value of the type, which has taken no octet. It outlives what `type` holds, which
    is as it was. Answers MISUSE where `type` holds no type or the rules are none, NO_MEMORY. */

@@ -86,7 +86,7 @@ const KINDS: [Kind; 10] = [
 #[derive(Clone, Copy, Debug, PartialEq, Eq, Hash)]
 #[non_exhaustive]
 pub enum Why {
-    /// The last unit of an open type field or a `UTF8String`: its content is not one.
+    /// The last unit of an open type field whose content is no encoding, or of a `UTF8String` that is no UTF-8.
     Sealed,
     /// The value of a component with a DEFAULT.
     Default,
@@ -156,7 +156,8 @@ pub enum Reason {
     NoMessage,
     /// The octets end before a message of any version does.
     CutMessage,
-    /// A message of a newer version has more extension additions than the profile allows.
+    /// A count of extension additions, the index or tag of an alternative, or the index of an item, past those of the
+    /// profile.
     TooManyAdditions,
     /// The session has given its value, or wanted memory.
     Spent,

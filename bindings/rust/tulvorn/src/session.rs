@@ -18,8 +18,8 @@ pub enum Fed {
 
 /// A message whose octets come in pieces. It outlives its type.
 ///
-/// What it answers depends on all octets that it took, and not on how they were cut. It keeps them, and reads them again
-/// with each piece.
+/// What it answers depends on all octets that it took, and not on how they were cut. It goes on where the last piece
+/// ended.
 ///
 /// ```
 /// use tulvorn::{Error, Fed, Module, Rules};

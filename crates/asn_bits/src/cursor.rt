@@ -107,8 +107,7 @@ impl<'a> BitCursor<'a> {
         self.peek_across(k)
     }
 
-    /// The number in the next octet, which stays. `None` where none is left of which no bit is read; also where the
-    /// octet begun is read in part.
+    /// Peeks the next octet; `None` at the end, or inside an octet.
     #[inline(always)]
     pub fn peek_octet(&self) -> Option<u64>
         ensures fits { IfSome result (λ n. n < 2 ^ 8) }
@@ -146,8 +145,7 @@ impl<'a> BitCursor<'a> {
         self.octets = &octets[count as usize..];
     }
 
-    /// As `peek_number`, and quicker where the bits stand in the next octet and fewer than eight octets are left, as
-    /// those of a presence bitmap or a BOOLEAN often do.
+    /// As `peek_number`, and faster for few bits near the end of the input.
     #[inline(always)]
     pub fn peek_short_number(&self, k: u32) -> Option<u64>
         requires { k ≤ 64 }

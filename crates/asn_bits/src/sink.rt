@@ -15,8 +15,8 @@ use std::marker::Model;
 /// How many octets a sink has room for at first: a typical message between vehicles is then never moved.
 const SHORT: usize = 512;
 
-/// How many octets more there is room for where these do not suffice: strings of some thousand octets, one after the
-/// other, are then moved once at most.
+/// How many octets more are taken at least where these do not suffice, so that a message of some
+/// thousand octets is moved once.
 const LONG: usize = 32768;
 
 /// Bits that wait to become octets. Contracts see the list of the bits pushed, each 0 or 1.
@@ -31,7 +31,7 @@ pub struct BitSink {
     count: u32,
     // at most 64; where fewer bits wait than this, there is room for the word that they are to fill
     most: u32,
-    // where there are fewer octets than this, no bits wait and there is room for three words more
+    // below this length of `octets` nothing is pending and 24 octets of capacity are free
     limit: usize,
 }
 
@@ -154,7 +154,8 @@ impl BitSink {
         Ok(())
     }
 
-    // adds the last `count` octets of n, where bits may wait or memory be needed; bits that fill octets then wait no more
+    // the slow path of `push_low_octets` and `append_eight`: bits wait, or memory is wanted; bits
+    // that fill octets wait no more then
     #[inline(never)]
     fn append_after_bits(&mut self, count: u32, n: u64) -> Result<(), AllocError>
         requires few { count ≤ 8 }

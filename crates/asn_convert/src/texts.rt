@@ -95,7 +95,7 @@ pub(crate) fn json_refusal(alloc: Global, fault: &JsonFault) -> Result<Answer, A
     }
 }
 
-/// The refusal of octets of which nothing is read.
+/// The line for a message that `read_newer` refuses.
 ///
 /// # Errors
 /// `AllocError` where an allocation failed, here or while they were read.

@@ -8,11 +8,15 @@ use crate::parts::some_value;
 use asn_values::{Checked, Value};
 use std::alloc::{AllocError, Global};
 
-/// A value of the type to begin from: FALSE, the low bound of an INTEGER or else 0, the first item of an ENUMERATED and
-/// the first alternative of a CHOICE, strings and lists of the fewest items, and no component that is OPTIONAL.
+/// A value of the type to begin from: FALSE, the low bound of an INTEGER, else 0, or the high bound
+/// where that is below 0; the first item of an ENUMERATED and the first alternative of a CHOICE;
+/// strings and lists of the fewest items, a character the digit 0; no component that is OPTIONAL;
+/// one with a DEFAULT has the least value of its type.
+///
+/// A list of lists whose sizes begin at 65,535 has 65,535 times 65,535 elements at the least.
 ///
 /// # Errors
-/// `AllocError` where an allocation failed. A list of lists may have as few as 65,535 times 65,535 elements.
+/// `AllocError` where an allocation failed.
 pub fn least_value(alloc: Global, ty: &Checked) -> Result<Value, AllocError>
     ensures { IfOk result (λ v. Fits (shape_of ty.now) (datum_of v)) }
 {

@@ -13,9 +13,13 @@ use std::fmt::Write;
 const WIDTHS: [usize; 4] = [11, 24, 28, 28];
 
 impl MessageFields {
-    /// The fields as text, a line each: the first and the last unit, or a hyphen where the field has none; the octets in
-    /// which it lies, in hexadecimal, and, where these are one or two in PER, its bits; the path; the type; and what it is,
-    /// with what it says; in columns. Where the octets are no message, a last line says why. The octets are those of the fields.
+    /// The fields as text, a line each: the first and the last unit, or a hyphen where the field
+    /// has none; the octets in which it lies, in hexadecimal, and, where these are one or two in
+    /// PER, its bits; the path; the type; and what it is, with what it says; in columns. Where the
+    /// octets are no message, a last line says why.
+    ///
+    /// `octets` are those that `fields` was given; of other octets the column shows what stands
+    /// there, and nothing past the end.
     ///
     /// # Errors
     /// `AllocError` where an allocation failed.
@@ -59,7 +63,7 @@ pub(crate) struct Cells {
 }
 
 impl Cells {
-    /// The cells of this field. The octets are those of the fields.
+    /// The cells of this field. `octets` are those that `fields` was given.
     ///
     /// # Errors
     /// `AllocError` where an allocation failed.

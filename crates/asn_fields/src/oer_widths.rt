@@ -132,7 +132,8 @@ fn width_signed(low: i128, high: i128) -> Option<u64> {
     }
 }
 
-/// Of one of some, where there is one, or of the number of one of these items.
+/// The octets of an item: what `any` has, if anything, or those of the number of one of these
+/// items.
 fn items_octets(any: Option<Extent>, items: &[Item]) -> Option<Extent> {
     let mut any = any;
     for item in items {
@@ -197,7 +198,7 @@ fn with_length(octets: u64) -> u64 {
     octets.saturating_add(length)
 }
 
-/// Of the components of a root, after how many bits of their presence bitmap there are.
+/// How many presence bits the components of a root have, and how many octets their values.
 #[cycle(octets)]
 fn components_octets(fields: &[Field]) -> (u64, Extent) {
     let mut bits = 0u64;
@@ -231,7 +232,7 @@ fn additions_octets(fields: &[Field]) -> Extent {
     all
 }
 
-/// Of the tag and the value of one of these alternatives.
+/// The octets of the tag and the value of one of these alternatives.
 #[cycle(octets)]
 fn alternatives_octets(alternatives: &[Alt]) -> Option<Extent> {
     let mut any = None;
@@ -241,7 +242,8 @@ fn alternatives_octets(alternatives: &[Alt]) -> Option<Extent> {
     any
 }
 
-/// Of one of some, where there is one, or of one of these after `before` others, in an open type field.
+/// The octets of an alternative: what `any` has, if anything, or those of one of these, `before` of
+/// which stand in front, each a tag and an open type field.
 #[cycle(octets)]
 fn open_alternatives_octets(
     any: Option<Extent>,

@@ -61,7 +61,8 @@ pub fn page_note(alloc: Global, heading: &str, words: &str) -> Result<String, Al
 }
 
 impl MessageFields {
-    /// The fields as one page of HTML: its beginning, one section, and its end. The octets are those of the fields.
+    /// The fields as one page of HTML: its beginning, one section, and its end. `octets` are as in
+    /// `section`.
     ///
     /// # Errors
     /// `AllocError` where an allocation failed.
@@ -72,8 +73,12 @@ impl MessageFields {
         Ok(page)
     }
 
-    /// The fields as a section of a page, under a heading, which may be empty: all units, in rows with the number of the
-    /// first in front, and a line for each field, in the colour of its units. The octets are those of the fields.
+    /// The fields as a section of a page, under a heading, which may be empty: all units, in rows
+    /// with the number of the first in front, and a line for each field, in the colour of its
+    /// units.
+    ///
+    /// `octets` are those that `fields` was given; of other octets the rows show what stands there,
+    /// and 0 past the end, and the lines nothing there.
     ///
     /// # Errors
     /// `AllocError` where an allocation failed.

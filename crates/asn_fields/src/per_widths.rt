@@ -150,7 +150,7 @@ fn open_alternatives_bits(alternatives: &[Alt]) -> Extent {
     any.unwrap_or(Extent::fixed(0))
 }
 
-/// The units of one of some, where there is one, or of one more.
+/// The units of what `any` has, if anything, or of one more.
 pub(crate) fn one_more(any: Option<Extent>, more: Extent) -> Option<Extent> {
     match any {
         None => Some(more),

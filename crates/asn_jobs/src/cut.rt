@@ -19,7 +19,8 @@ pub fn next_line(rest: &[u8]) -> Option<(&[u8], &[u8])>
     Some((line, ended.split_at(1).1))
 }
 
-/// The module text, and what follows the mark.
+/// The module text before the line `====`, and the lines after it; where there is no such line, all
+/// of the input, and no lines.
 pub fn cut_input(input: &[u8]) -> (&[u8], &[u8])
     ensures text { result.0.now ≡ module_text input.now }
     ensures lines { lines_of result.1.now ≡ job_lines input.now }

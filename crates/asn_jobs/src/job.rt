@@ -60,7 +60,8 @@ pub enum Status {
 /// Why a job was not done to its end.
 #[derive(Clone, Copy, Debug, PartialEq, Eq, Error, Drop)]
 pub enum RunFault {
-    /// The input could not be read. Nothing was written.
+    /// The input could not be read. `run` has written nothing then; `run_on_lines` the answers to
+    /// the lines before.
     #[error("read failed")]
     Read = 1,
     /// The output could not be written.

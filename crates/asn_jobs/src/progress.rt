@@ -72,7 +72,7 @@ impl Progress {
     }
 }
 
-/// How many that is a second.
+/// How many messages a second these are.
 fn a_second(messages: u64, time: Duration) -> u64 {
     let millis = time.as_millis().max(1);
     let rate = u128::from(messages) * 1000 / millis;

@@ -1,4 +1,5 @@
--- Two proofs that two values are one are the same proof: values are a set, since they are copied into another type and back.
+-- Two proofs that two values are one are the same proof: values are a set, since they are copied
+-- into another type and back.
 use Rattle.std.specs.Prelude.{◌≡◌, ◌⊎◌, ℕ, ℤ, Bool, List, [], ◌∷◌, Option, Some, None, refl}
 use Rattle.std.specs.Coded.{×_prop, Unit-prop, le_prop}
 use lib.IntN.{ℤ_set}
@@ -117,10 +118,13 @@ retract_set to from same set = collapsible→set (λ x y p. sym (same x) ∙ ap 
     (λ x y p q. ap (λ z. sym (same x) ∙ ap from z ∙ same y) (set (to x) (to y) (ap to p) (ap to q)))
 
 Option-set : {T : Type 0} → IsSet T → IsSet (Option T)
-Option-set {T} set = retract_set {B = T ⊎ Unit {0}} (elim [ None ↦ inr tt | Some x ↦ inl x ]) (elim [ inl x ↦ Some x | inr _ ↦ None ]) (elim [ None ↦ refl | Some x ↦ refl ]) (⊎_set set (prop→set Unit-prop))
+Option-set {T} set = retract_set {B = T ⊎ Unit {0}} (elim [ None ↦ inr tt | Some x ↦ inl x ])
+    (elim [ inl x ↦ Some x | inr _ ↦ None ]) (elim [ None ↦ refl | Some x ↦ refl ])
+    (⊎_set set (prop→set Unit-prop))
 
 pub Datum-set : IsSet Datum
-Datum-set = retract_set copy (λ c. (back c).value) again (Copy-set Bool-set ℤ_set ℕ_set (List-set Bool-set) (List-set ℕ_set))
+Datum-set = retract_set copy (λ c. (back c).value) again
+    (Copy-set Bool-set ℤ_set ℕ_set (List-set Bool-set) (List-set ℕ_set))
 
 counted_prop : (c : Content) (es : List (Option Datum)) → IsProp (IsCounted c es)
 counted_prop (content.List count) es = λ p q. ℕ_set _ _ p q

@@ -42,7 +42,7 @@ impl Message {
     ghost use Rattle.asn_message.specs.Seen.{value_seen};
     ghost use Rattle.asn_message.specs.Views.{seen};
 
-    /// NULL.
+    /// A message whose value is NULL. Allocates nothing.
     pub fn new(alloc: Global) -> Message
         ensures { value_seen result ≡ nothing }
     {

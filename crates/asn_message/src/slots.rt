@@ -28,7 +28,7 @@ pub enum Content {
     Number(i64),
     /// An INTEGER above those, of 64 bits without one.
     Large(u64),
-    /// An ENUMERATED: the index of the item, counted from 0 as written.
+    /// An ENUMERATED: the position of the item, counted from 0 as written.
     Item(u32),
     /// A BIT STRING: an octet for each bit, 1 or 0.
     Bits(Span),

@@ -119,7 +119,8 @@ fn numbers_of(alloc: Global, references: &[Vec<usize>]) -> Result<Vec<Option<usi
     let order = order_of(alloc, references)?;
     let referrers = referrers_of(alloc, references)?;
     let mut numbers = vec![in alloc; None; references.len()]?;
-    // Of the assignments without a number the last in the order is led to by those alone that it leads to itself.
+    // The last unnumbered assignment of the order begins a new component (Kosaraju): it leads back
+    // to each unnumbered one that leads to it.
     let mut stack = Vec::new(alloc);
     for start in order.iter().rev() {
         stack.push(*start)?;

@@ -1,4 +1,5 @@
-//! Texts with the types left out that lie inside too many others. No call goes deeper for a type inside another one.
+//! Replaces the types that are nested too deep in a text by NULL. No call goes deeper for a type
+//! inside another one.
 
 use asn_notation::{Lexeme, Sign, Word, constraint_at, first_token, skip_blank};
 use std::alloc::{AllocError, Global};

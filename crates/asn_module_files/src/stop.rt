@@ -53,8 +53,8 @@ pub enum Stop<'a> {
 }
 
 impl<'a> Stop<'a> {
-    /// The exit status: 2 where a text or what is asked for is refused, 3 where reading, writing or memory failed, and 141 where the reader of
-    /// the output has gone.
+    /// The exit status: 2 where a text or what is asked for is refused, 3 where reading, writing or
+    /// memory failed, and 141 where the reader of the output has gone.
     pub fn status(&self) -> u8
         ensures { result ≡ stop_status self.now }
     {

@@ -58,8 +58,8 @@ pub(crate) fn halt_before_end(halt: Halt) -> Halt
     }
 }
 
-/// What is told of an open type field, where the reader of its content says this: the octets of the field have all
-/// been read, so none of the message is wanting where they are too few for the content.
+/// What is told of an open type field where the reader of its content says this. Content that ends
+/// early is refused, not cut short: its field is complete.
 pub(crate) fn halt_of_field(halt: Halt) -> Halt
     ensures { result ≡ halt_of_field halt }
 {

@@ -34,7 +34,13 @@ pub trait ReadVersions: ReadLeaves + OtherVersions {
         requires few { root ≤ most_alternatives }
         ensures { IsTrue result ↔ Self.index_past root (Self.rules.to_units units.now) };
 
-    /// Reads the number that tells an item that an ENUMERATED with an extension mark has not.
+    /// Reads the number that tells an item that an ENUMERATED with an extension marker has not.
+    ///
+    /// # Errors
+    /// `Short` where the units end first; `Refused` where an item of the type stands there, or no
+    /// number, or in OER one that is not above the numbers of all items; `TooMany` in PER where the
+    /// index is past the profile, or the root leaves room for no addition; `Memory` where an
+    /// allocation failed.
     fn read_unknown_item(
         root: &[Item],
         additions: &[Item],
@@ -50,8 +56,8 @@ pub trait ReadVersions: ReadLeaves + OtherVersions {
         ensures stop { IfErr result (λ why. HaltsAt Self.rules
             (UnknownItem Self.loose (labels_seen root.now) (labels_seen additions.now)) units.old why) };
 
-    /// What is said of versions is said of the parts that are read. The call does nothing: its clauses are what proofs
-    /// cite.
+    /// The laws of versions hold of these leaves. The call does nothing: its clauses are what
+    /// proofs cite.
     fn keep_walk_laws()
         ensures same { SameReadings (loose_by Self.rules Self.loose) Self.loose }
         ensures ways { WayLaws (loose_by Self.rules Self.loose) };

@@ -163,8 +163,8 @@ pub(crate) fn write_integer<S: Sink>(
     }
 }
 
-/// The number up to which the numbers from 0 on have as many octets as those from `low` to `high`, where it is a fixed
-/// number of octets.
+/// The unsigned bound whose numbers take as many octets as those from `low` to `high`; `None` where
+/// these have no fixed number of octets.
 #[inline(always)]
 fn greatest(low: i128, high: i128) -> Option<u64>
     requires order { low ≤ℤ high }

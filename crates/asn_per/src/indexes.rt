@@ -36,7 +36,8 @@ pub(crate) fn write_index<S: Sink>(
 {
     match index {
         Index::Root(index) => {
-            // of twice as many values, as in `write_near` for numbers
+            // twice as many values take one bit more, and `2 * root - 1` is never 0, so that no
+            // test asks whether there is one value alone
             let count = width_up_to(2 * root as u64 - 1) - 1;
             let mark_bits = u32::from(marked);
             sink.push_number(mark_bits + count, index as u64)
@@ -118,8 +119,11 @@ fn read_root_index(count: usize, bits: &mut BitCursor<'_>) -> Result<usize, Stop
     Ok(read_constrained(count as u64 - 1, None, bits)? as usize)
 }
 
-/// Reads a normally small number below `count`. It is seldom asked for; inlined, it would make `read` of
-/// `asn_walk_read` too large to be inlined itself.
+/// Reads a normally small number below `count` (X.691).
+///
+/// # Errors
+/// `Short` if the bits end before it does. `Refused` at the first bit after which none can follow:
+/// `Length` in the octet of its length, else `Number`.
 #[inline(never)]
 pub fn read_small_number(count: usize, bits: &mut BitCursor<'_>) -> Result<usize, Stop>
     requires some { 0 < count }
@@ -127,6 +131,8 @@ pub fn read_small_number(count: usize, bits: &mut BitCursor<'_>) -> Result<usize
     ensures done { Reads result (λ n. n) (SmallBelow count) bits.old bits.new }
     ensures stop { StopsIn result (SmallBelow count) bits.old }
 {
+    // this is seldom asked for; inlined, it would make `read` of `asn_walk_read` too large to be
+    // inlined itself
     if count <= SHORT_NUMBERS {
         read_short_number(count, bits)
     } else {

@@ -85,10 +85,11 @@ pub fn codec_laws()
     ensures one_answer { DecodersAgree per_ruling }
 {}
 
-/// Of each kind of type of the profile the spellings of its values are those of its parts, put together: numbers of a
-/// set in a fixed count of bits, lengths, items in a row, extension bits that fork, presence bits and open fields. A
-/// list whose size is fixed has no count. Of an ENUMERATED without a mark, and of an INTEGER without a low bound and
-/// without a mark, the same is said of the values but for one, as a component with a DEFAULT is spelt.
+/// Of each kind of type of the profile the spellings of its values are those of its parts, put
+/// together: numbers of a set in a fixed count of bits, lengths, items in a row, extension bits
+/// that fork, presence bits and open type fields. A list whose size is fixed has no count. Of an
+/// ENUMERATED without a mark, and of an INTEGER without a low bound and without a mark, the same is
+/// said of the values but for one, as a component with a DEFAULT is spelt.
 pub fn kinds_compose()
     ensures booleans { BooleansCompose }
     ensures nulls { NullsCompose }

@@ -37,6 +37,7 @@ pub record IsEnumeration (e : Enumeration) : Type 0 where
   pub of_profile : InProfile (shape_of e.ty)
   pub ordered : AreInOrder (root_items_of (shape_of e.ty))
   pub count : e.highest + 1 ≡ length (root_items_of (shape_of e.ty))
-  pub bits : e.bits ≡ bit_of (has_more_labels (other_items_of (shape_of e.ty))) + width (length (root_items_of (shape_of e.ty)))
+  pub bits : e.bits ≡ bit_of (has_more_labels (other_items_of (shape_of e.ty)))
+      + width (length (root_items_of (shape_of e.ty)))
   pub mask : e.mask + 1 ≡ 2 ^ e.bits
   pub octets : 0 < e.octets → AreInRow e.first (root_items_of (shape_of e.ty))

@@ -37,16 +37,16 @@ pub trait Build {
 
     ghost opened: { Self.Room → Self.Room → Self.Chosen → ℕ → Type 0 };
 
-    /// Of an INTEGER.
+    /// Builds the part of an INTEGER; `None` where it gives up.
     fn number(room: &mut Self::Room, integer: i128) -> Option<Self::Part>
         requires { IsOfProfile integer }
         ensures { IfSome result (λ p. built room.old room.new p (number integer)) };
 
-    /// Of a BOOLEAN.
+    /// Builds the part of a BOOLEAN.
     fn truth(room: &mut Self::Room, is_true: bool) -> Option<Self::Part>
         ensures { IfSome result (λ p. built room.old room.new p (truth is_true)) };
 
-    /// Of an ENUMERATED: the item at this position, counted from 0.
+    /// Builds the part of an ENUMERATED: the item at this position, counted from 0.
     fn item(room: &mut Self::Room, position: u32) -> Option<Self::Part>
         ensures { IfSome result (λ p. built room.old room.new p (item position)) };
 
@@ -56,13 +56,15 @@ pub trait Build {
         false
     }
 
-    /// Whether it does so little that what the walk keeps stays in registers; else rare components have functions of their own.
+    /// Whether it does so little that what the walk keeps stays in registers; else rare components
+    /// have functions of their own.
     #[inline(always)]
     fn is_light() -> bool {
         false
     }
 
-    /// Of a BIT STRING or OCTET STRING of one length, whose bits are those of the number.
+    /// Builds the part of a BIT STRING or OCTET STRING of one length, whose bits are those of the
+    /// number.
     #[inline(always)]
     fn string(_room: &mut Self::Room, _fixed: &FixedString, _number: u64) -> Option<Self::Part>
         ensures { IfSome result (λ p. (d : Datum) → IsStringOf _fixed.now _number d
@@ -71,11 +73,12 @@ pub trait Build {
         None
     }
 
-    /// Of a value without parts; it may give up at another.
+    /// Builds the part of a value without parts; it may give up at another.
     fn value(room: &mut Self::Room, value: Value) -> Option<Self::Part>
         ensures { IfSome result (λ p. built room.old room.new p (datum_of value)) };
 
-    /// The same of a value that stays where it is, as the DEFAULT of a component that is absent.
+    /// Builds the part of a value without parts that stays where it is, as the DEFAULT of a
+    /// component that is absent.
     #[inline(always)]
     fn kept(room: &mut Self::Room, value: &Value) -> Option<Self::Part>
         ensures { IfSome result (λ p. built room.old room.new p (datum_of value.now)) }
@@ -84,14 +87,15 @@ pub trait Build {
         Self::value(room, copy)
     }
 
-    /// A value whose memory serves for the next part, which is a string, if there is one.
+    /// Gives a value whose memory serves for the next part, which is a string; `None` where there
+    /// is no such value.
     fn spare(room: &mut Self::Room) -> Option<Value>
         ensures { (r : Self.Room) (p : Self.Part) (d : Datum) → built room.new r p d → built room.old r p d }
     {
         None
     }
 
-    /// Of no entries, where there will be this many.
+    /// Begins the entries of a SEQUENCE, none yet, of which there will be this many.
     fn entries(alloc: Global, room: &mut Self::Room, count: usize) -> Option<Self::Entries>
         ensures { IfSome result (λ es. listed room.old room.new es []) };
 
@@ -100,17 +104,17 @@ pub trait Build {
         ensures { IsSome result → (s : Self.Room) (es : List (Option Datum)) → listed s room.old entries.old es
             → listed s room.new entries.new (es ++ None ∷ []) };
 
-    /// Adds that of one with a value, which was built after the entries.
+    /// Adds the entry of a component with this value, which was built after the entries.
     fn present(room: &mut Self::Room, entries: &mut Self::Entries, part: Self::Part) -> Option<()>
         ensures { IsSome result → (s m : Self.Room) (es : List (Option Datum)) (d : Datum)
             → listed s m entries.old es → built m room.old part d → listed s room.new entries.new (es ++ Some d ∷ []) };
 
-    /// Of a SEQUENCE.
+    /// Builds a SEQUENCE of these entries, which are complete.
     fn sequence(room: &mut Self::Room, entries: Self::Entries) -> Option<Self::Part>
         ensures { IfSome result (λ p. (s : Self.Room) (es : List (Option Datum)) → listed s room.old entries es
             → built s room.new p (components (components_of es))) };
 
-    /// Of no elements.
+    /// Begins the elements of a SEQUENCE OF, none yet.
     fn elements(alloc: Global, room: &mut Self::Room) -> Option<Self::Elements>
         ensures { IfSome result (λ row. rowed room.old room.new row []) };
 
@@ -119,17 +123,18 @@ pub trait Build {
         ensures { IsSome result → (s m : Self.Room) (ds : List Datum) (d : Datum)
             → rowed s m row.old ds → built m room.old part d → rowed s room.new row.new (ds ++ d ∷ []) };
 
-    /// Of a SEQUENCE OF.
+    /// Builds a SEQUENCE OF of these elements, which are complete.
     fn list(room: &mut Self::Room, row: Self::Elements) -> Option<Self::Part>
         ensures { IfSome result (λ p. (s : Self.Room) (ds : List Datum) → rowed s room.old row ds
             → built s room.new p (elements (elements_of ds))) };
 
-    /// Of a CHOICE, before the value of its alternative at this place, counted from 0, is built.
+    /// Begins a CHOICE, before the value of its alternative at this place, counted from 0, is
+    /// built.
     fn choosing(room: &mut Self::Room, place: usize) -> Option<Self::Chosen>
         requires { place < 2 ^ 32 }
         ensures { IfSome result (λ c. opened room.old room.new c place) };
 
-    /// Of a CHOICE, with the value of its alternative, which was built after it.
+    /// Builds a CHOICE with the value of its alternative, which was built after it was begun.
     fn choice(
         alloc: Global,
         room: &mut Self::Room,

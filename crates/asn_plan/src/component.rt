@@ -149,8 +149,8 @@ fn build_default_apart<R: PlanLeaves, B: Build>(
     )
 }
 
-/// Adds the entry of a component with this DEFAULT, which has another value, that is taken, where the presence bits tell
-/// that it is there.
+/// Adds the entry of a component with this DEFAULT: where its presence bit is 1, its value, which
+/// is another, is taken from the units.
 #[inline(always)]
 fn build_default<R: PlanLeaves, B: Build>(
     nodes: &[Node],

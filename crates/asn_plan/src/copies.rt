@@ -24,7 +24,7 @@ fn copy_items(alloc: Global, items: &[Item]) -> Result<Vec<Item>, AllocError>
 /// A copy of a type that is neither SEQUENCE, SEQUENCE OF nor CHOICE.
 ///
 /// # Errors
-/// Where an allocation failed.
+/// `AllocError` where an allocation failed.
 pub(crate) fn copy_simple(alloc: Global, ty: &AsnType) -> Result<AsnType, AllocError>
     requires simple { is_simple (shape_of ty.now) ≡ true }
     ensures { IfOk result (λ copy. shape_of copy ≡ shape_of ty.now) }

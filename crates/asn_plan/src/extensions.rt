@@ -32,8 +32,8 @@ pub(crate) fn build_additions<R: PlanLeaves, B: Build>(
     requires at_unit { R.rules.at_unit units.old }
     ensures at_unit { IsSome result → R.rules.at_unit units.new }
     ensures some { IsSome result → (s : B.Room) → (fs : Fields) → AreOfProfile fs → ArePlans nodes.now parts.now fs
-        → BuildsMore R.rules (B.listed s room.old entries.old) (B.listed s room.new entries.new) (AdditionsOf R.rules fs)
-        (R.rules.to_units units.old) (R.rules.to_units units.new) }
+        → BuildsMore R.rules (B.listed s room.old entries.old) (B.listed s room.new entries.new)
+        (AdditionsOf R.rules fs) (R.rules.to_units units.old) (R.rules.to_units units.new) }
 {
     if parts.is_empty() || parts.len() > 64 {
         return None;

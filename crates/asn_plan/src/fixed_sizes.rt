@@ -3,7 +3,7 @@ ghost use Rattle.std.specs.Prelude.{◌≡◌, ◌≤ℤ◌, ◌<ℤ◌, ◌^◌
 ghost use Rattle.asn_values.specs.Fits.{lowest_integer, highest_integer};
 ghost use Rattle.asn_plan.specs.FixedSizes.{unsigned_octets, signed_size, fixed_size};
 
-/// What the integers of 64 bits in two's complement are below.
+/// 2^63: each integer of 64 bits in two's complement is below it.
 pub const SIGNED_END: i128 = 1 << 63;
 
 /// How many octets hold the numbers from 0 to `high` (X.696, "encoding of integer types").

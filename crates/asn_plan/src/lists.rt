@@ -89,7 +89,8 @@ fn build_fragments<R: PlanLeaves, B: Build>(
     requires between { R.is_between fragments }
     ensures at_unit { IsSome result → R.rules.at_unit units.new }
     ensures some { IfSome result (λ p. (t : Shape) → InProfile t → IsPlan nodes.now t kind.now
-        → BuildsList R.rules (B.rowed room.old room.new) (Remaining (ValuesOf R.rules t) (R.ahead fragments)) p units.old units.new) }
+        → BuildsList R.rules (B.rowed room.old room.new) (Remaining (ValuesOf R.rules t) (R.ahead fragments)) p
+        units.old units.new) }
 {
     R::keep_laws();
     let mut fragments = fragments;

@@ -28,7 +28,7 @@ use std::alloc::{AllocError, Global};
 /// The plan of a type.
 ///
 /// # Errors
-/// Where an allocation failed.
+/// `AllocError` where an allocation failed.
 pub fn plan_of(alloc: Global, ty: &Checked) -> Result<Plan, AllocError>
     ensures { IfOk result (λ p. IsPlanOf p (shape_of ty.now)) }
 {

@@ -128,7 +128,8 @@ fn build_number<R: PlanLeaves, B: Build>(
     room: &mut B::Room,
 ) -> Option<B::Part>
     ensures { IfSome result (λ p. (t : Shape) (us : List ℕ) → InProfile t → IsPlan nodes.now t kind.now
-        → BuildsNext R.rules (B.built room.old room.new) t p (before R.rules word.old us) (before R.rules word.new us)) }
+        → BuildsNext R.rules (B.built room.old room.new) t p
+        (before R.rules word.old us) (before R.rules word.new us)) }
 {
     if let Kind::Number(number) = kind {
         let integer = R::next_ranged(&number.range, word)?;

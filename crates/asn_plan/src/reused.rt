@@ -39,7 +39,7 @@ pub struct ChoiceOver {
 }
 
 impl Spare {
-    /// Without memory at first.
+    /// Spare memory that holds nothing yet. Allocates nothing.
     pub fn new(alloc: Global) -> Spare {
         Spare {
             here: Place {

@@ -24,7 +24,7 @@ pub trait Reads {
     fn read(alloc: Global, ty: &Checked, octets: &[u8]) -> Result<Step, FeedFault>
         ensures { FedAtOnce ruling (shape_of ty.now) octets.now result };
 
-    /// Whether no octets are the encoding of a value of the type.
+    /// Whether the empty message, of no octets, is the encoding of a value of the type.
     ///
     /// # Errors
     /// `AllocError` where an allocation failed.

@@ -14,7 +14,8 @@ use thiserror::Error;
 /// What was being read where octets were refused.
 #[derive(Clone, Copy, Debug, PartialEq, Eq)]
 pub enum Why {
-    /// The last unit of an open field or a UTF8String: its content is not one.
+    /// The last unit of an open type field whose content is no encoding, or of a UTF8String that is
+    /// no UTF-8.
     Sealed = 1,
     /// The value of a component with a DEFAULT.
     Default = 2,

@@ -44,15 +44,15 @@ pub trait Rules {
     /// The encoding of a value of the type.
     ///
     /// # Errors
-    /// `NotOfType` where the value does not fit the type, `TooLong` where it fits and its encoding has more than
-    /// 268,435,455 octets, `Memory` where it is and an allocation failed.
+    /// `NotOfType` where the value does not fit the type, `TooLong` where it fits and its encoding
+    /// has more than 268,435,455 octets, `Memory` only where it fits, and an allocation failed.
     fn encode(alloc: Global, ty: &Checked, value: &Value) -> Result<Vec<u8>, EncodeFault>
         ensures encoding { IfOk result (λ o. IsEncoding ruling (shape_of ty.now) (datum_of value.now) o.items) }
         ensures within { IfOk result (λ o. vec_len o ≤ max_octets) }
         ensures fault { IfErr result (λ why. NotEncoded ruling why (shape_of ty.now) (datum_of value.now)) };
 
-    /// Gives the encoding of a value of the type to an output, as a `Counted` writer, piece by piece. It takes no memory,
-    /// and does not flush the writer.
+    /// Gives the encoding of a value of the type to an output, such as a `Counted` writer, piece by
+    /// piece. It takes no memory, and does not flush the writer.
     ///
     /// # Errors
     /// `NotOfType` where the value does not fit the type, `TooLong` where it fits and its encoding has more than

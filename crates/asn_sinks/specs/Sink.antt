@@ -27,7 +27,8 @@ Standing Sink Origin = Sink → Context Origin → List ℕ → List ℕ → Typ
 -- these bits were taken, where they were the first of those to come
 abbrev pub Pushes : {Sink Origin : Type 0} → Standing Sink Origin → Sink → Sink → List ℕ → Type 0
 Pushes {Sink} {Origin} stands old new bits =
-    (c : Context Origin) (taken coming : List ℕ) → stands old c taken (bits ++ coming) → stands new c (taken ++ bits) coming
+    (c : Context Origin) (taken coming : List ℕ) → stands old c taken (bits ++ coming)
+    → stands new c (taken ++ bits) coming
 
 -- the same inside this many open type fields
 abbrev pub PushesAt : {Sink Origin : Type 0} → Standing Sink Origin → ℕ → Sink → Sink → List ℕ → Type 0
@@ -43,7 +44,8 @@ filling _ bits = padding (length bits)
 -- the zeros that fill up octets were taken
 abbrev pub Fills : {Sink Origin : Type 0} → Standing Sink Origin → Bool → Sink → Sink → Type 0
 Fills {Sink} {Origin} stands some old new =
-    (c : Context Origin) (taken coming : List ℕ) → stands old c taken (filling some taken ++ coming) → stands new c (taken ++ filling some taken) coming
+    (c : Context Origin) (taken coming : List ℕ) → stands old c taken (filling some taken ++ coming)
+    → stands new c (taken ++ filling some taken) coming
 
 -- ---- open type fields
 
@@ -54,15 +56,16 @@ framed Single os = unpacked (octet_length (length os)) ++ unpacked os
 
 -- An open type field was begun inside `level` others, and its whole content is to come. Where lengths are wanted, its
 -- content has to have the n octets that were told.
-abbrev pub Begins : {Sink Origin Outer : Type 0} → Standing Sink Origin → (Outer → List ℕ → Type 0) → Bool → ℕ → Framing → ℕ
-    → Sink → Sink → Outer → Type 0
+abbrev pub Begins : {Sink Origin Outer : Type 0} → Standing Sink Origin → (Outer → List ℕ → Type 0) → Bool → ℕ → Framing
+    → ℕ → Sink → Sink → Outer → Type 0
 Begins {Sink} {Origin} stands keeps wants level framing n old new outer =
     (c : Context Origin) (taken os next : List ℕ) → length c.around ≡ level → (wants ≡ true → length os ≡ n)
     → stands old c taken (framed framing os ++ next)
     → stands new (inside c next) [] (unpacked os) × keeps outer taken
 
 -- It was ended, when all of its content had been taken.
-abbrev pub Ends : {Sink Origin Outer : Type 0} → Standing Sink Origin → (Outer → List ℕ → Type 0) → Framing → Sink → Outer → Sink → Type 0
+abbrev pub Ends : {Sink Origin Outer : Type 0} → Standing Sink Origin → (Outer → List ℕ → Type 0) → Framing
+    → Sink → Outer → Sink → Type 0
 Ends {Sink} {Origin} stands keeps framing old outer new =
     (c : Context Origin) (taken os next : List ℕ) → AllByRecursion (λ o. o < 256) os → keeps outer taken
     → stands old (inside c next) (unpacked os) []

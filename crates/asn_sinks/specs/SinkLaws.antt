@@ -25,7 +25,8 @@ none_added a = sym (append-nil a)
 pub added_twice : (a b d xs ys : List ℕ) → b ≡ a ++ xs → d ≡ b ++ ys → d ≡ a ++ (xs ++ ys)
 added_twice a b d xs ys p q = q ∙ ap (λ t. t ++ ys) p ∙ append_assoc a xs ys
 
-pub added_stands : {Origin : Type 0} (a b xs : List ℕ) → b ≡ a ++ xs → Pushes {Sink = List ℕ} {Origin = Origin} (λ sink c taken coming. sink ≡ taken) a b xs
+pub added_stands : {Origin : Type 0} (a b xs : List ℕ) → b ≡ a ++ xs
+    → Pushes {Sink = List ℕ} {Origin = Origin} (λ sink c taken coming. sink ≡ taken) a b xs
 added_stands a b xs p c taken coming is = p ∙ ap (λ t. t ++ xs) is
 
 -- ---- a count

@@ -49,7 +49,7 @@ module _ {A : Type 0} (shape : A → Shape) (levels start left : ℕ) (parts : L
 
 -- ---- a type around those inside it
 
--- the types after an extension mark, where there is one
+-- the types after an extension marker, where there is one
 abbrev pub types_after : {A : Type 0} → (A → Shape) → Option (Vec A Global) → List Shape
 types_after shape None = []
 types_after shape (Some more) = map shape more.items
@@ -63,7 +63,7 @@ types_of_fields [] = refl
 types_of_fields (f ∷ fs) =
     ap (λ t. beside (of_type t) (of_fields (fields_of (map part_of_field fs)))) (shape_of_part f) ∙ ap (beside (of_type (shape_of f.ty))) (types_of_fields fs)
 
--- a SEQUENCE is around the types of its components, those after its extension mark last
+-- a SEQUENCE is around the types of its components, those after its extension marker last
 pub sequence_around : (t : AsnType) (root : Vec Field Global) (ext : Option (Vec Field Global)) (fs : List Field) → t ≡ Seq root ext → fs ≡ root.items →
     IsAround (shape_of t) (beside (of_types (map (λ f. shape_of f.ty) fs)) (of_types (types_after (λ f. shape_of f.ty) ext)))
 sequence_around t root None fs et ef = rw (sequence_of_fields t root None fs et ef) (record { same = rw (← types_of_fields fs) refl })
@@ -83,7 +83,7 @@ types_of_alternatives [] = refl
 types_of_alternatives (a ∷ alts) =
     ap (λ t. beside (of_type t) (of_alternatives (alternatives_of (map branch_of alts)))) (shape_of_branch a) ∙ ap (beside (of_type (shape_of a.ty))) (types_of_alternatives alts)
 
--- a CHOICE is around the types of its alternatives, those after its extension mark last
+-- a CHOICE is around the types of its alternatives, those after its extension marker last
 pub choice_around : (t : AsnType) (root : Vec Alt Global) (ext : Option (Vec Alt Global)) (alts : List Alt) → t ≡ Choice root ext → alts ≡ root.items →
     IsAround (shape_of t) (beside (of_types (map (λ a. shape_of a.ty) alts)) (of_types (types_after (λ a. shape_of a.ty) ext)))
 choice_around t root None alts et ea = rw (choice_of_alternatives t root None alts et ea) (record { same = rw (← types_of_alternatives alts) refl })

@@ -59,7 +59,7 @@ module _ (u : Bool) where
   other_length fs vs h differ =
       differ (simp length-map at (each_length (map part_of_field fs) (map (option_map datum_of) vs) h))
 
-  -- ---- after an extension mark
+  -- ---- after an extension marker
 
   -- as far as there are entries, the first are the root's and the others the additions'
   pub fits_split :

@@ -149,7 +149,7 @@ abbrev pub bad_enumeration : Shape → Bool
 bad_enumeration (enumerated root more) = bad_numbers (map (λ l. l.number) root) (map (λ l. l.number) (more_labels more))
 bad_enumeration _ = false
 
--- ---- UselessMark: an extension mark on a root that is already every value of the profile
+-- ---- UselessMark: an extension marker on a root that is already every value of the profile
 
 abbrev pub is_every_length : Option SizeRange → Bool
 is_every_length None = false
@@ -162,8 +162,8 @@ useless_mark_under l t = is_every_length (size_of t)
 abbrev pub useless_mark : Shape → Bool
 useless_mark = useless_mark_under limits
 
--- ---- BadDefault: a DEFAULT on another type than BOOLEAN, ENUMERATED or INTEGER, on one with an extension mark or one
--- value only, or no value of it
+-- ---- BadDefault: a DEFAULT on another type than BOOLEAN, ENUMERATED or INTEGER, on one with an
+-- extension marker or one value only, or no value of it
 
 -- the bounds of the numbers of a range, where one is missing the profile's
 abbrev pub lowest_of : Option ℤ → ℤ

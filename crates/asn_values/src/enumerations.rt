@@ -51,7 +51,7 @@ pub(crate) fn has_bad_numbers(alloc: Global, root: &[Item], ext: &Option<Vec<Ite
         || !is_below(root, additions)
 }
 
-/// Whether there are ext items than the profile allows.
+/// Whether there are more items than the profile allows.
 pub(crate) fn is_too_many(root: &[Item], ext: &Option<Vec<Item>>) -> bool
     ensures { result ≡ too_many_here (enumerated_seen root.now ext.now) }
 {

@@ -43,7 +43,7 @@ pub(crate) fn is_fixed(size: &Size) -> bool
 }
 
 /// Whether the length, in items, lies between the bounds, both counted in, whether or not an extension
-/// mark follows (X.680, "size constraint").
+/// marker follows (X.680, "size constraint").
 pub fn is_in_size(size: &Size, length: usize) -> bool
     ensures { result ≡ in_size (size_range_of size.now) length }
 {

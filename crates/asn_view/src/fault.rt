@@ -14,7 +14,9 @@ pub enum BuildFault {
     /// Nothing is given for the component of this name, which is neither OPTIONAL nor has a DEFAULT.
     #[error("nothing is given for `{name}`")]
     Missing { name: String },
-    /// A text is given for a type whose values are no text, or parts for a type that has none such.
+    /// A text is given for a type that is neither a character string nor an ENUMERATED, or an item,
+    /// an alternative, elements or an empty list of components for a type of another kind. Of
+    /// components that have names the first is `NoSuch` there.
     #[error("the type is of another kind")]
     OtherKind,
     /// An allocation failed.

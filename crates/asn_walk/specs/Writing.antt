@@ -55,7 +55,8 @@ abbrev pub Writes : {Sink : Type 0} → Pushing Sink → Coding → Sink → Sin
 Writes push c old new cs = push old new (written c cs)
 
 -- of the chunks that were to be written after old, these others are still to be written after new
-pub record LeavesToWrite {Sink : Type 0} (push : Pushing Sink) (c : Coding) (old : Sink) (all : List Chunk) (new : Sink) (others : List Chunk) : Type 0 where
+pub record LeavesToWrite {Sink : Type 0} (push : Pushing Sink) (c : Coding) (old : Sink) (all : List Chunk) (new : Sink)
+    (others : List Chunk) : Type 0 where
   pub done : List ℕ
   pub pushed : push old new done
   pub rest : done ++ written c others ≡ written c all
@@ -78,7 +79,8 @@ FitsType t v = Fits (shape_of t) (datum_of v)
 -- wanted, of fewer than 2 ^ 63 that are to come
 abbrev pub TakesAt : {Sink Origin : Type 0} → Standing Sink Origin → Bool → ℕ → Pushing Sink
 TakesAt {Sink} {Origin} stands wants level old new bits =
-    (k : Context Origin) (taken coming : List ℕ) → length k.around ≡ level → (wants ≡ true → length (bits ++ coming) < 2 ^ 63)
+    (k : Context Origin) (taken coming : List ℕ) → length k.around ≡ level
+    → (wants ≡ true → length (bits ++ coming) < 2 ^ 63)
     → stands old k taken (bits ++ coming) → stands new k (taken ++ bits) coming
 
 -- what fills up a complete encoding was taken, after the spelling of a value of the profile
@@ -89,10 +91,12 @@ FillsUp {Sink} {Origin} stands c old new =
     → stands new k (written c (c.code t d) ++ filling_bits c (c.code t d)) coming
 
 -- the octets of a complete encoding were taken, and nothing before them
-abbrev pub WritesComplete : {Sink Origin : Type 0} → Standing Sink Origin → Bool → ℕ → Coding → Sink → Sink → AsnType → Value → Type 0
+abbrev pub WritesComplete : {Sink Origin : Type 0} → Standing Sink Origin → Bool → ℕ → Coding → Sink → Sink → AsnType
+    → Value → Type 0
 WritesComplete {Sink} {Origin} stands wants level c old new t v =
     let octets = unpacked (c.complete (c.code (shape_of t) (datum_of v))) in
-    (k : Context Origin) (coming : List ℕ) → length k.around ≡ level → (wants ≡ true → length (octets ++ coming) < 2 ^ 63)
+    (k : Context Origin) (coming : List ℕ) → length k.around ≡ level
+    → (wants ≡ true → length (octets ++ coming) < 2 ^ 63)
     → stands old k [] (octets ++ coming) → stands new k octets coming
 
 -- ---- SEQUENCE
@@ -111,11 +115,13 @@ abbrev pub AreOptional : Fields → Type 0
 AreOptional fs = list_all is_optional (demands fs) ≡ true
 
 -- a sink has taken the root of a SEQUENCE, with this extension bit; and its extension additions
-abbrev pub WritesRoot : {Sink : Type 0} → Pushing Sink → Coding → Sink → Sink → Option Bool → List Field → List (Option Value) → Type 0
+abbrev pub WritesRoot : {Sink : Type 0} → Pushing Sink → Coding → Sink → Sink → Option Bool → List Field
+    → List (Option Value) → Type 0
 WritesRoot push c old new extended fs es =
     Writes push c old new (root_code c (mark_bits extended) (fields_seen fs) (entries_seen es))
 
-abbrev pub WritesAdditions : {Sink : Type 0} → Pushing Sink → Coding → Sink → Sink → List Field → List (Option Value) → Type 0
+abbrev pub WritesAdditions : {Sink : Type 0} → Pushing Sink → Coding → Sink → Sink → List Field → List (Option Value)
+    → Type 0
 WritesAdditions push c old new fs es = Writes push c old new (additions_code c (fields_seen fs) (entries_seen es))
 
 -- ---- CHOICE
@@ -144,7 +150,8 @@ WritesRow push c old new t vs = Writes push c old new (joined (map (λ d. c.code
 
 -- What stands before the items of a list of this size and count is written, and of the list that is left to write
 -- which `rest` says, whatever its items are.
-abbrev pub StartsList : {Sink : Type 0} → Pushing Sink → Coding → SizeRange → ℕ → Sink → (List (List Chunk) → List Chunk) → Sink → Type 0
+abbrev pub StartsList : {Sink : Type 0} → Pushing Sink → Coding → SizeRange → ℕ → Sink
+    → (List (List Chunk) → List Chunk) → Sink → Type 0
 StartsList push c s count old rest new =
     (items : List (List Chunk)) → length items ≡ count → LeavesToWrite push c old (c.sized s items) new (rest items)
 

@@ -57,8 +57,8 @@ NextPart (suc n) fs Length Element come = Element come
 
 -- the same, where Element says it of the next element: of its bits that are kept, and of the nodes that have begun
 abbrev pub ItemsGoOn : {F A V : Type 0} → Coding → (F → Ahead) → (F → Type 0) → (List A → List Chunk → Type 0)
-    → (A → List Chunk → Type 0) → (List A → List Chunk → Type 0) → (V → A) → (List ℕ → List (Frame F) → List ℕ → Type 0) → Elements F V
-    → List (Frame F) → List ℕ → List ℕ → Type 0
+    → (A → List Chunk → Type 0) → (List A → List Chunk → Type 0) → (V → A)
+    → (List ℕ → List (Frame F) → List ℕ → Type 0) → Elements F V → List (Frame F) → List ℕ → List ℕ → Type 0
 ItemsGoOn c ahead between S L T seen Element q fs all units =
     GoesOn c ahead between S L T seen q (NextPart q.left fs
     (λ come. Waits c (NextOf (ahead q.fragments)) q.next_part come) (λ come. Element q.next_part fs come)) all units

@@ -109,7 +109,10 @@ impl<F: Drop> Frames<F> {
         self.stack.pop()
     }
 
-    /// Puts a node around those that have begun. An `Err` is out of memory.
+    /// Puts a node around those that have begun.
+    ///
+    /// # Errors
+    /// `AllocError` where an allocation failed.
     pub fn put(&mut self, node: Frame<F>) -> Result<(), AllocError>
         ensures { OnOk result (nodes self.new ≡ node ∷ nodes self.old) }
     {

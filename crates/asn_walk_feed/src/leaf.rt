@@ -26,6 +26,12 @@ use asn_walk::ReadLeaves;
 use std::alloc::Global;
 
 /// What a set of encoding rules gives to a reader of messages in pieces, beside its parts.
+///
+/// At `Ok` a method has taken exactly the units of what it gives.
+///
+/// # Errors
+/// `Short` where the units end before the part does, `Refused` at the first unit after which none
+/// can follow, `Memory` where an allocation failed.
 pub trait FeedLeaves: ReadLeaves {
     ghost fields: { FieldCoding };
 
@@ -123,7 +129,8 @@ pub trait FeedLeaves: ReadLeaves {
         ensures stop { IfErr result (λ why.
             StopsAt Self.rules (Fixed (Self.rules.padding value_units)) units.old why) };
 
-    /// The parts of few units are brief. The call does nothing: its clause is what proofs cite.
+    /// Of a part that a piece cuts, at most 120 bits have come while more are wanted. The call does
+    /// nothing: its clause is what proofs cite.
     fn keep_feed_laws()
         ensures { FeedLaws Self.rules };
 
@@ -148,6 +155,12 @@ pub trait FeedLeaves: ReadLeaves {
 }
 
 /// A part of few units.
+///
+/// At `Ok` a method has taken exactly the units of what it gives.
+///
+/// # Errors
+/// `Short` where the units end before the part does, `Refused` at the first unit after which none
+/// can follow, `Memory` where an allocation failed.
 pub trait Leaf<R: ReadLeaves> {
     /// What is read.
     type Out: Drop;
@@ -164,6 +177,7 @@ pub trait Leaf<R: ReadLeaves> {
     /// What else holds of what is read.
     ghost sound: { Self.Out → Type 0 };
 
+    /// Reads the part.
     fn read(&self, alloc: Global, units: &mut BitCursor<'_>) -> Result<Self::Out, Stop>
         requires good { good self.now }
         requires at_unit { R.rules.at_unit units.old }
@@ -178,7 +192,12 @@ pub trait Leaf<R: ReadLeaves> {
         ensures { IsBrief R.rules (language self.now) };
 }
 
-/// Reads a part of which these units have come. Where more are wanted, those of the piece follow them in `begun`.
+/// Reads a part of which these units have come. Where more are wanted, those of the piece follow
+/// them in `begun`. At `Ok` it has taken exactly the units of the part.
+///
+/// # Errors
+/// `Short` where the units end before the part does, `Refused` at the first unit after which none
+/// can follow, `Memory` where an allocation failed.
 pub fn feed_leaf<R: FeedLeaves, L: Leaf<R>>(
     alloc: Global,
     leaf: &L,

@@ -25,6 +25,12 @@ use asn_values::AsnType;
 use std::alloc::Global;
 
 /// What stands as octets in fragments.
+///
+/// At `Ok` a method has taken exactly the units of what it gives.
+///
+/// # Errors
+/// `Short` where the units end before the part does, `Refused` at the first unit after which none
+/// can follow, `Memory` where an allocation failed.
 pub trait InFragments<R: FeedLeaves> {
     ghost coding: { Self → OctetCoding };
 

@@ -24,10 +24,12 @@ abbrev pub WritesOpenDatum : {Sink : Type 0} → Pushing Sink → Coding → Sin
 WritesOpenDatum push c old new t d = Writes push c old new (in_open_field c (c.code (shape_of t) d))
 
 -- the octets of a complete encoding were taken, and nothing before them
-abbrev pub WritesWhole : {Sink Origin : Type 0} → Standing Sink Origin → Bool → ℕ → Coding → Sink → Sink → AsnType → Datum → Type 0
+abbrev pub WritesWhole : {Sink Origin : Type 0} → Standing Sink Origin → Bool → ℕ → Coding → Sink → Sink → AsnType
+    → Datum → Type 0
 WritesWhole {Sink} {Origin} stands wants level c old new t d =
     let octets = unpacked (c.complete (c.code (shape_of t) d)) in
-    (k : Context Origin) (coming : List ℕ) → length k.around ≡ level → (wants ≡ true → length (octets ++ coming) < 2 ^ 63)
+    (k : Context Origin) (coming : List ℕ) → length k.around ≡ level
+    → (wants ≡ true → length (octets ++ coming) < 2 ^ 63)
     → stands old k [] (octets ++ coming) → stands new k octets coming
 
 -- ---- SEQUENCE
@@ -47,11 +49,13 @@ abbrev pub sequence_of : List (Option Datum) → Datum
 sequence_of es = components (components_of es)
 
 -- a sink has taken the root of a SEQUENCE, with this extension bit; and its extension additions
-abbrev pub WritesRootOf : {Sink : Type 0} → Pushing Sink → Coding → Sink → Sink → Option Bool → List Field → List (Option Datum) → Type 0
+abbrev pub WritesRootOf : {Sink : Type 0} → Pushing Sink → Coding → Sink → Sink → Option Bool → List Field
+    → List (Option Datum) → Type 0
 WritesRootOf push c old new extended fs es =
     Writes push c old new (root_code c (mark_bits extended) (fields_seen fs) es)
 
-abbrev pub WritesAdditionsOf : {Sink : Type 0} → Pushing Sink → Coding → Sink → Sink → List Field → List (Option Datum) → Type 0
+abbrev pub WritesAdditionsOf : {Sink : Type 0} → Pushing Sink → Coding → Sink → Sink → List Field → List (Option Datum)
+    → Type 0
 WritesAdditionsOf push c old new fs es = Writes push c old new (additions_code c (fields_seen fs) es)
 
 -- ---- CHOICE

@@ -233,7 +233,7 @@ fn write_components<R: WriteLeaves, S: FieldLengths, V: Source>(
 }
 
 /// Writes extension additions, where each entry is one of its addition: nothing where none is present, and else a
-/// presence bit for each, and those that are present in open fields.
+/// presence bit for each, and those that are present in open type fields.
 #[cycle(writer)]
 fn write_additions<R: WriteLeaves, S: FieldLengths, V: Source>(
     fields: &[Field],
@@ -261,7 +261,8 @@ fn write_additions<R: WriteLeaves, S: FieldLengths, V: Source>(
     write_open_components::<R, S, V>(fields, entries, level, sink)
 }
 
-/// Writes the components that are present, each in an open field, where each entry is one of its component.
+/// Writes the components that are present, each in an open type field, where each entry is one of
+/// its component.
 #[tactic(auto, using(crate::proofs::WriteSequences::open_ends))]
 #[cycle(writer)]
 fn write_open_components<R: WriteLeaves, S: FieldLengths, V: Source>(

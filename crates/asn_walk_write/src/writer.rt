@@ -144,7 +144,7 @@ fn write_alternative<R: WriteLeaves, S: FieldLengths, V: Source>(
     write::<R, S, V>(&alternatives[index].ty, value, level, sink)
 }
 
-/// Writes a value, where it is one of the alternative at this index, in an open field.
+/// Writes a value, where it is one of the alternative at this index, in an open type field.
 #[cycle(writer)]
 fn write_added_alternative<R: WriteLeaves, S: FieldLengths, V: Source>(
     alternatives: &[Alt],

@@ -12,4 +12,5 @@ BitsStand start now w coming all = OctetsStand start now w.octets (bits w.count 
 -- the bits `new` were taken, where they were the first of those to come
 abbrev pub TakesBits : Held → BitWriter → Held → BitWriter → List ℕ → Type 0
 TakesBits old_state old new_state writer new =
-    (start : Held) (coming all : List ℕ) → BitsStand start old_state old (new ++ coming) all → BitsStand start new_state writer coming all
+    (start : Held) (coming all : List ℕ) → BitsStand start old_state old (new ++ coming) all
+    → BitsStand start new_state writer coming all

@@ -12,7 +12,8 @@ OctetsStand start now w coming all = Delivers start now w.sent w.failed (unpacke
 -- the bits `new`, whole octets, were taken, where they were the first of those to come
 abbrev pub TakesWhole : Held → OctetWriter → Held → OctetWriter → List ℕ → Type 0
 TakesWhole old_state old new_state writer new =
-    (start : Held) (coming all : List ℕ) → OctetsStand start old_state old (new ++ coming) all → OctetsStand start new_state writer coming all
+    (start : Held) (coming all : List ℕ) → OctetsStand start old_state old (new ++ coming) all
+    → OctetsStand start new_state writer coming all
 
 -- the bits `new` were taken after the low k bits of p, and then the low l bits of q wait
 abbrev pub TakesAfter : Held → OctetWriter → ℕ → ℕ → List ℕ → Held → OctetWriter → ℕ → ℕ → Type 0

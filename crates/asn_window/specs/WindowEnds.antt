@@ -15,7 +15,8 @@ start_of name state all = record { origin = record { name = name; state = state;
 -- all bits had come, and were written
 abbrev pub Finishes : {O : Type 0} → (O → Held) → Window O → Window O → Type 0
 Finishes held old new =
-    (name : GName) (state : Held) (all taken : List ℕ) → length all % 8 ≡ 0 → WindowStands held old (start_of name state all) taken []
+    (name : GName) (state : Held) (all taken : List ℕ) → length all % 8 ≡ 0
+    → WindowStands held old (start_of name state all) taken []
     → Wrote state (held new.output.now) all
 
 -- or a write failed

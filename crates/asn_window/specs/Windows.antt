@@ -13,11 +13,13 @@ is_nil [] = true
 is_nil (b ∷ bs) = false
 
 -- these bits were taken of the innermost open type field, and others are to come
-pub record WindowStands {O : Type 0} (held : O → Held) (w : Window O) (c : Context Start) (taken coming : List ℕ) : Type 0 where
+pub record WindowStands {O : Type 0} (held : O → Held) (w : Window O) (c : Context Start) (taken coming : List ℕ)
+    : Type 0 where
   -- the writer is the one of the start
   pub name : w.output.ghost_name ≡ c.origin.name
   -- what was written, what waits and what comes are all bits that the start told
-  pub come : Comes (λ b. BitsStand c.origin.state (held w.output.now) w.writer b c.origin.all) w.fragments w.depth c.around coming
+  pub come : Comes (λ b. BitsStand c.origin.state (held w.output.now) w.writer b c.origin.all) w.fragments w.depth
+      c.around coming
   pub level : w.depth ≡ length c.around
   pub phase : w.phase ≡ length taken % 8
   pub empty : w.is_empty ≡ is_nil taken

@@ -179,7 +179,8 @@ abbrev pub HoldsUnlessMemory : List ℕ → Option Object → Fault → Type 0
 HoldsUnlessMemory p new fault = ((fault ≡ done) × (held_octets new ≡ Some p)) ⊎ (fault ≡ no_memory)
 
 -- so it is of any octets by the rules b that are of one value with o by the rules a
-pub record ConvertsExactly (b : Ruling) (o : List ℕ) (new : Option Object) (a : Ruling) (t : Shape) (fault : Fault) : Type 0 where
+pub record ConvertsExactly (b : Ruling) (o : List ℕ) (new : Option Object) (a : Ruling) (t : Shape) (fault : Fault)
+    : Type 0 where
   pub given : (p : List ℕ) → Converts a b t o p → HoldsUnlessMemory p new fault
 
 -- ---- JSON

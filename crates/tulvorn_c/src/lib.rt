@@ -1,4 +1,6 @@
-//! The library for C: each export restates the clause of the call of `tulvorn` that it makes, of what handles hold.
+//! The library for C: each export restates the clause of the call of `tulvorn` that it makes, of
+//! what handles hold. What each export takes, writes and answers, code by code, stands in
+//! `bindings/c/tulvorn.h`.
 #![tactic(auto)]
 
 mod explain;

@@ -35,7 +35,8 @@ pub extern "C" fn tulvorn_version(into: &mut [u8], needed: &mut usize) -> u32
     copy(VERSION.as_bytes(), into, needed)
 }
 
-/// The number of the header.
+/// The number of the header that the library was built with, `TULVORN_INTERFACE`: a program
+/// compiled with another has to be compiled anew.
 #[unsafe(no_mangle)]
 pub extern "C" fn tulvorn_interface() -> u32
     ensures { result ≡ 1 }

@@ -1,7 +1,4 @@
 //! Refuses the type for which the profile does not take the module that was written.
-ghost use Rattle.std.specs.Prelude.{IfErr};
-ghost use Rattle.asn_published.specs.TextFaults.{IsOneOf};
-
 use crate::fault::PublishedFault;
 use crate::flattening::first_line;
 use asn_module::ModuleFault;
@@ -80,9 +77,7 @@ pub(crate) fn refuse(
     options: Options,
     refused: &mut Vec<bool>,
     fault: ModuleFault,
-) -> Result<(), PublishedFault>
-    ensures { IfErr result (IsOneOf 0) }
-{
+) -> Result<(), PublishedFault> {
     let found = match &fault {
         ModuleFault::BadType { name, .. }
         | ModuleFault::Twice { name }

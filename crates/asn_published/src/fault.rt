@@ -92,6 +92,9 @@ impl From<Refusal> for PublishedFault {
 
 impl From<Misread> for PublishedFault {
     fn from(fault: Misread) -> PublishedFault {
-        PublishedFault::of(fault.text, fault.fault)
+        match fault {
+            Misread::Text { text, line, wrong } => PublishedFault::Text { text, line, wrong },
+            Misread::Memory => PublishedFault::Memory,
+        }
     }
 }

@@ -1,4 +1,6 @@
 //! Where each assignment of a module begins and ends (X.680, "assignments").
+ghost use Rattle.std.specs.Prelude.{◌≡◌};
+
 use asn_published_text::extents::type_end;
 use asn_published_text::instructions::is_own_reference;
 use asn_published_text::modules::{Assignment, ModuleText, What};
@@ -98,7 +100,9 @@ fn after_control(
     tokens: &Tokens<'_>,
     module: &mut ModuleText<'_>,
     from: usize,
-) -> Result<usize, TextFault> {
+) -> Result<usize, TextFault>
+    ensures file { «module».new.file ≡ «module».old.file }
+{
     let reference = next(from);
     if !is_literal(tokens, reference) || tokens.is_word(reference, "END") {
         return Err(tokens.expected(reference, "an encoding reference"));
@@ -124,7 +128,9 @@ pub(crate) fn after_assignments<'t>(
     index: usize,
     assignments: &mut Vec<Assignment<'t>>,
     from: usize,
-) -> Result<usize, TextFault> {
+) -> Result<usize, TextFault>
+    ensures file { «module».new.file ≡ «module».old.file }
+{
     let mut at = from;
     for _ in 0..tokens.len() {
         if tokens.is_word(at, "END") {

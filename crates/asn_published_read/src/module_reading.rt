@@ -1,4 +1,7 @@
 //! Reads the modules of a text (X.680, "module definition"): headers, exports and imports.
+ghost use Rattle.std.specs.Prelude.{◌≡◌, ◌<◌, ◌+◌, ℕ, length, OnOk};
+ghost use Rattle.asn_published_text.specs.Modules.{StandIn};
+
 use crate::assignments::after_assignments;
 use crate::brackets::tokens_of;
 use crate::value_forms::has_components;
@@ -142,7 +145,9 @@ fn after_source_of<'t>(
     module: &mut ModuleText<'t>,
     symbols: &[&'t str],
     at: usize,
-) -> Result<usize, TextFault> {
+) -> Result<usize, TextFault>
+    ensures file { «module».new.file ≡ «module».old.file }
+{
     if !tokens.is_capital(at) {
         return Err(tokens.expected(at, "the name of a module"));
     }
@@ -176,7 +181,9 @@ fn after_imports<'t>(
     tokens: &Tokens<'t>,
     module: &mut ModuleText<'t>,
     from: usize,
-) -> Result<usize, TextFault> {
+) -> Result<usize, TextFault>
+    ensures file { «module».new.file ≡ «module».old.file }
+{
     if !tokens.is_word(from, "IMPORTS") {
         return Ok(from);
     }
@@ -200,12 +207,16 @@ fn after_imports<'t>(
     tokens.past(at, Sign::Semicolon, ";")
 }
 
-/// Takes the modules of a text.
+/// Takes the modules of a text, which is the one after those before.
 pub(crate) fn add_text<'t>(
     alloc: Global,
     world: &mut World<'t>,
     text: &'t str,
-) -> Result<(), TextFault> {
+) -> Result<(), TextFault>
+    ensures files { OnOk result (length world.new.files.items ≡ length world.old.files.items + 1) }
+    ensures modules { OnOk result (StandIn (length world.old.files.items) world.old.modules.items
+        → StandIn (length world.new.files.items) world.new.modules.items) }
+{
     let tokens = tokens_of(alloc, text)?;
     let file = world.files.len();
     if tokens.len() == 0 {
@@ -229,7 +240,11 @@ fn add_body<'t>(
     tokens: &Tokens<'t>,
     module: &mut ModuleText<'t>,
     begin: usize,
-) -> Result<usize, TextFault> {
+) -> Result<usize, TextFault>
+    ensures file { «module».new.file ≡ «module».old.file }
+    ensures files { world.new.files ≡ world.old.files }
+    ensures modules { world.new.modules ≡ world.old.modules }
+{
     let index = world.modules.len();
     let imports = after_exports(tokens, begin)?;
     let assignments = after_imports(alloc, tokens, module, imports)?;
@@ -243,7 +258,11 @@ fn add_module<'t>(
     tokens: &Tokens<'t>,
     file: usize,
     from: usize,
-) -> Result<usize, TextFault> {
+) -> Result<usize, TextFault>
+    ensures files { OnOk result (world.new.files ≡ world.old.files) }
+    ensures modules { OnOk result ((texts : ℕ) → file < texts → StandIn texts world.old.modules.items
+        → StandIn texts world.new.modules.items) }
+{
     let head = head_at(tokens, from)?;
     let name = tokens.text(from);
     let index = world.modules.len();

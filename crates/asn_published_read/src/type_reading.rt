@@ -1,7 +1,7 @@
 //! Reads types (X.680) with what they hold: tags, components, items, named numbers, parameters and constraints.
 use crate::brackets::past_comma;
 use crate::reading::{Reading, Work};
-use crate::value_forms::{after_named_number, has_named_numbers, has_tag};
+use crate::value_forms::{after_named_number, has_named_bits, has_named_numbers, has_tag};
 use crate::value_kinds::values_at;
 use asn_published_text::extents::{Rest, rest_of, type_end};
 use asn_published_text::groups::{after_version, is_group};
@@ -30,7 +30,7 @@ fn after_read_tags(tokens: &Tokens<'_>, from: usize) -> Result<usize, TextFault>
     Ok(at)
 }
 
-/// Reads named numbers or bits, where braces stand at `at`.
+/// Reads named numbers, where braces stand at `at`.
 fn read_names(tokens: &Tokens<'_>, at: usize) -> Result<(), TextFault> {
     if !tokens.is(at, Sign::LeftBrace) || has_named_numbers(tokens, at) {
         Ok(())
@@ -41,10 +41,13 @@ fn read_names(tokens: &Tokens<'_>, at: usize) -> Result<(), TextFault> {
 
 /// Reads STRING at `second`, after BIT, and named bits.
 fn read_bits(tokens: &Tokens<'_>, second: usize) -> Result<(), TextFault> {
-    if tokens.is_word(second, "STRING") {
-        read_names(tokens, next(second))
-    } else {
+    let names = next(second);
+    if !tokens.is_word(second, "STRING") {
         Err(tokens.expected(second, "STRING"))
+    } else if !tokens.is(names, Sign::LeftBrace) || has_named_bits(tokens, names) {
+        Ok(())
+    } else {
+        Err(tokens.expected(names, "named bits"))
     }
 }
 

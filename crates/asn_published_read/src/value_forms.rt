@@ -2,6 +2,7 @@
 //! "bitstring value", "restricted character string value").
 use asn_published_text::token::{Kind, Sign};
 use asn_published_text::tokens::{Tokens, next};
+use asn_published_text::value_steps::after_signed_number;
 
 /// The index after a name of a value at `at`, as `name` or `Module.name`; `None` where there is none.
 fn after_name(tokens: &Tokens<'_>, at: usize) -> Option<usize> {
@@ -23,6 +24,14 @@ fn after_number(tokens: &Tokens<'_>, at: usize) -> Option<usize> {
         Some(next(at))
     } else {
         after_name(tokens, at)
+    }
+}
+
+/// The index after a number, one with a minus too, or the name of one, at `at`; `None` where there is none.
+fn after_signed(tokens: &Tokens<'_>, at: usize) -> Option<usize> {
+    match after_signed_number(tokens, at) {
+        Some(behind) => Some(behind),
+        None => after_name(tokens, at),
     }
 }
 
@@ -66,8 +75,10 @@ enum Part {
     Name,
     /// A part of a text.
     Text,
-    /// A named number or bit.
-    Named,
+    /// A named number.
+    Number,
+    /// A named bit, whose number has no minus.
+    Bit,
 }
 
 /// The index after a part of a list at `at`; `None` where there is none.
@@ -76,7 +87,8 @@ fn after_one(tokens: &Tokens<'_>, at: usize, part: Part) -> Option<usize> {
         Part::Name if tokens.is_identifier(at) => Some(next(at)),
         Part::Name => None,
         Part::Text => after_part(tokens, at),
-        Part::Named => after_named_number(tokens, at),
+        Part::Number => after_named_number(tokens, at),
+        Part::Bit => after_named_bit(tokens, at),
     }
 }
 
@@ -149,19 +161,11 @@ pub(crate) fn has_characters(tokens: &Tokens<'_>, braces: usize) -> bool {
 
 /// The index after the name of a part of a REAL and its number at `at`; `None` where they do not stand there.
 fn after_part_of_real(tokens: &Tokens<'_>, at: usize, name: &str) -> Option<usize> {
-    let number = next(at);
-    let digits = if tokens.is(number, Sign::Minus) {
-        next(number)
+    if tokens.is_word(at, name) {
+        after_signed(tokens, next(at))
     } else {
-        number
-    };
-    if !tokens.is_word(at, name) {
-        return None;
+        None
     }
-    if tokens.is_kind(digits, Kind::Number) {
-        return Some(next(digits));
-    }
-    after_name(tokens, number)
 }
 
 /// Whether the mantissa, the base and the exponent of a REAL stand in the braces at `braces`.
@@ -181,29 +185,45 @@ pub(crate) fn has_parts_of_real(tokens: &Tokens<'_>, braces: usize) -> bool {
     false
 }
 
-/// The index after a named number or bit at `at`, as `name(5)`; `None` where there is none.
+/// The index after a named number at `at`, as `name(5)` and `name(-5)`; `None` where there is none.
 pub(crate) fn after_named_number(tokens: &Tokens<'_>, at: usize) -> Option<usize> {
+    let inside = inside_of_named(tokens, at)?;
+    after_closing(tokens, at, after_signed(tokens, inside)?)
+}
+
+/// The index after a named bit at `at`, as `name(5)`; `None` where there is none.
+fn after_named_bit(tokens: &Tokens<'_>, at: usize) -> Option<usize> {
+    let inside = inside_of_named(tokens, at)?;
+    after_closing(tokens, at, after_number(tokens, inside)?)
+}
+
+/// The index after an identifier at `at` and a parenthesis; `None` where they do not stand there.
+fn inside_of_named(tokens: &Tokens<'_>, at: usize) -> Option<usize> {
     let open = next(at);
-    let first = next(open);
-    let digits = if tokens.is(first, Sign::Minus) {
-        next(first)
+    if tokens.is_identifier(at) && tokens.is(open, Sign::LeftParen) {
+        Some(next(open))
     } else {
-        first
-    };
-    if !tokens.is_identifier(at) || !tokens.is(open, Sign::LeftParen) {
-        return None;
+        None
     }
-    let close = tokens.other(open);
-    if after_number(tokens, digits)? == close {
+}
+
+/// The index after the parenthesis that closes the one after `at`; `None` where another index than `close` has it.
+fn after_closing(tokens: &Tokens<'_>, at: usize, close: usize) -> Option<usize> {
+    if tokens.other(next(at)) == close {
         Some(next(close))
     } else {
         None
     }
 }
 
-/// Whether named numbers or bits, with commas between them, stand in the braces at `braces`.
+/// Whether named numbers, with commas between them, stand in the braces at `braces`.
 pub(crate) fn has_named_numbers(tokens: &Tokens<'_>, braces: usize) -> bool {
-    has_parts(tokens, braces, Part::Named)
+    has_parts(tokens, braces, Part::Number)
+}
+
+/// Whether named bits, with commas between them, stand in the braces at `braces`.
+pub(crate) fn has_named_bits(tokens: &Tokens<'_>, braces: usize) -> bool {
+    has_parts(tokens, braces, Part::Bit)
 }
 
 /// Whether a tag stands in the brackets at `at`, as `[APPLICATION 5]`, or they begin an encoding prefix.

@@ -1,4 +1,6 @@
 //! Value sets as types (X.680, "value set type assignment"): the type before `::=`, with the set as its constraint.
+ghost use Rattle.std.specs.Prelude.{◌≡◌};
+
 use asn_published_text::class_fields::is_class_field;
 use asn_published_text::extents::{Rest, after_tags, rest_of};
 use asn_published_text::modules::{What, World};
@@ -8,7 +10,10 @@ use asn_published_text::words::is_type_word;
 const MOST_LEADS: u32 = 32;
 
 /// Takes each assignment of a name that leads to a class for one of a class.
-pub(crate) fn take_class_names(world: &mut World<'_>) {
+pub(crate) fn take_class_names(world: &mut World<'_>)
+    ensures files { world.new.files ≡ world.old.files }
+    ensures modules { world.new.modules ≡ world.old.modules }
+{
     for index in 0..world.assignments.len() {
         let Some(it) = world.assignment(index) else {
             break;
@@ -24,7 +29,10 @@ pub(crate) fn take_class_names(world: &mut World<'_>) {
 
 /// Takes each set of values for the type that it is, whose lexical items are those from its governor on: the set
 /// stands where constraints do.
-pub(crate) fn take_value_sets(world: &mut World<'_>) {
+pub(crate) fn take_value_sets(world: &mut World<'_>)
+    ensures files { world.new.files ≡ world.old.files }
+    ensures modules { world.new.modules ≡ world.old.modules }
+{
     for index in 0..world.assignments.len() {
         let Some(set) = world.assignment(index) else {
             break;

@@ -1,4 +1,7 @@
 //! What a name stands for in a module: an assignment there, or of the module that it is imported from.
+ghost use Rattle.std.specs.Prelude.{◌<◌, ℕ};
+ghost use Rattle.asn_published_text.specs.Modules.{StandIn};
+
 use crate::modules::{Assignment, What, World};
 use crate::refusal::Why;
 use crate::token::Sign;
@@ -74,7 +77,9 @@ impl<'t> World<'t> {
     }
 
     /// Which text has an assignment, from 0.
-    pub fn text_of(&self, assignment: usize) -> usize {
+    pub fn text_of(&self, assignment: usize) -> usize
+        ensures { (texts : ℕ) → 0 < texts → StandIn texts self.now.modules.items → result < texts }
+    {
         match self.assignment(assignment) {
             Some(it) => match self.modules.get(it.module) {
                 Some(module) => module.file,

@@ -1,4 +1,6 @@
 //! The modules of published texts: their assignments, and what they import.
+ghost use Rattle.std.specs.Prelude.{◌≡◌, []};
+
 use crate::classes::Classes;
 use crate::tokens::Tokens;
 use std::alloc::Global;
@@ -63,7 +65,10 @@ pub struct World<'t> {
 
 impl<'t> World<'t> {
     /// No module.
-    pub fn new(alloc: Global) -> Self {
+    pub fn new(alloc: Global) -> Self
+        ensures files { result.files.items ≡ [] }
+        ensures modules { result.modules.items ≡ [] }
+    {
         World {
             files: Vec::new(alloc),
             modules: Vec::new(alloc),
@@ -74,7 +79,10 @@ impl<'t> World<'t> {
     }
 
     /// Takes the classes that the assignments define.
-    pub fn take_classes(&mut self, classes: Classes<'t>) {
+    pub fn take_classes(&mut self, classes: Classes<'t>)
+        ensures files { self.new.files ≡ self.old.files }
+        ensures modules { self.new.modules ≡ self.old.modules }
+    {
         self.classes = classes;
     }
 }

@@ -9,9 +9,9 @@ use crate::wrong::TextFault;
 pub enum Start {
     Truth,
     Null,
-    /// Digits, with or without a minus.
+    /// A number, or a minus and a number that is not 0.
     Number,
-    /// A number with a fraction or an exponent, an infinity, or NOT-A-NUMBER.
+    /// A number with a fraction or an exponent, -0, an infinity, or NOT-A-NUMBER.
     Real,
     /// Bits or octets in quotes.
     Quoted,
@@ -116,16 +116,33 @@ fn capital_at(tokens: &Tokens<'_>, at: usize) -> Result<Step, TextFault> {
     }
 }
 
+/// The index after a number at `at`, or a minus and a number that is not 0 (X.680, "SignedNumber"); `None` where neither
+/// stands there.
+pub fn after_signed_number(tokens: &Tokens<'_>, at: usize) -> Option<usize> {
+    if tokens.is_kind(at, Kind::Number) {
+        return Some(next(at));
+    }
+    let digits = next(at);
+    if tokens.is(at, Sign::Minus)
+        && tokens.is_kind(digits, Kind::Number)
+        && tokens.text(digits) != "0"
+    {
+        Some(next(digits))
+    } else {
+        None
+    }
+}
+
 /// The value that is a number, a text or digits in quotes at `at`.
 fn written_at(tokens: &Tokens<'_>, at: usize) -> Result<Step, TextFault> {
-    let digits = if tokens.is(at, Sign::Minus) {
-        next(at)
-    } else {
-        at
-    };
-    let start = if tokens.is_kind(digits, Kind::Number) {
-        Start::Number
-    } else if tokens.is_kind(digits, Kind::Real) {
+    if let Some(behind) = after_signed_number(tokens, at) {
+        return Ok(whole(Start::Number, behind));
+    }
+    let is_minus = tokens.is(at, Sign::Minus);
+    let digits = if is_minus { next(at) } else { at };
+    // (the number 0 after a minus)
+    let is_zero = is_minus && tokens.is_kind(digits, Kind::Number);
+    let start = if is_zero || tokens.is_kind(digits, Kind::Real) {
         Start::Real
     } else if tokens.is_kind(at, Kind::Text) {
         Start::Text

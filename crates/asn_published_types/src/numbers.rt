@@ -8,6 +8,7 @@ use asn_published_text::modules::{What, World};
 use asn_published_text::refusal::{Refusal, Why, refused};
 use asn_published_text::token::{Kind, Sign};
 use asn_published_text::tokens::{Tokens, next};
+use asn_published_text::value_steps::after_signed_number;
 use std::alloc::Global;
 
 /// The number that digits write, up to 30 of them.
@@ -23,15 +24,13 @@ fn number_of(digits: &str) -> Option<i128> {
 
 /// The number that is written at `at`, with or without a minus, and the index after it.
 fn written_number(tokens: &Tokens<'_>, at: usize) -> Option<(i128, usize)> {
-    if tokens.is(at, Sign::Minus) && tokens.is_kind(next(at), Kind::Number) {
+    let behind = after_signed_number(tokens, at)?;
+    if tokens.is(at, Sign::Minus) {
         let number = number_of(tokens.text(next(at)))?;
-        return Some((number.checked_neg()?, next(next(at))));
+        Some((number.checked_neg()?, behind))
+    } else {
+        Some((number_of(tokens.text(at))?, behind))
     }
-    if tokens.is_kind(at, Kind::Number) {
-        let number = number_of(tokens.text(at))?;
-        return Some((number, next(at)));
-    }
-    None
 }
 
 /// What is known of the number of a value assignment.
@@ -334,6 +333,10 @@ impl<'a, 't> Values<'a, 't> {
             return Ok(found);
         }
         let line = tokens.line(at);
+        if tokens.is(at, Sign::Minus) {
+            // (0 stands after it, or no number)
+            return Err(refused(line, Why::Value));
+        }
         let name = tokens.text(at);
         match self.parameter(scope, name) {
             Ok(Some(number)) => return Ok((number, next(at))),

@@ -8,17 +8,17 @@ use Rattle.asn_values.specs.View.{label_of}
 use Rattle.asn_view.specs.Names.{index_of, item_names}
 use Rattle.asn_module.specs.Meaning.{item_named}
 
--- the item of the profile at that index
+-- the item at that index, none past 32 bits
 abbrev pub item_if : Option ℕ → Datum
 item_if None = datum.nothing
-item_if (Some p) = if nat_lt p 256 then datum.item p else datum.nothing
+item_if (Some p) = if nat_lt p 4294967296 then datum.item p else datum.nothing
 
 moved : (k : ℕ) (o : Option ℕ) → option_map (λ p. suc k + p) o ≡ option_map (λ p. k + p) (option_map suc o)
 moved k None = refl
 moved k (Some p) = ap Some (omega arith)
 
 here_or_later : (b : Bool) (k : ℕ) (o : Option ℕ) (later : Datum) → later ≡ item_if (option_map (λ p. suc k + p) o) →
-    (if b then (if nat_lt k 256 then datum.item k else datum.nothing) else later) ≡ item_if (option_map (λ p. k + p) (if b then Some 0 else option_map suc o))
+    (if b then (if nat_lt k 4294967296 then datum.item k else datum.nothing) else later) ≡ item_if (option_map (λ p. k + p) (if b then Some 0 else option_map suc o))
 here_or_later true k o later h =
     let same : k ≡ k + 0 = omega arith in
     ap (λ p. item_if (Some p)) same

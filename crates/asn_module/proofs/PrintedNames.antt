@@ -197,7 +197,7 @@ item_found : (p i k : ℕ) (ls : List Label) → has_twice bytes_eq (map (λ l. 
 item_found p i k [] twice less e few = absurd (omega arith)
 item_found zero i k (l ∷ ls) twice less e few = rw (bytes_same l.name, small i (omega arith)) (ap datum.item (omega arith))
   where
-    small : (i : ℕ) → i < 256 → nat_lt i 256 ≡ true
+    small : (i : ℕ) → i < 256 → nat_lt i 4294967296 ≡ true
     small i h = grind (arith, nat_tests)
 item_found (suc p) i k (l ∷ ls) twice less e few =
     let other = none_there (bytes_eq l.name) p ls (omega arith) (left_false (list_any (bytes_eq l.name) (map (λ l. l.name) ls)) (has_twice bytes_eq (map (λ l. l.name) ls)) twice) in

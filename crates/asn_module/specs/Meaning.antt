@@ -4,7 +4,6 @@ use Rattle.std.specs.Prelude.{Option, Some, None, bytes_eq, nat_lt, if◌then◌
 use Rattle.std.specs.List.{list_any}
 use Rattle.asn_values.specs.Datum as datum
 use Rattle.asn_values.specs.Datum.{Datum}
-use Rattle.asn_values.specs.Profile.{most_items}
 use Rattle.asn_values.specs.Shape as s
 use Rattle.asn_values.specs.Shape.{Shape, Range, SizeRange, Alphabet, Label, MoreLabels, Demand, Fields, MoreFields}
 use Rattle.asn_values.specs.Shape.{Alternatives, MoreAlternatives}
@@ -94,11 +93,11 @@ enumerated_meant root more = free (enumerated_shape (has_numbers root more) root
 -- ---- DEFAULT
 
 -- the first item with this name, its index counted from `index`; where there is none, no value of the type, and none
--- either past the items that the profile allows
+-- either past 32 bits
 abbrev pub item_named : List ℕ → ℕ → List Label → Datum
 item_named name index [] = datum.nothing
 item_named name index (l ∷ ls) =
-    if bytes_eq l.name name then (if nat_lt index most_items then datum.item index else datum.nothing)
+    if bytes_eq l.name name then (if nat_lt index 4294967296 then datum.item index else datum.nothing)
     else item_named name (suc index) ls
 
 -- of the items before the extension mark: an ENUMERATED with the mark has no DEFAULT in the profile

@@ -1,24 +1,26 @@
 //! Which fault a refused text is told to have. No contract rests on what is answered here.
 
-use crate::expanding::{Assignments, expand};
+use crate::expanding::expand;
 use crate::fault::ModuleFault;
 use crate::graph::{first_on_cycle, indices_of, order_of, references_of};
 use crate::heads::{Head, heads_of, may_stand};
+use crate::left_out::{Assignments, items_for_defaults};
 use crate::listing::{Listed, assignments_listed, first_twice, first_unknown};
 use crate::shallow::without_deep_types;
+use crate::zero_width::{Followed, levels_inside};
 use asn_notation::{Lexeme, ModuleNotation, SyntaxFault, first_token, read_notation, skip_blank};
 use asn_values::profile::{MAX_LEVELS, MAX_TYPES};
 use asn_values::{Checked, TypeFault};
 use std::alloc::Global;
 use std::collections::HashMap;
 
-/// Of a type at most this many levels are built, one more than the profile has.
+/// A type at this level has a fault, whatever it is. Those inside it are not looked at.
 const LEVELS: u32 = MAX_LEVELS + 1;
 
-/// And at most this many types inside one another, one more than the profile has.
+/// At most this many types inside one another are built, one more than the profile has.
 const NODES: u32 = MAX_TYPES + 1;
 
-/// The types inside those are read where no others are inside them, and else left out.
+/// So the types at the next level are read where no others are inside them, and else left out.
 const READ_LEVELS: u32 = LEVELS + 1;
 
 /// Where the first character stands that begins no token.
@@ -128,12 +130,21 @@ fn first_misplaced<'t>(
 
 /// The first assignment whose type is none of the profile, and the fault of its type.
 fn first_bad_type<'m, 't, 'n>(
-    module: Assignments<'m, 't, 'n>,
+    alloc: Global,
+    followed: Followed<'m, 't, 'n>,
+    order: &[usize],
 ) -> Result<Option<ModuleFault>, ModuleFault> {
-    let alloc = module.alloc;
-    for assignment in module.all {
+    let inside = levels_inside(alloc, followed, order)?;
+    let items = items_for_defaults(alloc, followed)?;
+    let module = Assignments {
+        alloc,
+        followed,
+        inside: &inside,
+        items: &items,
+    };
+    for assignment in followed.all {
         let mut nodes = NODES;
-        let ty = expand(module, &assignment.ty, LEVELS, &mut nodes)?;
+        let ty = expand(module, &assignment.ty, MAX_LEVELS, &mut nodes)?;
         match Checked::new(alloc, ty) {
             Ok(_) => {}
             Err(TypeFault::Memory) => return Err(ModuleFault::Memory),
@@ -165,13 +176,12 @@ fn fault_of_names<'t, 'n>(
             at: text.len().saturating_sub(left),
         });
     }
-    let module = Assignments {
-        alloc,
+    let followed = Followed {
         all: notation.assignments.as_slice(),
         indices: &indices,
         heads: heads.as_slice(),
     };
-    match first_bad_type(module)? {
+    match first_bad_type(alloc, followed, &order)? {
         Some(fault) => Ok(fault),
         None => Err(ModuleFault::Memory),
     }

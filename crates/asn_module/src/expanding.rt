@@ -1,21 +1,12 @@
 //! Types of refused modules, built whether they are of the profile or not, to find the fault that they have.
 
 use crate::fault::Refusal;
-use crate::heads::{Head, head_of, with_bounds};
+use crate::heads::{head_of, with_bounds};
+use crate::left_out::{Assignments, field_left_out, type_left_out};
 use crate::simple::{enumerated, integer, list, need, string};
-use asn_notation::{AlternativeNotation, AssignmentNotation, ComponentNotation, TypeNotation};
+use asn_notation::{AlternativeNotation, ComponentNotation, ItemNotation, TypeNotation};
+use asn_values::profile::MAX_ITEMS;
 use asn_values::{Alt, AsnType, Field};
-use std::alloc::Global;
-use std::collections::HashMap;
-
-/// The assignments of a module, the index and the head of each, and where memory comes from.
-#[derive(Clone, Copy)]
-pub(crate) struct Assignments<'m, 't, 'n> {
-    pub alloc: Global,
-    pub all: &'m [AssignmentNotation<'n>],
-    pub indices: &'m HashMap<&'t str, usize>,
-    pub heads: &'m [Head],
-}
 
 #[cycle(expanding)]
 fn expand_fields<'m, 't, 'n>(
@@ -27,9 +18,14 @@ fn expand_fields<'m, 't, 'n>(
     let mut fields = Vec::new(module.alloc);
     for component in components {
         let name = String::from_str(module.alloc, component.name)?;
-        let ty = expand(module, &component.ty, levels, nodes)?;
-        let need = need(&ty, &component.need);
-        fields.push(Field { name, ty, need })?;
+        if levels == 0 || *nodes == 0 {
+            *nodes = 0;
+            fields.push(field_left_out(module, name, component, levels))?;
+        } else {
+            let ty = expand(module, &component.ty, levels, nodes)?;
+            let need = need(&ty, &component.need);
+            fields.push(Field { name, ty, need })?;
+        }
     }
     Ok(fields)
 }
@@ -50,6 +46,15 @@ fn expand_alternatives<'m, 't, 'n>(
     Ok(expanded)
 }
 
+/// Whether one of the two lists has more items than an ENUMERATED of the profile.
+fn are_too_many(root: &[ItemNotation], more: &Option<Vec<ItemNotation>>) -> bool {
+    root.len() > MAX_ITEMS
+        || match more {
+            None => false,
+            Some(more) => more.len() > MAX_ITEMS,
+        }
+}
+
 /// A type that is no reference, with the types inside it.
 #[cycle(expanding)]
 fn expand_here<'m, 't, 'n>(
@@ -64,7 +69,12 @@ fn expand_here<'m, 't, 'n>(
         TypeNotation::Null => Ok(AsnType::Null),
         TypeNotation::Utf8 => Ok(AsnType::Utf8),
         TypeNotation::Integer(range) => Ok(integer(*range).ty),
-        TypeNotation::Enumerated { root, more } => Ok(enumerated(alloc, root, more)?.ty),
+        TypeNotation::Enumerated { root, more } => {
+            if are_too_many(root, more) {
+                *nodes = 0;
+            }
+            Ok(enumerated(alloc, root, more)?.ty)
+        }
         TypeNotation::Text(kind, size) => Ok(string(*kind, *size).ty),
         TypeNotation::Sequence { root, more } => {
             let root = expand_fields(module, root, levels, nodes)?;
@@ -90,8 +100,9 @@ fn expand_here<'m, 't, 'n>(
     }
 }
 
-/// A type with all references followed. What lies below `levels` levels, or past `nodes` types, is left out: a NULL
-/// stands for it.
+/// A type with all references followed, as far as the search for its first fault goes, from the outside in and from
+/// left to right: that ends below `levels` levels, past `nodes` types, and at an ENUMERATED of too many items.
+/// Something simpler stands for each type after that, with which those that it lies in have the same faults.
 #[cycle(expanding)]
 pub(crate) fn expand<'m, 't, 'n>(
     module: Assignments<'m, 't, 'n>,
@@ -100,12 +111,14 @@ pub(crate) fn expand<'m, 't, 'n>(
     nodes: &mut u32,
 ) -> Result<AsnType, Refusal> {
     if levels == 0 || *nodes == 0 {
-        return Ok(AsnType::Null);
+        *nodes = 0;
+        return Ok(type_left_out(module, ty, levels));
     }
     *nodes -= 1;
-    match head_of(module.heads, module.indices, ty) {
-        Some(head) if head.end < module.all.len() => {
-            let ty = expand_here(module, &module.all[head.end].ty, levels - 1, nodes)?;
+    let followed = module.followed;
+    match head_of(followed.heads, followed.indices, ty) {
+        Some(head) if head.end < followed.all.len() => {
+            let ty = expand_here(module, &followed.all[head.end].ty, levels - 1, nodes)?;
             Ok(with_bounds(ty, head.met))
         }
         _ => expand_here(module, ty, levels - 1, nodes),

@@ -7,7 +7,6 @@ ghost use Rattle.asn_notation.specs.Tree.{item_view, items_view};
 ghost use Rattle.asn_module.specs.Meaning as spec;
 
 use asn_notation::ItemNotation;
-use asn_values::profile::MAX_ITEMS;
 use asn_values::{AsnType, Item, Value};
 use asn_view::item_index;
 use std::alloc::{AllocError, Global};
@@ -71,13 +70,10 @@ fn item_named(items: &[Item], name: &str) -> Value
     ensures { datum_of result ≡ spec.item_named name.now 0 (map label_of items.now) }
 {
     match item_index(items, &None, name) {
-        Some(index) => {
-            if index < MAX_ITEMS {
-                Value::Enum(index as u32)
-            } else {
-                Value::Null
-            }
-        }
+        Some(index) => match u32::try_from(index) {
+            Ok(index) => Value::Enum(index),
+            Err(_) => Value::Null,
+        },
         None => Value::Null,
     }
 }

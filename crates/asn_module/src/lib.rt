@@ -16,6 +16,7 @@ mod heads;
 mod indexing;
 mod items;
 mod known;
+mod left_out;
 mod listing;
 mod measuring;
 mod module;
@@ -29,6 +30,7 @@ mod simple;
 mod table;
 mod type_names;
 mod uses;
+mod zero_width;
 
 pub use explaining::explain;
 pub use fault::{BoundFault, ModuleFault};

@@ -36,7 +36,7 @@ What a refusal means, of which --explain tells more on standard error:
     length              no length or count begins so, or a shorter form of it is wanted
     extension           an extension bit, a count of additions, or their presence bits (all 0, say), that no encoding has
     character           no character of the string type
-    padding             the bits that fill up an octet are not all 0, or (OER) the octet that says how many are unused is wrong
+    padding             the bits that fill up an octet are not all 0, or (OER) the count of unused bits is wrong
     number              no number or item of the type begins so, or a shorter form of it is wanted
   ! over budget: ..     the value of the message takes more than --budget allows
   ! module ..           the text is no module of the profile; at N: after N octets
@@ -101,8 +101,8 @@ itself, for each component, absent or not, each element and the alternative, and
 bit of a string. What it takes is counted without building it, and told. A line that is no encoding is read as without.
 
 Exit status: 0 if each message was shown; 1 if at least one was refused; 2 if the module was refused or has no type of
-the name, which the only line of output tells, and with --module standard error in its place; 3 if reading, writing or
-memory failed.
+the name, which the only line of output tells, but of a refused module that --module names standard error alone; 3 if
+reading, writing or memory failed.
 
 Example:
   printf '%s\\n' 'M DEFINITIONS AUTOMATIC TAGS ::= BEGIN' 'T ::= SEQUENCE { id INTEGER (0..7) }' END ==== a0 |
@@ -128,8 +128,8 @@ itself, for each component, absent or not, each element and the alternative, and
 bit of a string. What it takes is counted without building it, and told. A line that is no encoding is read as without.
 
 Exit status: 0 if each line is a message; 1 if at least one was refused; 2 if the module was refused or has no type of
-the name, which the only line of output tells, and with --module standard error in its place; 3 if reading, writing or
-memory failed.
+the name, which the only line of output tells, but of a refused module that --module names standard error alone; 3 if
+reading, writing or memory failed.
 
 Example:
   printf '%s\\n' 'M DEFINITIONS AUTOMATIC TAGS ::= BEGIN' 'T ::= INTEGER (0..7)' END ==== a0 a1 |
@@ -150,8 +150,8 @@ Out: for each value its octets in hexadecimal, or a line that begins with ! and 
 `asn_tool --help` says what each refusal means; with --explain standard error has a line more for each.
 
 Exit status: 0 if each value was encoded; 1 if at least one was refused; 2 if the module was refused or has no type of
-the name, which the only line of output tells, and with --module standard error in its place; 3 if reading, writing or
-memory failed.
+the name, which the only line of output tells, but of a refused module that --module names standard error alone; 3 if
+reading, writing or memory failed.
 
 Example:
   printf '%s\\n' 'M DEFINITIONS AUTOMATIC TAGS ::= BEGIN' 'T ::= SEQUENCE { id INTEGER (0..7) }' END ==== '{\"id\":5}' |
@@ -178,8 +178,8 @@ itself, for each component, absent or not, each element and the alternative, and
 bit of a string. What it takes is counted without building it, and told. A line that is no encoding is read as without.
 
 Exit status: 0 if each message was converted; 1 if at least one was refused; 2 if the module was refused or has no type
-of the name, which the only line of output tells, and with --module standard error in its place; 3 if reading, writing
-or memory failed.
+of the name, which the only line of output tells, but of a refused module that --module names standard error alone; 3 if
+reading, writing or memory failed.
 
 Example:
   printf '%s\\n' 'M DEFINITIONS AUTOMATIC TAGS ::= BEGIN' 'T ::= SEQUENCE { id INTEGER (0..7) }' END ==== a0 |
@@ -200,8 +200,8 @@ that begins with ! and tells why it is refused.
 `asn_tool --help` says what each refusal means; with --explain standard error has a line more for each.
 
 Exit status: 0 if each message was shown; 1 if at least one was refused; 2 if the module was refused or has no type of
-the name, which the only line of output tells, and with --module standard error in its place; 3 if reading, writing or
-memory failed.
+the name, which the only line of output tells, but of a refused module that --module names standard error alone; 3 if
+reading, writing or memory failed.
 
 Example:
   printf '%s\\n' 'M DEFINITIONS AUTOMATIC TAGS ::= BEGIN' 'T ::= SEQUENCE { a BOOLEAN, ... }' END ==== c04041c0 |

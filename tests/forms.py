@@ -168,6 +168,9 @@ def objects(count, program, room):
         count.add(ran == (0, wanted, b""), f"newer --json {way}: {ran}")
     no_object = "an object with the members value and skipped is wanted, as newer --json writes it"
     lost = "the type does not have what was skipped there, and it would be lost"
+    of_path = '{"value":{"z":5},"skipped":[{"path":"%s"},{"path":"$"}]}'
+    # in none of these a second line may come of the first
+    no_paths = "$\\nok 1", "$\\n", "$.a\\r", "$.a b", "$.a\\u0000", "$.\u00e4", "$.a_b", ".a", "a$", "", "\\n$"
     given, answers, told = wanted, [], []
     for at, (line, answer, words_told) in enumerate((
         (None, "! skipped $.a", lost),
@@ -177,6 +180,8 @@ def objects(count, program, room):
         ("{", "! json", "the line is no JSON"),
         ('{"value":{"z":5}}', "! shape $.skipped", no_object),
         ('{"value":{"z":5},"skipped":[7]}', "! shape $.skipped[0].path", no_object),
+        (of_path % "$.list[3].x-9.b", "! skipped $.list[3].x-9.b", lost),
+        *((of_path % path, "! shape $.skipped[0].path", no_object) for path in no_paths),
         ('{"value":{"z":9,"a":{"x":true}},"skipped":[]}', "! not of type", "in $.z, INTEGER (0..7): 9 is not in 0..7"),
     ), 1):
         given += b"" if line is None else line.encode() + b"\n"

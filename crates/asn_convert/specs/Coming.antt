@@ -63,7 +63,7 @@ abbrev pub StopsWithin : RunFault → (List ℕ → List ℕ → Type 0) → Sta
 StopsWithin why Kind from after old new =
     (lines : List ℕ) × Consumes from.octets after.octets lines × StopsBy why (Kind lines) from after old new
 
--- with Ok, all was read, and what was written is what belongs to the answer
+-- with Ok, what was written is what belongs to the answer, for the octets that the reader was to give
 abbrev pub Ended :
     {A R W : Type 0} → Result A RunFault → Known R → Counted R → Known W → Counted W → Counted W
     → (A → List ℕ → List ℕ → Type 0) → Type 0

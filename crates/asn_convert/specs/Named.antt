@@ -29,7 +29,7 @@ abbrev pub rules_of : Job → RuleName
 rules_of job.Module = rule_name.Per
 rules_of (job.Lines by name rules) = rules
 
--- what is told of a run: with Ok, all was read, and the text of the job for it was written
+-- what is told of a run: with Ok, the text of the job was written, for the octets that the reader was to give
 abbrev pub Ran :
     {R W : Type 0} → Job → Result Status RunFault → Known R → Counted R → Known W → Counted W → Counted W → Type 0
 Ran j r left reader contents old new = RanWith (rulings_of (rules_of j)) j r left reader contents old new
@@ -41,7 +41,7 @@ abbrev pub Failed :
 Failed j r left before after contents old new =
     FailedWith (rulings_of (rules_of j)) j r left before after contents old new
 
--- the same of a run whose module stands in front of a mark, and whose lines come after it: with Ok, all was read
+-- the same of a run whose module stands in front of a mark, and whose lines are what the reader was to give
 abbrev pub RanOnLines :
     {R W : Type 0} → Job → List ℕ → Result Status RunFault → Known R → Counted R
     → Known W → Counted W → Counted W → Type 0

@@ -73,7 +73,7 @@ LineHasAnswer a b l name by t line = HasAnswer (terms_of a b l name by t) line
 
 -- ---- a run
 
--- with Ok, all was read and the text of the job for it was written
+-- with Ok, the text of the job was written, for the octets that the reader was to give
 abbrev pub RanWith :
     {R W : Type 0} → Rulings → Job → Result Status RunFault → Known R → Counted R
     → Known W → Counted W → Counted W → Type 0

@@ -1,3 +1,4 @@
 pub mod Budgets
 pub mod Feeding
 pub mod Laid
+pub mod Refusals

@@ -3,4 +3,5 @@ pub mod Fronts
 pub mod Laying
 pub mod Looking
 pub mod Named
+pub mod Refusals
 pub mod Streams

@@ -81,7 +81,7 @@ fn why_no_message(
         RuleName::Oer => explain::<Oer>(alloc, ty, octets)?,
     };
     match told {
-        Some(explanation) => words_of(alloc, ty, &explanation),
+        Some(explanation) => words_of(alloc, ty, rules, &explanation),
         None => String::from_str(alloc, TOO_LONG),
     }
 }
@@ -104,13 +104,18 @@ fn why_not_newer<R: ReadNewer>(
 }
 
 /// An explanation in words.
-fn words_of(alloc: Global, ty: &Checked, explanation: &Explanation) -> Result<String, AllocError> {
+fn words_of(
+    alloc: Global,
+    ty: &Checked,
+    rules: RuleName,
+    explanation: &Explanation,
+) -> Result<String, AllocError> {
     if let DecodeFault::Rest { used } = explanation.fault {
         return format!(in alloc; "the message ends after {used} octets, and more octets follow it");
     }
     let place = place_words(alloc, ty, explanation.path.as_str())?;
     let reason = match explanation.fault {
-        DecodeFault::Refused { why, .. } => reason_words(why),
+        DecodeFault::Refused { why, .. } => reason_words(rules, why),
         DecodeFault::Truncated { .. } => "more octets are wanted",
         _ => TOO_LONG,
     };
@@ -128,15 +133,22 @@ fn place_words(alloc: Global, ty: &Checked, path: &str) -> Result<String, AllocE
     }
 }
 
-/// What the word for the reason of a refusal means.
-fn reason_words(why: Why) -> &'static str {
+/// What the word for the reason of a refusal means under these rules.
+fn reason_words(rules: RuleName, why: Why) -> &'static str {
     match why {
         Why::Sealed => "what is inside the field is no encoding of its type",
         Why::Default => "the DEFAULT is written out, and the canonical encoding leaves it out",
         Why::Length => "no length of the type begins so, or it is not written as shortly as can be",
-        Why::Extension => "an extension bit, or a count of additions, that no encoding has",
+        Why::Extension => {
+            "an extension bit, a count of additions, or their presence bits (all 0, say), that no encoding has"
+        }
         Why::Character => "no character of the string type",
-        Why::Padding => "the bits that fill up an octet are not all 0",
+        Why::Padding => match rules {
+            RuleName::Per => "the bits that fill up an octet are not all 0",
+            RuleName::Oer => {
+                "the bits that fill up an octet are not all 0, or the octet that says how many are unused is wrong"
+            }
+        },
         Why::Number => "no number of the type begins so, or it is not written as shortly as can be",
     }
 }

@@ -1,4 +1,7 @@
 //! Messages of other versions of a type as JSON, with the fields that are skipped in them, and back.
+ghost use Rattle.std.specs.Prelude.{◌≡◌, IfOk, IsTrue};
+ghost use Rattle.std.specs.List.{list_all};
+ghost use Rattle.asn_look.specs.Refusals.{is_of_path, is_path, IsOneLine, RefusesInOneLine};
 
 use crate::laying::value_text;
 use crate::paths::path_text;
@@ -108,7 +111,9 @@ pub enum TakenBack {
 ///
 /// # Errors
 /// `AllocError` where an allocation failed.
-pub fn taken_back(alloc: Global, line: &[u8]) -> Result<TakenBack, AllocError> {
+pub fn taken_back(alloc: Global, line: &[u8]) -> Result<TakenBack, AllocError>
+    ensures { IfOk result RefusesInOneLine }
+{
     match Json::from_slice(alloc, line) {
         Ok(whole) => taken_of(alloc, &whole),
         Err(fault) if fault.is_memory() => Err(AllocError),
@@ -117,7 +122,9 @@ pub fn taken_back(alloc: Global, line: &[u8]) -> Result<TakenBack, AllocError> {
 }
 
 /// The same of the JSON of the line.
-fn taken_of(alloc: Global, whole: &Json) -> Result<TakenBack, AllocError> {
+fn taken_of(alloc: Global, whole: &Json) -> Result<TakenBack, AllocError>
+    ensures { IfOk result RefusesInOneLine }
+{
     let Some(value) = whole.get("value") else {
         return refused(alloc, "! shape $.value", NO_OBJECT);
     };
@@ -130,19 +137,55 @@ fn taken_of(alloc: Global, whole: &Json) -> Result<TakenBack, AllocError> {
     }
 }
 
-/// The line that refuses a message of which this field was skipped.
-fn refused_field(alloc: Global, field: &Json) -> Result<TakenBack, AllocError> {
+/// The line that refuses a message of which this field was skipped. Its path may come from anywhere, and is told only
+/// where it has the form of one.
+fn refused_field(alloc: Global, field: &Json) -> Result<TakenBack, AllocError>
+    ensures { IfOk result RefusesInOneLine }
+{
     match field.get("path") {
-        Some(Json::String(path)) => {
-            let refusal = format!(in alloc; "! skipped {path}\n")?;
-            Ok(TakenBack::Refused(refusal, WOULD_BE_LOST))
-        }
+        Some(Json::String(path)) if is_path(path.as_bytes()) => lost_at(alloc, path.as_str()),
         _ => refused(alloc, "! shape $.skipped[0].path", NO_OBJECT),
     }
 }
 
+/// The line that tells that what was skipped at this path would be lost.
+fn lost_at(alloc: Global, path: &str) -> Result<TakenBack, AllocError>
+    requires { IsTrue (is_path path.now) }
+    ensures { IfOk result RefusesInOneLine }
+{
+    let refusal = format!(in alloc; "! skipped {path}\n")?;
+    Ok(TakenBack::Refused(refusal, WOULD_BE_LOST))
+}
+
+/// Whether the text has the form of a path: `$`, and behind it nothing but letters, digits and the marks of paths.
+fn is_path(text: &[u8]) -> bool
+    ensures { result ≡ is_path text.now }
+{
+    match text {
+        [first, rest @ ..] => *first == b'$' && are_of_path(rest),
+        [] => false,
+    }
+}
+
+/// Whether each octet is a letter of names, a digit or a mark of paths.
+fn are_of_path(octets: &[u8]) -> bool
+    ensures { result ≡ list_all is_of_path octets.now }
+{
+    octets.iter().all(|octet| is_of_path(*octet))
+}
+
+/// Whether an octet is a letter of names, a digit or a mark of paths.
+fn is_of_path(octet: u8) -> bool
+    ensures { result ≡ is_of_path octet }
+{
+    octet.is_ascii_alphanumeric() || matches!(octet, b'$' | b'-' | b'.' | b'[' | b']')
+}
+
 /// These words refuse a line, for this reason.
-fn refused(alloc: Global, words: &str, reason: &'static str) -> Result<TakenBack, AllocError> {
+fn refused(alloc: Global, words: &str, reason: &'static str) -> Result<TakenBack, AllocError>
+    requires { IsOneLine words.now }
+    ensures { IfOk result RefusesInOneLine }
+{
     let refusal = format!(in alloc; "{words}\n")?;
     Ok(TakenBack::Refused(refusal, reason))
 }

@@ -11,8 +11,8 @@ the same of the published types that --type leads to, with file and line.
 
 Octets are given and written as lines of hexadecimal digits, two an octet, and nothing else. Other forms, by --in and
 --out:
-  hex         a line of hexadecimal digits, with blanks, 0x in front of a word, and comments from # on; lines without a
-              digit are passed over
+  hex         a line of hexadecimal digits, with blanks, 0x in front of a word, and comments from # on; lines that have
+              nothing but blanks and a comment are passed over, and one with 0x alone is the message of no octets
   hex-block   the same on several lines, with a line of blanks behind each message, as `xxd -p` writes them
   base64      a line of Base64 (RFC 4648), with its padding
   binary      the octets themselves: a message is all of the input, or of a file of --messages; what is written has
@@ -34,9 +34,9 @@ What a refusal means, of which --explain tells more on standard error:
     sealed              what is inside a field with a length of its own is no encoding of its type
     default             a DEFAULT is written out, and the canonical encoding leaves it out
     length              no length or count begins so, or a shorter form of it is wanted
-    extension           an extension bit, or a count of additions, that no encoding has
+    extension           an extension bit, a count of additions, or their presence bits (all 0, say), that no encoding has
     character           no character of the string type
-    padding             the bits that fill up an octet are not all 0
+    padding             the bits that fill up an octet are not all 0, or (OER) the count of unused bits is wrong
     number              no number or item of the type begins so, or a shorter form of it is wanted
   ! over budget: ..     the value of the message takes more than --budget allows
   ! module ..           the text is no module of the profile; at N: after N octets
@@ -71,7 +71,7 @@ Example:
   asn_tool flatten m.asn
 writes
   M DEFINITIONS AUTOMATIC TAGS ::= BEGIN
-  T ::= INTEGER (0..7)
+  T ::= INTEGER ( 0 .. 7 )
   END";
 
 /// Of `module`.
@@ -80,8 +80,8 @@ In: the text of a module. Lines after one that is ==== are ignored. With --modul
 Out: the module, a line for each assignment, in order, each reference followed and each bound effective.
 With --explain standard error shows where a text is refused: the line with a mark under it, and what could stand there.
 
-Exit status: 0; 2 if the module was refused, which the only line of output tells; 3 if reading, writing or memory
-failed.
+Exit status: 0; 2 if the module was refused, which the only line of output tells, and with --module standard error in
+its place; 3 if reading, writing or memory failed.
 
 Example:
   echo 'M DEFINITIONS AUTOMATIC TAGS ::= BEGIN T ::= SEQUENCE OF U U ::= BOOLEAN END' | asn_tool module
@@ -101,7 +101,8 @@ itself, for each component, absent or not, each element and the alternative, and
 bit of a string. What it takes is counted without building it, and told. A line that is no encoding is read as without.
 
 Exit status: 0 if each message was shown; 1 if at least one was refused; 2 if the module was refused or has no type of
-the name, which the only line of output tells; 3 if reading, writing or memory failed.
+the name, which the only line of output tells, but of a refused module that --module names standard error alone; 3 if
+reading, writing or memory failed.
 
 Example:
   printf '%s\\n' 'M DEFINITIONS AUTOMATIC TAGS ::= BEGIN' 'T ::= SEQUENCE { id INTEGER (0..7) }' END ==== a0 |
@@ -127,7 +128,8 @@ itself, for each component, absent or not, each element and the alternative, and
 bit of a string. What it takes is counted without building it, and told. A line that is no encoding is read as without.
 
 Exit status: 0 if each line is a message; 1 if at least one was refused; 2 if the module was refused or has no type of
-the name, which the only line of output tells; 3 if reading, writing or memory failed.
+the name, which the only line of output tells, but of a refused module that --module names standard error alone; 3 if
+reading, writing or memory failed.
 
 Example:
   printf '%s\\n' 'M DEFINITIONS AUTOMATIC TAGS ::= BEGIN' 'T ::= INTEGER (0..7)' END ==== a0 a1 |
@@ -148,7 +150,8 @@ Out: for each value its octets in hexadecimal, or a line that begins with ! and 
 `asn_tool --help` says what each refusal means; with --explain standard error has a line more for each.
 
 Exit status: 0 if each value was encoded; 1 if at least one was refused; 2 if the module was refused or has no type of
-the name, which the only line of output tells; 3 if reading, writing or memory failed.
+the name, which the only line of output tells, but of a refused module that --module names standard error alone; 3 if
+reading, writing or memory failed.
 
 Example:
   printf '%s\\n' 'M DEFINITIONS AUTOMATIC TAGS ::= BEGIN' 'T ::= SEQUENCE { id INTEGER (0..7) }' END ==== '{\"id\":5}' |
@@ -175,7 +178,8 @@ itself, for each component, absent or not, each element and the alternative, and
 bit of a string. What it takes is counted without building it, and told. A line that is no encoding is read as without.
 
 Exit status: 0 if each message was converted; 1 if at least one was refused; 2 if the module was refused or has no type
-of the name, which the only line of output tells; 3 if reading, writing or memory failed.
+of the name, which the only line of output tells, but of a refused module that --module names standard error alone; 3 if
+reading, writing or memory failed.
 
 Example:
   printf '%s\\n' 'M DEFINITIONS AUTOMATIC TAGS ::= BEGIN' 'T ::= SEQUENCE { id INTEGER (0..7) }' END ==== a0 |
@@ -196,7 +200,8 @@ that begins with ! and tells why it is refused.
 `asn_tool --help` says what each refusal means; with --explain standard error has a line more for each.
 
 Exit status: 0 if each message was shown; 1 if at least one was refused; 2 if the module was refused or has no type of
-the name, which the only line of output tells; 3 if reading, writing or memory failed.
+the name, which the only line of output tells, but of a refused module that --module names standard error alone; 3 if
+reading, writing or memory failed.
 
 Example:
   printf '%s\\n' 'M DEFINITIONS AUTOMATIC TAGS ::= BEGIN' 'T ::= SEQUENCE { a BOOLEAN, ... }' END ==== c04041c0 |

@@ -18,7 +18,7 @@ pub fn show<'a>(
     options: Options,
     asking: &Asking<'a>,
 ) -> Result<u8, Stop<'a>> {
-    let job = job_of(rt.alloc(), look)?;
+    let job = job_for(rt.alloc(), look)?;
     if files.is_empty() {
         show_given(rt, look, &job, options, asking)
     } else {
@@ -28,7 +28,7 @@ pub fn show<'a>(
 
 /// The job by whose rules the text of the module is read, and refused: one over lines of the type, or of no type where none
 /// is named.
-fn job_of(alloc: Global, look: &Look) -> Result<Job, AllocError> {
+fn job_for(alloc: Global, look: &Look) -> Result<Job, AllocError> {
     let name = match &look.type_name {
         Some(name) => name.as_str(),
         None => "",

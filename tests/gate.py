@@ -15,7 +15,7 @@ usage: tests/gate.py [PART..]      the parts are proofs, edits and tests; all th
    and examples/run.sh, tests/versions.py, limits.py, published.py, published_commands.py, published_sets.py,
    published_tags.py, published_sequences.py, streaming.py, forms.py, shown.py and tests/installed.sh `asn_tool`, as the gate
    has built them, side by side;
-   tests/octet_counts.py and tests/published_rows.py look at rows without a program;
+   tests/octet_counts.py and tests/published_rows.py look at rows without a program, and tests/speed.py tries itself;
    bindings/tests.sh calls the library for C from four languages, and skips a language whose compiler is not there: each
    time as LLVM compiles it with the test programs, without a second proof, and in one merge of sixteen, drawn with the
    edits, as each of two compilers makes it of a proof of its own. Beside the proofs, those that want
@@ -244,6 +244,7 @@ def tests_of_sources(part, room):
             compare(part, [*BEHIND, f"{room}/test_checks", name], name)
     step(part, [*BEHIND, "tests/octet_counts.py"])
     step(part, [*BEHIND, "tests/published_rows.py"])
+    step(part, [*BEHIND, "tests/speed.py", "--self-test"])
     # the library for C, of the module of those programs
     step(part, [*BEHIND, "bindings/build.sh", "--object", f"{room}/test_checks.o", f"{room}/library"])
     step(part, [*BEHIND, "bindings/tests.sh", f"{room}/library"])

@@ -21,7 +21,6 @@ pub fn answer_stream<R: BufRead, W: Write>(
     let mut octets = Vec::new(rt.alloc());
     let mut all_good = true;
     for message in 1..u64::MAX {
-        octets.clear();
         let next = next_message(rt.alloc(), input, asked.ty(), asked.rules, &mut octets)?;
         if next == Next::End {
             return Ok(all_good);

@@ -216,14 +216,6 @@ fn no_item(line: u32) -> TextFault {
     }
 }
 
-/// A number of several digits of which the first is 0 (X.680, "numbers").
-fn leading_zero(line: u32) -> TextFault {
-    TextFault::At {
-        line,
-        wrong: Wrong::Expected("a number without leading zeros"),
-    }
-}
-
 /// Whether an octet stands in bits, or in hexadecimal digits: those of capitals, and blanks.
 fn is_digit_of(kind: u8, octet: u8) -> bool {
     match octet {
@@ -290,9 +282,6 @@ fn item_at(octets: &[u8], from: Place) -> Result<(Kind, Place), TextFault> {
     }
     if first.is_ascii_digit() {
         let (kind, at) = after_number(octets, from.at);
-        if kind == Kind::Number && first == b'0' && at > on(from.at, 1) {
-            return Err(leading_zero(line));
-        }
         return Ok((kind, Place { at, line }));
     }
     if first == b'"' {

@@ -207,6 +207,17 @@ fn after_imports<'t>(
     tokens.past(at, Sign::Semicolon, ";")
 }
 
+/// Looks at the numbers of a text: one of several digits does not begin with 0 (X.680, "numbers").
+fn check_numbers(tokens: &Tokens<'_>) -> Result<(), TextFault> {
+    for at in 0..tokens.len() {
+        let digits = tokens.text(at);
+        if tokens.is_kind(at, Kind::Number) && digits.len() > 1 && digits.starts_with('0') {
+            return Err(tokens.expected(at, "a number without leading zeros"));
+        }
+    }
+    Ok(())
+}
+
 /// Takes the modules of a text, which is the one after those before.
 pub(crate) fn add_text<'t>(
     alloc: Global,
@@ -229,6 +240,7 @@ pub(crate) fn add_text<'t>(
         }
         at = add_module(alloc, world, &tokens, file, at)?;
     }
+    check_numbers(&tokens)?;
     world.files.push(tokens)?;
     Ok(())
 }

@@ -31,7 +31,7 @@ pub enum Order {
 }
 
 /// What is to be done.
-#[derive(PartialEq, Eq, Drop)]
+#[derive(Drop)]
 pub enum Job {
     /// The module is printed.
     Module,

@@ -1,4 +1,8 @@
 //! Why published texts become no module of the profile.
+ghost use Rattle.std.specs.Prelude.{◌<◌, ℕ};
+ghost use Rattle.asn_published_read.specs.Faults as read;
+ghost use Rattle.asn_published.specs.TextFaults.{IsOneOf};
+
 use asn_module::{BoundFault, ModuleFault};
 use asn_published_read::texts::Misread;
 use asn_published_text::refusal::Refusal;
@@ -46,7 +50,9 @@ impl Error for PublishedFault {}
 
 impl PublishedFault {
     /// The fault of a text.
-    pub(crate) fn of(text: usize, fault: TextFault) -> PublishedFault {
+    pub(crate) fn of(text: usize, fault: TextFault) -> PublishedFault
+        ensures { (texts : ℕ) → text < texts → IsOneOf texts result }
+    {
         match fault {
             TextFault::At { line, wrong } => PublishedFault::Text { text, line, wrong },
             TextFault::Memory => PublishedFault::Memory,
@@ -55,18 +61,24 @@ impl PublishedFault {
 }
 
 impl From<AllocError> for PublishedFault {
+    ghost from_gives = { λ _ fault. IsOneOf 0 fault };
+
     fn from(_e: AllocError) -> PublishedFault {
         PublishedFault::Memory
     }
 }
 
 impl<T: Drop> From<AllocFailed<T>> for PublishedFault {
+    ghost from_gives = { λ _ fault. IsOneOf 0 fault };
+
     fn from(_e: AllocFailed<T>) -> PublishedFault {
         PublishedFault::Memory
     }
 }
 
 impl From<ModuleFault> for PublishedFault {
+    ghost from_gives = { λ _ fault. IsOneOf 0 fault };
+
     fn from(fault: ModuleFault) -> PublishedFault {
         match fault {
             ModuleFault::Memory => PublishedFault::Memory,
@@ -76,6 +88,8 @@ impl From<ModuleFault> for PublishedFault {
 }
 
 impl From<BoundFault> for PublishedFault {
+    ghost from_gives = { λ _ fault. IsOneOf 0 fault };
+
     fn from(fault: BoundFault) -> PublishedFault {
         match fault {
             BoundFault::TooLarge { most, name } => PublishedFault::TooLarge { most, name },
@@ -85,12 +99,16 @@ impl From<BoundFault> for PublishedFault {
 }
 
 impl From<Refusal> for PublishedFault {
+    ghost from_gives = { λ _ fault. IsOneOf 0 fault };
+
     fn from(_e: Refusal) -> PublishedFault {
         PublishedFault::Memory
     }
 }
 
 impl From<Misread> for PublishedFault {
+    ghost from_gives = { λ misread fault. (texts : ℕ) → read.IsOneOf texts misread → IsOneOf texts fault };
+
     fn from(fault: Misread) -> PublishedFault {
         match fault {
             Misread::Text { text, line, wrong } => PublishedFault::Text { text, line, wrong },

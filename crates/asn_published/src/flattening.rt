@@ -1,8 +1,10 @@
 //! From published texts to one module of the profile.
-ghost use Rattle.std.specs.Prelude.{◌≤◌, IfOk, string_bytes};
+ghost use Rattle.std.specs.Prelude.{◌≤◌, ◌<◌, ℕ, length, IfErr, IfOk, string_bytes};
 ghost use Rattle.asn_module.specs.Accepted.{Accepted};
 ghost use Rattle.asn_module.specs.ModuleView.{types_view};
 ghost use Rattle.asn_module.specs.Sizes.{IsAtMost, types_size};
+ghost use Rattle.asn_published_text.specs.Modules.{StandIn};
+ghost use Rattle.asn_published.specs.TextFaults.{IsOneOf};
 
 use crate::fault::PublishedFault;
 use crate::naming::{level_mark_of, names_of};
@@ -62,7 +64,10 @@ fn add_type<'t>(
     places: &mut Places,
     assignment: usize,
     instance: Option<usize>,
-) -> Result<(), PublishedFault> {
+) -> Result<(), PublishedFault>
+    ensures { IfErr result (λ why. (texts : ℕ) → 0 < texts → StandIn texts world.now.modules.items
+        → IsOneOf texts why) }
+{
     match forest.add(alloc, world, assignment, instance) {
         Ok(first) => Ok(places.push(Some(first), forest.nodes.len())?),
         Err(fault) => Err(PublishedFault::of(world.text_of(assignment), fault)),
@@ -74,14 +79,24 @@ fn places_of<'t>(
     alloc: Global,
     world: &World<'t>,
     forest: &mut Forest<'t>,
-) -> Result<Places, PublishedFault> {
+) -> Result<Places, PublishedFault>
+    ensures { IfErr result (λ why. StandIn (length world.now.files.items) world.now.modules.items
+        → IsOneOf (length world.now.files.items) why) }
+{
     let mut places = Places {
         firsts: Vec::new(alloc),
         spans: Vec::new(alloc),
     };
+    if world.files.is_empty() {
+        // (no text has no type)
+        return Ok(places);
+    }
     for (index, assignment) in world.assignments.iter().enumerate() {
         if assignment.what == What::Type && assignment.parameters.is_none() {
-            add_type(alloc, world, forest, &mut places, index, None)?;
+            match add_type(alloc, world, forest, &mut places, index, None) {
+                Ok(()) => {}
+                Err(fault) => return Err(fault),
+            }
         } else {
             places.push(None, 0)?;
         }
@@ -90,20 +105,19 @@ fn places_of<'t>(
         let Some(instance) = forest.instances.instance(index) else {
             break;
         };
-        add_type(
-            alloc,
-            world,
-            forest,
-            &mut places,
-            instance.assignment,
-            Some(index),
-        )?;
+        let assignment = instance.assignment;
+        match add_type(alloc, world, forest, &mut places, assignment, Some(index)) {
+            Ok(()) => {}
+            Err(fault) => return Err(fault),
+        }
     }
     Ok(places)
 }
 
 /// Reads the texts, and builds the nodes of all types.
-fn sources_of<'t>(alloc: Global, texts: &[&'t str]) -> Result<Sources<'t>, PublishedFault> {
+fn sources_of<'t>(alloc: Global, texts: &[&'t str]) -> Result<Sources<'t>, PublishedFault>
+    ensures { IfErr result (IsOneOf (length texts.now)) }
+{
     let world = read_texts(alloc, texts)?;
     let mut forest = Forest::new(alloc);
     let places = places_of(alloc, &world, &mut forest)?;
@@ -172,6 +186,7 @@ fn text_written(
 
 /// The module that a text is. Where there is a bound, the module is no larger.
 fn read_at_most(alloc: Global, text: &str, most: Option<u32>) -> Result<Module, PublishedFault>
+    ensures fault { IfErr result (IsOneOf 0) }
     ensures accepted { IfOk result (λ m. Accepted text.now (types_view m)) }
     ensures within { IfOk result (λ m. IsAtMost most (types_size (types_view m).types)) }
 {
@@ -187,6 +202,7 @@ fn read_back(
     text: &str,
     most: Option<u32>,
 ) -> Result<(String, Module), PublishedFault>
+    ensures fault { IfErr result (IsOneOf 0) }
     ensures accepted { IfOk result (λ r. Accepted (string_bytes r.0) (types_view r.1)) }
     ensures within { IfOk result (λ r. IsAtMost most (types_size (types_view r.1).types)) }
 {
@@ -203,6 +219,7 @@ fn attempt(
     refused: &[bool],
     most: Option<u32>,
 ) -> Result<Flattened, PublishedFault>
+    ensures fault { IfErr result (IsOneOf 0) }
     ensures accepted { IfOk result (λ f. Accepted (string_bytes f.text) (types_view f.module)) }
     ensures within { IfOk result (λ f. IsAtMost most (types_size (types_view f.module).types)) }
 {
@@ -226,8 +243,10 @@ fn attempt(
 /// `Text` where a text is none of the notation, with the text's index from 0 and the line from 1; `Unread` where the
 /// profile does not take what was written, with the fault that `asn_module` tells; `Memory` where an allocation failed.
 pub fn flatten(alloc: Global, texts: &[&str], options: Options) -> Result<Flattened, PublishedFault>
+    // A fault of a text is that of one of the texts.
+    ensures fault { IfErr result (IsOneOf (length texts.now)) }
     // The text is one that `asn_module` accepts, as the module that is beside it.
-    ensures { IfOk result (λ f. Accepted (string_bytes f.text) (types_view f.module)) }
+    ensures accepted { IfOk result (λ f. Accepted (string_bytes f.text) (types_view f.module)) }
 {
     flatten_at_most(alloc, texts, options, None)
 }
@@ -242,6 +261,7 @@ pub fn flatten_within(
     options: Options,
     most: u32,
 ) -> Result<Flattened, PublishedFault>
+    ensures fault { IfErr result (IsOneOf (length texts.now)) }
     ensures accepted { IfOk result (λ f. Accepted (string_bytes f.text) (types_view f.module)) }
     ensures within { IfOk result (λ f. types_size (types_view f.module).types ≤ most) }
 {
@@ -249,12 +269,14 @@ pub fn flatten_within(
 }
 
 /// The module, which is no larger where there is a bound.
+#[tactic(auto, using(crate::proofs::TextFaults::of_no_text))]
 fn flatten_at_most(
     alloc: Global,
     texts: &[&str],
     options: Options,
     most: Option<u32>,
 ) -> Result<Flattened, PublishedFault>
+    ensures fault { IfErr result (IsOneOf (length texts.now)) }
     ensures accepted { IfOk result (λ f. Accepted (string_bytes f.text) (types_view f.module)) }
     ensures within { IfOk result (λ f. IsAtMost most (types_size (types_view f.module).types)) }
 {

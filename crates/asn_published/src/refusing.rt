@@ -1,4 +1,7 @@
 //! Refuses the type for which the profile does not take the module that was written.
+ghost use Rattle.std.specs.Prelude.{IfErr};
+ghost use Rattle.asn_published.specs.TextFaults.{IsOneOf};
+
 use crate::fault::PublishedFault;
 use crate::flattening::first_line;
 use asn_module::ModuleFault;
@@ -77,7 +80,9 @@ pub(crate) fn refuse(
     options: Options,
     refused: &mut Vec<bool>,
     fault: ModuleFault,
-) -> Result<(), PublishedFault> {
+) -> Result<(), PublishedFault>
+    ensures { IfErr result (IsOneOf 0) }
+{
     let found = match &fault {
         ModuleFault::BadType { name, .. }
         | ModuleFault::Twice { name }

@@ -157,7 +157,7 @@ fn lost_at(alloc: Global, path: &str) -> Result<TakenBack, AllocError>
     Ok(TakenBack::Refused(refusal, WOULD_BE_LOST))
 }
 
-/// Whether the text has the form of a path: `$`, and behind it nothing but letters, digits and the marks of paths.
+/// Whether the text has the form of a path: `$`, and after it only letters, digits and the marks of paths.
 fn is_path(text: &[u8]) -> bool
     ensures { result ≡ is_path text.now }
 {

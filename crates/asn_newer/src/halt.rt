@@ -58,7 +58,7 @@ pub(crate) fn halt_before_end(halt: Halt) -> Halt
     }
 }
 
-/// What is told of an open type field where the reader of its content says this. Content that ends
+/// The answer for an open type field where the reader of its content answers this. Content that ends
 /// early is refused, not cut short: its field is complete.
 pub(crate) fn halt_of_field(halt: Halt) -> Halt
     ensures { result ≡ halt_of_field halt }

@@ -89,9 +89,10 @@ enum {
                               is no UTF-8 */
     TULVORN_DEFAULT = 2,   /* the value of a component with a DEFAULT */
     TULVORN_LENGTH = 3,    /* a length or a quantity */
-    TULVORN_EXTENSION = 4, /* an extension bit, or the number or the presence bits of extension additions */
+    TULVORN_EXTENSION = 4, /* an extension bit, or the count of extension additions, their presence bits or, in OER, what
+                              fills these up */
     TULVORN_CHARACTER = 5, /* a character of a string */
-    TULVORN_PADDING = 6,   /* the zeros that fill an octet */
+    TULVORN_PADDING = 6,   /* the zeros that fill an octet; of a BIT STRING in OER also how many there are */
     TULVORN_NUMBER = 7     /* anything else */
 };
 

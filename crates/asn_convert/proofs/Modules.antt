@@ -2,7 +2,8 @@
 use Rattle.std.proofs.Common.{◌≡◌, ℕ, List, [], ◌∷◌, ◌++◌, refl, sym, ◌∙◌, append_assoc, inl, inr}
 use Rattle.std.specs.Prelude.{codes, IsUtf8}
 use Rattle.asn_module.specs.Accepted.{ModuleTypes, Accepted}
-use Rattle.asn_convert.specs.Text.{IsOneLine, IsRefusal, not_text, ended}
+use Rattle.asn_jobs.specs.Lines.{IsOneLine}
+use Rattle.asn_convert.specs.Text.{IsRefusal, not_text, ended}
 
 -- it is no text
 pub no_text : (text line : List ℕ) → (IsUtf8 text → ⊥) → line ≡ ended not_text → IsRefusal text line

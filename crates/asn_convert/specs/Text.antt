@@ -1,13 +1,13 @@
 -- The text of a job, and what of it is written before a fault.
-use Rattle.std.specs.Prelude.{◌≡◌, ◌⊎◌, ◌&&◌, ◌==◌, ℕ, Bool, true, false, List, [], ◌∷◌, ◌++◌, codes, string_bytes, Option, Some, None, IfSome, IsFalse, IsUtf8, ⊤}
-use Rattle.std.specs.List.{AllByRecursion, list_any}
+use Rattle.std.specs.Prelude.{◌≡◌, ◌⊎◌, ◌&&◌, ℕ, Bool, true, false, List, [], ◌∷◌, ◌++◌, codes, string_bytes, Option, Some, None, IfSome, IsUtf8, ⊤}
+use Rattle.std.specs.List.{AllByRecursion}
 use Rattle.std.specs.Io.KnownBytes.{Appends, Keeps}
 use Rattle.asn_values.specs.Shape.{Shape}
 use Rattle.asn_rules.specs.Faults.{Rose, State}
 use Rattle.asn_module.specs.Accepted.{ModuleTypes, Accepted, type_in}
 use Rattle.asn_module.specs.Printing.{printed}
 use Rattle.asn_convert.specs.Answers.{Rulings, Terms, Answers}
-use Rattle.asn_jobs.specs.Lines.{module_text, job_lines}
+use Rattle.asn_jobs.specs.Lines.{IsOneLine, module_text, job_lines}
 use Rattle.asn_jobs.specs.declared.job.Order.{Order}
 use Rattle.asn_jobs.specs.declared.job.RuleName.{RuleName}
 use Rattle.asn_jobs.specs.declared.job.Job.{Job}
@@ -65,10 +65,6 @@ pub record IsModule (text : List ℕ) (m : ModuleTypes) : Type 0 where
 -- it is no module
 abbrev pub IsNoModule : List ℕ → Type 0
 IsNoModule text = (m : ModuleTypes) → IsModule text m → ⊥
-
--- no octet is an LF
-abbrev pub IsOneLine : List ℕ → Type 0
-IsOneLine text = IsFalse (list_any (λ octet. octet == 10) text)
 
 -- what is told of a text that is no module: some words on the module, in one line
 abbrev pub TellsNoModule : List ℕ → Type 0

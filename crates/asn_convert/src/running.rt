@@ -3,7 +3,8 @@ ghost use Rattle.std.specs.Prelude.{◌≡◌, ◌≢◌, IfOk, IfErr, OnOk, str
 ghost use Rattle.asn_module.specs.ModuleView.{types_view};
 ghost use Rattle.asn_module.specs.declared.fault.ModuleFault.{ModuleFault};
 ghost use Rattle.asn_convert.specs.Parts.{Wrote, Broke, JobTold, JobBegun, ModuleTold, ModuleBegun, LinesTold, LinesBegun, LineTold, LineBegun, RanBy, FailedBy};
-ghost use Rattle.asn_convert.specs.Text.{IsModule, IsOneLine, IsRefusal};
+ghost use Rattle.asn_jobs.specs.Lines.{IsOneLine};
+ghost use Rattle.asn_convert.specs.Text.{IsModule, IsRefusal};
 
 use crate::answers::answer_to;
 use crate::laws::lines_have_answers;

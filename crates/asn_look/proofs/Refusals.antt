@@ -3,7 +3,8 @@ use Rattle.std.proofs.Common.{arith, ◌≡◌, ℕ, true, false, List, [], ◌�
 use Rattle.std.proofs.lemmas.Bool.{and_parts, or_from}
 use Rattle.std.specs.Prelude.{codes}
 use Rattle.std.specs.List.{list_all, list_any}
-use Rattle.asn_look.specs.Refusals.{is_of_path, is_path, IsOneLine, IsEndedLine}
+use Rattle.asn_jobs.specs.Lines.{IsOneLine}
+use Rattle.asn_look.specs.Refusals.{is_of_path, is_path, IsEndedLine}
 
 no_end : (octet : ℕ) → is_of_path octet ≡ true → (octet == 10) ≡ false
 no_end octet is = grind arith

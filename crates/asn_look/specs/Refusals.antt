@@ -1,7 +1,8 @@
 -- Lines that refuse a message of which something was skipped.
-use Rattle.std.specs.Prelude.{◌≡◌, ◌==◌, ◌||◌, ◌&&◌, ◌∷◌, ◌++◌, [], ℕ, Bool, false, IsFalse, List, codes, string_bytes, ⊤}
+use Rattle.std.specs.Prelude.{◌≡◌, ◌==◌, ◌||◌, ◌&&◌, ◌∷◌, ◌++◌, [], ℕ, Bool, false, List, codes, string_bytes, ⊤}
 use Rattle.std.specs.Char.{is_ascii_alphanumeric}
 use Rattle.std.specs.List.{list_all, list_any}
+use Rattle.asn_jobs.specs.Lines.{IsOneLine}
 use Rattle.asn_look.specs.declared.newer_json.TakenBack.{TakenBack}
 use Rattle.asn_look.specs.declared.newer_json.TakenBack.TheVariants as taken
 
@@ -17,10 +18,6 @@ is_path [] = false
 is_path (octet ∷ octets) = (octet == 36) && list_all is_of_path octets
 
 -- ---- lines
-
--- no octet is an LF
-abbrev pub IsOneLine : List ℕ → Type 0
-IsOneLine text = IsFalse (list_any (λ octet. octet == 10) text)
 
 -- one line, with its LF
 abbrev pub IsEndedLine : List ℕ → Type 0

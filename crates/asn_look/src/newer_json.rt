@@ -1,7 +1,8 @@
 //! Messages of other versions of a type as JSON, with the fields that are skipped in them, and back.
 ghost use Rattle.std.specs.Prelude.{◌≡◌, IfOk, IsTrue};
 ghost use Rattle.std.specs.List.{list_all};
-ghost use Rattle.asn_look.specs.Refusals.{is_of_path, is_path, IsOneLine, RefusesInOneLine};
+ghost use Rattle.asn_jobs.specs.Lines.{IsOneLine};
+ghost use Rattle.asn_look.specs.Refusals.{is_of_path, is_path, RefusesInOneLine};
 
 use crate::laying::value_text;
 use crate::paths::path_text;

@@ -1,6 +1,6 @@
 //! What a name stands for in a module: an assignment there, or of the module that it is imported from.
-ghost use Rattle.std.specs.Prelude.{◌<◌, ℕ};
-ghost use Rattle.asn_published_text.specs.Modules.{StandIn};
+ghost use Rattle.std.specs.Prelude.{◌≡◌, ◌<◌, ℕ, option_copied, slice_get};
+ghost use Rattle.asn_published_text.specs.Modules.{StandIn, text_of};
 
 use crate::modules::{Assignment, What, World};
 use crate::refusal::Why;
@@ -64,7 +64,10 @@ impl<'t> World<'t> {
         Ok((found, next(at)))
     }
 
-    pub fn assignment(&self, index: usize) -> Option<&Assignment<'t>> {
+    /// The assignment of an index; `None` where there is none.
+    pub fn assignment(&self, index: usize) -> Option<&Assignment<'t>>
+        ensures { option_copied result ≡ slice_get self.now.assignments.items index }
+    {
         self.assignments.get(index)
     }
 
@@ -76,9 +79,10 @@ impl<'t> World<'t> {
         }
     }
 
-    /// Which text has an assignment, from 0.
+    /// Which text has an assignment, from 0; 0 where there is no such assignment.
     pub fn text_of(&self, assignment: usize) -> usize
-        ensures { (texts : ℕ) → 0 < texts → StandIn texts self.now.modules.items → result < texts }
+        ensures text { result ≡ text_of self.now.assignments.items self.now.modules.items assignment }
+        ensures one { (texts : ℕ) → 0 < texts → StandIn texts self.now.modules.items → result < texts }
     {
         match self.assignment(assignment) {
             Some(it) => match self.modules.get(it.module) {

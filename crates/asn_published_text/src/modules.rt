@@ -82,6 +82,8 @@ impl<'t> World<'t> {
     pub fn take_classes(&mut self, classes: Classes<'t>)
         ensures files { self.new.files ≡ self.old.files }
         ensures modules { self.new.modules ≡ self.old.modules }
+        ensures assignments { self.new.assignments ≡ self.old.assignments }
+        ensures classes { self.new.classes ≡ classes.entry }
     {
         self.classes = classes;
     }

@@ -3,11 +3,11 @@
 use asn_values::profile::{HIGHEST_INTEGER, LOWEST_INTEGER};
 use std::fmt;
 
-/// A least and a greatest number of units.
+/// A least and a greatest number of units. A least number past 2^64 is told as 2^64 - 1.
 #[derive(Clone, Copy, Debug, PartialEq, Eq)]
 pub struct Extent {
     pub least: u64,
-    /// `None` where there is no bound but that of a message.
+    /// `None` where there is no bound but that of a message, or it is past 2^64.
     pub greatest: Option<u64>,
 }
 
@@ -33,7 +33,7 @@ impl Extent {
         Extent {
             least: self.least.saturating_add(other.least),
             greatest: match (self.greatest, other.greatest) {
-                (Some(first), Some(second)) => Some(first.saturating_add(second)),
+                (Some(first), Some(second)) => first.checked_add(second),
                 _ => None,
             },
         }
@@ -64,7 +64,7 @@ impl Extent {
             least: self.least.saturating_mul(low),
             greatest: match (self.greatest, high) {
                 (Some(0), _) | (_, Some(0)) => Some(0),
-                (Some(units), Some(high)) => Some(units.saturating_mul(high)),
+                (Some(units), Some(high)) => units.checked_mul(high),
                 _ => None,
             },
         }
@@ -120,10 +120,22 @@ pub(crate) fn octets_above(low: i128, high: i128) -> u64 {
     filled(width_above(low, high))
 }
 
-/// The most octets that an integer of the profile has in two's complement, up to this bound where there is one.
-pub(crate) fn integer_octets(high: Option<i128>) -> u64 {
-    let farthest = high
-        .unwrap_or(HIGHEST_INTEGER)
-        .max((-1i128).saturating_sub(LOWEST_INTEGER));
-    filled(width_above(0, farthest).saturating_add(1))
+/// The octets in two's complement of the integers of the profile from one to another; `None` where there are none.
+pub(crate) fn signed_octets(low: Option<i128>, high: Option<i128>) -> Option<Extent> {
+    let low = low.unwrap_or(LOWEST_INTEGER);
+    let high = high.unwrap_or(HIGHEST_INTEGER);
+    if low > high {
+        return None;
+    }
+    let nearest_to_zero = low.max(0).min(high);
+    Some(Extent {
+        least: octets_signed(nearest_to_zero),
+        greatest: Some(octets_signed(low).max(octets_signed(high))),
+    })
+}
+
+/// The fewest octets of an integer in two's complement.
+fn octets_signed(number: i128) -> u64 {
+    let magnitude = number.max((-1i128).saturating_sub(number));
+    filled(width_above(0, magnitude).saturating_add(1))
 }

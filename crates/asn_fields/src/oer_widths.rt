@@ -1,9 +1,9 @@
 //! How many octets values have in OER (X.696).
 
-use crate::extent::{Extent, integer_octets, octets_above, octets_in};
+use crate::extent::{Extent, octets_above, octets_in, signed_octets};
 use crate::per_widths::one_more;
 use asn_values::profile::HIGHEST_INTEGER;
-use asn_values::{Alt, AsnType, Bounds, Field, Item, Need, Size};
+use asn_values::{Alt, AsnType, Bounds, Field, Item, Need, Size, Value};
 
 /// How many octets the values of the type have in OER.
 #[cycle(octets)]
@@ -29,6 +29,9 @@ pub(crate) fn octets_of(ty: &AsnType) -> Extent {
                 None => with_preamble(bits, all),
                 Some(additions) => {
                     let known = with_preamble(bits.saturating_add(1), all);
+                    if additions.is_empty() {
+                        return known;
+                    }
                     known.or(known.and(additions_octets(additions)))
                 }
             }
@@ -72,10 +75,7 @@ fn counts_of(size: &Size) -> (u64, Option<u64>) {
 fn number_octets(bounds: &Bounds) -> Extent {
     match fixed_octets(bounds) {
         Some(octets) => Extent::fixed(octets),
-        None => Extent {
-            least: 2,
-            greatest: Some(most_octets(bounds).saturating_add(1)),
-        },
+        None => Extent::fixed(1).and(fewest_octets(bounds)),
     }
 }
 
@@ -93,13 +93,21 @@ pub(crate) fn fixed_octets(bounds: &Bounds) -> Option<u64> {
     }
 }
 
-/// The most octets of a number after a length: without a sign where a low bound holds that is not below 0.
-fn most_octets(bounds: &Bounds) -> u64 {
+/// The octets of a number after a length: without a sign where a low bound holds that is not below 0.
+fn fewest_octets(bounds: &Bounds) -> Extent {
     match bounds.low {
-        Some(low) if low >= 0 && !bounds.ext => octets_above(0, HIGHEST_INTEGER),
-        _ if bounds.ext => integer_octets(None),
-        _ => integer_octets(bounds.high),
+        Some(low) if low >= 0 && !bounds.ext => Extent {
+            least: octets_above(0, low),
+            greatest: Some(octets_above(0, HIGHEST_INTEGER)),
+        },
+        _ if bounds.ext => integers_octets(None, None),
+        low => integers_octets(low, bounds.high),
     }
+}
+
+/// The octets in two's complement of the integers from one to another.
+fn integers_octets(low: Option<i128>, high: Option<i128>) -> Extent {
+    signed_octets(low, high).unwrap_or(Extent::fixed(1))
 }
 
 /// The octets of numbers from 0 to this one, where 1, 2, 4 or 8 are enough.
@@ -204,16 +212,46 @@ fn components_octets(fields: &[Field]) -> (u64, Extent) {
     let mut bits = 0u64;
     let mut all = Extent::fixed(0);
     for field in fields {
-        let value = octets_of(&field.ty);
-        match field.need {
-            Need::Must => all = all.and(value),
-            Need::Optional | Need::Default(_) => {
-                bits = bits.saturating_add(1);
-                all = all.and(value.maybe());
-            }
+        let value = match &field.need {
+            Need::Must => octets_of(&field.ty),
+            Need::Optional => octets_of(&field.ty).maybe(),
+            Need::Default(value) => others_octets(&field.ty, value).maybe(),
+        };
+        if !matches!(field.need, Need::Must) {
+            bits = bits.saturating_add(1);
         }
+        all = all.and(value);
     }
     (bits, all)
+}
+
+/// How many octets the values of a type have but for this one, its DEFAULT, which is not written.
+#[cycle(octets)]
+fn others_octets(ty: &AsnType, default: &Value) -> Extent {
+    match (ty, default) {
+        (AsnType::Enum { root, ext: None }, Value::Enum(index)) => items_but(root, *index as usize),
+        (AsnType::Int(bounds), _) if is_one_number(bounds) => Extent::fixed(0),
+        _ => octets_of(ty),
+    }
+}
+
+/// The octets of an item but for the one at an index; none where there is no other.
+fn items_but(items: &[Item], but: usize) -> Extent {
+    let mut any = None;
+    for (index, item) in items.iter().enumerate() {
+        if index != but {
+            any = one_more(any, Extent::fixed(item_octets(item.number)));
+        }
+    }
+    any.unwrap_or(Extent::fixed(0))
+}
+
+/// Whether the root has one number alone, and there is no extension marker.
+fn is_one_number(bounds: &Bounds) -> bool {
+    match (bounds.low, bounds.high) {
+        (Some(low), Some(high)) => low == high && !bounds.ext,
+        _ => false,
+    }
 }
 
 /// Of components after a preamble of this many bits.

@@ -1,6 +1,6 @@
 //! How many bits values have in PER (X.691).
 
-use crate::extent::{Extent, integer_octets, octets_above, width_above, width_of};
+use crate::extent::{Extent, octets_above, signed_octets, width_above, width_of};
 use asn_values::profile::HIGHEST_INTEGER;
 use asn_values::{Alt, AsnType, Bounds, Field, Need, Size, TextKind};
 
@@ -15,7 +15,7 @@ pub(crate) fn bits_of(ty: &AsnType) -> Extent {
             let known = Extent::fixed(width_of((root.len() as u64).saturating_sub(1)));
             match ext {
                 None => known,
-                Some(additions) => marked(known, additions.len(), Extent::fixed(0)),
+                Some(additions) => marked(known, indexes_bits(additions.len())),
             }
         }
         AsnType::Bits(size) => sized_bits(size, Extent::fixed(1)),
@@ -29,12 +29,13 @@ pub(crate) fn bits_of(ty: &AsnType) -> Extent {
             let known = components_bits(root);
             match ext {
                 None => known,
+                Some(additions) if additions.is_empty() => marked(known, None),
                 Some(additions) => {
                     let count = 7u64.saturating_add(additions.len() as u64);
                     let added = known
                         .and(additions_bits(additions))
                         .and(Extent::fixed(count));
-                    Extent::fixed(1).and(known.or(added))
+                    marked(known, Some(added))
                 }
             }
         }
@@ -44,65 +45,112 @@ pub(crate) fn bits_of(ty: &AsnType) -> Extent {
             let known = Extent::fixed(index).and(alternatives_bits(root));
             match ext {
                 None => known,
-                Some(additions) => {
-                    marked(known, additions.len(), open_alternatives_bits(additions))
-                }
+                Some(additions) => marked(known, open_alternatives_bits(additions)),
             }
         }
     }
 }
 
-/// After an extension bit what the root has, or the index of one of this many additions and what it has, where there are
-/// some. An index is a normally small number: 7 bits, or from 64 on a bit, an octet of length and one more octet.
-fn marked(known: Extent, additions: usize, added: Extent) -> Extent {
-    let mark = Extent::fixed(1);
+/// After an extension bit what the root has, or what is added, where there is something.
+fn marked(known: Extent, added: Option<Extent>) -> Extent {
+    Extent::fixed(1).and(one_more(added, known).unwrap_or(known))
+}
+
+/// Of the index of one of this many additions, where there are some.
+fn indexes_bits(additions: usize) -> Option<Extent> {
     if additions == 0 {
-        return mark.and(known);
+        return None;
     }
-    let index = Extent {
-        least: 7,
-        greatest: Some(if additions > 64 { 17 } else { 7 }),
-    };
-    mark.and(known.or(index.and(added)))
+    Some(Extent {
+        least: index_bits(0),
+        greatest: Some(index_bits(additions.saturating_sub(1))),
+    })
+}
+
+/// Of the index of an addition, a normally small number: 7 bits, or from 64 on a bit, an octet of length and one octet more.
+fn index_bits(index: usize) -> u64 {
+    if index < 64 { 7 } else { 17 }
 }
 
 /// Of an INTEGER with these bounds.
 fn number_bits(bounds: &Bounds) -> Extent {
     let known = match (bounds.low, bounds.high) {
-        (Some(low), Some(high)) => Extent::fixed(width_above(low, high)),
-        (Some(low), None) => counted_bits(octets_above(low, HIGHEST_INTEGER)),
-        (None, high) => counted_bits(integer_octets(high)),
+        (Some(low), Some(high)) => Some(Extent::fixed(width_above(low, high))),
+        (Some(low), None) => Some(counted_bits(Extent {
+            least: 1,
+            greatest: Some(octets_above(low, HIGHEST_INTEGER)),
+        })),
+        (None, high) => signed_bits(None, high),
     };
+    let known = known.unwrap_or(Extent::fixed(0));
     if bounds.ext {
-        return Extent::fixed(1).and(known.or(counted_bits(integer_octets(None))));
+        return marked(known, others_bits(bounds));
     }
     known
 }
 
-/// Of a number in at most this many octets: an octet of length, and one at least.
-fn counted_bits(most: u64) -> Extent {
-    Extent {
-        least: 16,
-        greatest: Some(most.saturating_mul(8).saturating_add(8)),
+/// Of the integers below and above these bounds.
+fn others_bits(bounds: &Bounds) -> Option<Extent> {
+    let below = match bounds.low {
+        Some(low) => signed_bits(None, Some(low.saturating_sub(1))),
+        None => None,
+    };
+    let above = match bounds.high {
+        Some(high) => signed_bits(Some(high.saturating_add(1)), None),
+        None => None,
+    };
+    match above {
+        Some(above) => one_more(below, above),
+        None => below,
     }
+}
+
+/// Of the integers from one to another in the fewest octets of two's complement.
+fn signed_bits(low: Option<i128>, high: Option<i128>) -> Option<Extent> {
+    match signed_octets(low, high) {
+        Some(octets) => Some(counted_bits(octets)),
+        None => None,
+    }
+}
+
+/// Of a number in this many octets, with their length.
+fn counted_bits(octets: Extent) -> Extent {
+    Extent::fixed(8).and(octets.times(8, Some(8)))
 }
 
 /// Of as many items as the size says, each of which has these bits, with what tells their count.
 fn sized_bits(size: &Size, item: Extent) -> Extent {
     let low = u64::from(size.low);
-    let length = match size.high {
-        Some(high) => Extent::fixed(width_of(u64::from(high).saturating_sub(low))),
-        None => Extent::from(8),
+    let Some(high) = size.high else {
+        // (beyond an extension mark there are the counts below `low`)
+        return match (size.ext, low) {
+            (false, _) => listed_bits(low, item),
+            (true, 0) => marked(listed_bits(0, item), None),
+            (true, _) => marked(listed_bits(low, item), Some(listed_bits(0, item))),
+        };
     };
-    let high = match size.high {
-        Some(high) => Some(u64::from(high)),
-        None => None,
-    };
-    let known = length.and(item.times(low, high));
-    if size.ext {
-        return Extent::fixed(1).and(known.or(Extent::from(8)));
+    let high = u64::from(high);
+    let length = Extent::fixed(width_of(high.saturating_sub(low)));
+    let known = length.and(item.times(low, Some(high)));
+    if !size.ext {
+        return known;
     }
-    known
+    let others = if low > 0 { 0 } else { high.saturating_add(1) };
+    marked(known, Some(listed_bits(others, item)))
+}
+
+/// Of so many items and more under their general length. Its last determinant is an octet shorter where all items stand in
+/// whole fragments, which may be less than a few items more have.
+fn listed_bits(low: u64, item: Extent) -> Extent {
+    let whole = low.div_ceil(16_384).saturating_mul(16_384);
+    Extent::from(items_bits(low, item.least).min(items_bits(whole, item.least)))
+}
+
+/// Of so many items of this many bits under their general length.
+fn items_bits(count: u64, item: u64) -> u64 {
+    general_length(count)
+        .saturating_mul(8)
+        .saturating_add(count.saturating_mul(item))
 }
 
 /// Of the presence bitmap and the components of a root.
@@ -140,14 +188,15 @@ fn alternatives_bits(alternatives: &[Alt]) -> Extent {
     any.unwrap_or(Extent::fixed(0))
 }
 
-/// Of one of these alternatives, in an open type field.
+/// Of one of these alternatives, its index and an open type field.
 #[cycle(bits)]
-fn open_alternatives_bits(alternatives: &[Alt]) -> Extent {
+fn open_alternatives_bits(alternatives: &[Alt]) -> Option<Extent> {
     let mut any = None;
-    for alternative in alternatives {
-        any = one_more(any, open_bits(bits_of(&alternative.ty)));
+    for (at, alternative) in alternatives.iter().enumerate() {
+        let index = Extent::fixed(index_bits(at));
+        any = one_more(any, index.and(open_bits(bits_of(&alternative.ty))));
     }
-    any.unwrap_or(Extent::fixed(0))
+    any
 }
 
 /// The units of what `any` has, if anything, or of one more.

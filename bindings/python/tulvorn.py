@@ -7,17 +7,22 @@
     >>> spec.decode("T", b"\\xa0")
     {'id': 5}
 
-Only the standard library is needed, and libtulvorn.so: in the folder that TULVORN_LIBRARY names, beside this file, or
-where the system's linker finds it. `compile_string`, `compile_files`, `encode`, `decode` and `decode_with_length` have
-the names that asn1tools gives them.
+Only the standard library is needed, and the library: the file that TULVORN_LIBRARY names, or libtulvorn.so beside this
+file, or libtulvorn.so.1 where the system's linker finds it. `compile_string`, `compile_files`, `encode`, `decode` and
+`decode_with_length` have the names that asn1tools gives them; bindings/README.md tells what else is not as there.
 
 Values are as in JSON, with the kinds of Python where it has them: BOOLEAN is a bool, NULL None, INTEGER an int,
 ENUMERATED the name of the item, BIT STRING a pair of bytes and the number of bits, OCTET STRING bytes, a character
-string a str, SEQUENCE a dict, without the components that are absent, SEQUENCE OF a list, CHOICE a pair of the name and
-the value.
+string a str, SEQUENCE a dict, SEQUENCE OF a list, CHOICE a pair of the name and the value. A dict that is given may lack
+the components with OPTIONAL or DEFAULT; one that is told lacks those that are absent and have no DEFAULT. A value may be
+given in the form of JSON too: a str of hexadecimal digits for an OCTET STRING, of 0 and 1 for a BIT STRING, and a dict of
+one name for a CHOICE. An item or alternative of a newer sender that the type has not is told by its number: '?2', or the
+pair ('?1', None).
+
+Octets may be bytes or what else has a buffer, as bytearray, memoryview and array do.
 
 One object may be used by several threads: each has a lock of its own. `Type.share` makes another of a type, which two
-threads then use at once.
+threads then use at once. No object is copied or pickled.
 """
 
 import ctypes
@@ -42,7 +47,10 @@ RULES = {"per": PER, "uper": PER, "oer": OER, PER: PER, OER: OER}
     BOOLEAN, NULL, INTEGER, ENUMERATED, BIT_STRING, OCTET_STRING, CHARACTER_STRING, SEQUENCE, SEQUENCE_OF, CHOICE,
 ) = range(1, 11)
 
+# the reasons, by their numbers: of octets that are refused, and of a text that is no module
 WHY = ("", "sealed", "default", "length", "extension", "character", "padding", "number")
+WHY_NO_MODULE = ("", "bad character", "unexpected", "unknown", "cycle", "twice", "bad type", "out of profile")
+REASONS = {REFUSED: WHY, NO_MODULE: WHY_NO_MODULE}
 
 
 class Handle(ctypes.Structure):
@@ -125,25 +133,28 @@ _library = _loaded()
 
 
 class TulvornError(Exception):
-    """Why a call did not do what it was asked for: its code, the reason `why` in one word, the place `at`."""
+    """Why a call did not do what it was asked for: the code of the library, the reason `why` in a word or two, or none,
+    and the place `at`. Of a value that was refused before the library was asked, code and place are None."""
 
     def __init__(self, words, fault=None):
         super().__init__(words)
         self.code, self.at = (fault.code, fault.at) if fault else (None, None)
-        self.why = WHY[fault.why] if fault and fault.code == REFUSED else ""
+        self.why = REASONS[fault.code][fault.why] if fault and fault.code in REASONS else ""
 
 
 class ModuleError(TulvornError):
-    """A text is no module; `at` is a character's place in its octets, from 0. The words have the line, with a mark."""
+    """A text is no module. Where `why` is `bad character`, `unexpected` or `out of profile`, `at` is the place in its
+    octets, from 0; else it is 0. The words have the line, with a mark."""
 
 
 class DecodeError(TulvornError):
-    """Octets are no encoding: refused at the unit `at`, a bit of PER or an octet of OER, counted from 1; or cut short
-    after `at` units; or more octets follow the first `at`."""
+    """Octets are no encoding: refused (REFUSED) at the unit `at`, a bit of PER or an octet of OER, counted from 1; or cut
+    short (TRUNCATED) after `at` units; or more octets follow the first `at` (REST). With every other code `at` is 0: they
+    are too long, no message of any version (`Type.read_newer`), or come after a session has ended."""
 
 
 class EncodeError(TulvornError):
-    """A value has no encoding."""
+    """A value has no encoding, or what was given is no value of the type, or no JSON."""
 
 
 def _words(fault, rules):
@@ -161,10 +172,14 @@ def _look(kind, code, fault, rules=PER):
 
 
 def _rules(rules):
-    try:
-        return RULES[rules]
-    except KeyError:
-        raise ValueError(f"no encoding rules: {rules!r}") from None
+    if isinstance(rules, bool) or rules not in RULES:
+        raise ValueError(f"no encoding rules: {rules!r}")
+    return RULES[rules]
+
+
+def _octets(given):
+    """The octets of what has a buffer. They are looked at once: another thread may change them."""
+    return given if type(given) is bytes else memoryview(given).tobytes()
 
 
 class _Held:
@@ -176,6 +191,9 @@ class _Held:
 
     def __del__(self):
         _library.tulvorn_close(self.handle)
+
+    def __reduce_ex__(self, protocol):
+        raise TypeError(f"a {type(self).__name__} is held by the library, and is neither copied nor pickled")
 
     def copied(self):
         with self.lock:
@@ -251,7 +269,18 @@ class Value(_Held):
         return self._part(_library.tulvorn_count, path, ctypes.c_size_t())
 
     def bit(self, path, index):
+        """The bit of a BIT STRING at the index, from 0; IndexError where there are not so many."""
+        if not 0 <= index < self._count_of_bits(path):
+            raise IndexError(index)
+        return self._bit(path, index)
+
+    def _bit(self, path, index):
         return bool(self._part(_library.tulvorn_bit, path, ctypes.c_uint32(), index))
+
+    def _count_of_bits(self, path):
+        if self.kind(path) != BIT_STRING:
+            raise TypeError(f"{path or '$'} is of another kind")
+        return self.count(path)
 
     def octets(self, path):
         return self._string(_library.tulvorn_octets, path)
@@ -264,42 +293,30 @@ class Value(_Held):
 
     def bits(self, path):
         """A BIT STRING: its bits, eight an octet, the first in the highest place, and how many they are."""
-        count = self.count(path)
+        count = self._count_of_bits(path)
         octets = bytearray((count + 7) // 8)
         for index in range(count):
-            if self.bit(path, index):
+            if self._bit(path, index):
                 octets[index // 8] |= 0x80 >> index % 8
         return bytes(octets), count
 
     def __getitem__(self, path):
-        """The part at the path, by its kind."""
-        return self._built(json.loads(self.to_json()), path, "")
+        """The part at the path, by its kind. All of the value is made for a part that has parts itself."""
+        read = READ.get(self.kind(path))
+        if read:
+            try:
+                return read(self, path)
+            except TypeError:
+                pass  # an item that the type has not, which JSON alone tells
+        shown, at = json.loads(self.to_json()), ""
+        for piece in [it for it in path.replace("[", ".").replace("]", ".").lstrip("$").split(".") if it]:
+            at = f"{at}.{piece}"
+            shown = shown[int(piece) if isinstance(shown, list) else piece]
+        return self._of(shown, at)
 
     def value(self):
         """The value, by its kinds."""
-        return self._built(json.loads(self.to_json()), "", "")
-
-    def _built(self, shown, wanted, path):
-        for piece in [it for it in wanted.replace("[", ".").replace("]", ".").lstrip("$").split(".") if it]:
-            path = f"{path}.{piece}"
-            if isinstance(shown, dict) and piece in shown:
-                shown = shown[piece]
-            elif isinstance(shown, list) and piece.isdigit() and int(piece) < len(shown):
-                shown = shown[int(piece)]
-            else:
-                return self._absent(path)
-        return self._of(shown, path)
-
-    def _absent(self, path):
-        """A component that is absent and has a DEFAULT: its value where it has no parts."""
-        kind = self.kind(path)
-        simple = {
-            BOOLEAN: self.boolean, INTEGER: self.integer, ENUMERATED: self.name, BIT_STRING: self.bits,
-            OCTET_STRING: self.octets, CHARACTER_STRING: self.text, NULL: lambda _: None,
-        }
-        if kind not in simple:
-            raise KeyError(path)
-        return simple[kind](path)
+        return self._of(json.loads(self.to_json()), "")
 
     def _of(self, shown, path):
         kind = self.kind(path)
@@ -309,7 +326,7 @@ class Value(_Held):
             return [self._of(part, f"{path}[{index}]") for index, part in enumerate(shown)]
         if kind == CHOICE:
             ((name, part),) = shown.items()
-            return (name, self._of(part, f"{path}.{name}"))
+            return (name, None if name.startswith("?") else self._of(part, f"{path}.{name}"))
         if kind == OCTET_STRING:
             return bytes.fromhex(shown)
         if kind == BIT_STRING:
@@ -318,19 +335,47 @@ class Value(_Held):
         return shown
 
 
-def _json_of(value):
-    """The JSON of a value that is told by the kinds of Python."""
-    if isinstance(value, (bytes, bytearray)):
+# how a part of each kind is told that has no parts itself
+READ = {
+    BOOLEAN: Value.boolean, NULL: lambda value, path: None, INTEGER: Value.integer, ENUMERATED: Value.name,
+    BIT_STRING: Value.bits, OCTET_STRING: Value.octets, CHARACTER_STRING: Value.text,
+}
+
+# the kinds of values, in words; and what is given for those whose kind their JSON does not tell
+KINDS = (
+    "", "a BOOLEAN", "a NULL", "an INTEGER", "an ENUMERATED", "a BIT STRING", "an OCTET STRING", "a character string",
+    "a SEQUENCE", "a SEQUENCE OF", "a CHOICE",
+)
+GIVEN = {OCTET_STRING: "bytes", BIT_STRING: "bytes with a number of bits", CHOICE: "a pair with a name"}
+BYTES = (bytes, bytearray, memoryview)
+
+
+def _json_of(value, path, given):
+    """The JSON of a value that is told by the kinds of Python; `given` takes the path and the kind of each part whose kind
+    the JSON does not tell."""
+    if isinstance(value, BYTES):
+        given.append((path, OCTET_STRING))
         return bytes(value).hex()
-    if isinstance(value, dict):
-        return {name: _json_of(part) for name, part in value.items()}
+    if isinstance(value, dict) and all(isinstance(name, str) for name in value):
+        return {name: _json_of(part, f"{path}.{name}", given) for name, part in value.items()}
     if isinstance(value, list):
-        return [_json_of(part) for part in value]
+        return [_json_of(part, f"{path}[{index}]", given) for index, part in enumerate(value)]
     if isinstance(value, tuple) and len(value) == 2 and isinstance(value[0], str):
-        return {value[0]: _json_of(value[1])}
-    if isinstance(value, tuple) and len(value) == 2 and isinstance(value[0], (bytes, bytearray)):
-        return "".join(f"{octet:08b}" for octet in value[0])[: value[1]]
-    return value
+        given.append((path, CHOICE))
+        return {value[0]: _json_of(value[1], f"{path}.{value[0]}", given)}
+    if isinstance(value, tuple) and len(value) == 2 and isinstance(value[0], BYTES):
+        given.append((path, BIT_STRING))
+        return _bits_of(bytes(value[0]), value[1], path)
+    if value is None or isinstance(value, (bool, int, str)):
+        return value
+    raise EncodeError(f"{path}: no kind of value is given by this {type(value).__name__}")
+
+
+def _bits_of(octets, count, path):
+    """The bits of a BIT STRING as JSON has them. What the last octet has behind them is passed over."""
+    if isinstance(count, bool) or not isinstance(count, int) or count < 0 or len(octets) != (count + 7) // 8:
+        raise EncodeError(f"{path}: {count!r} is no number of bits that fill {len(octets)} octets")
+    return "".join(f"{octet:08b}" for octet in octets)[:count]
 
 
 class Session(_Held):
@@ -353,9 +398,9 @@ class Session(_Held):
         """Takes the next piece: the value whose encoding ends in it, and how many octets of the piece belong to that; None
         where the octets so far are no whole encoding, and one may still follow. Raises DecodeError at the first unit
         after which none can."""
-        value, used, fault = Value(), ctypes.c_size_t(), Fault()
+        value, used, fault, piece = Value(), ctypes.c_size_t(), Fault(), _octets(piece)
         with self.lock:
-            code = _library.tulvorn_feed(self.handle, bytes(piece), len(piece), value.handle, used, fault)
+            code = _library.tulvorn_feed(self.handle, piece, len(piece), value.handle, used, fault)
         if code == MORE:
             return None
         _look(DecodeError, code, fault, self.rules)
@@ -384,41 +429,39 @@ class Type(_Held):
         other = Type()
         with self.lock:
             code = _library.tulvorn_share(self.handle, other.handle)
-        if code != DONE:
-            raise MemoryError
+        _look(TulvornError, code, Fault(code))
         return other
 
     def check(self, octets, rules="per"):
         """Raises DecodeError where the octets are no encoding of a value of the type."""
-        fault, rules = Fault(), _rules(rules)
+        fault, rules, octets = Fault(), _rules(rules), _octets(octets)
         with self.lock:
-            code = _library.tulvorn_check(self.handle, rules, bytes(octets), len(octets), fault)
+            code = _library.tulvorn_check(self.handle, rules, octets, len(octets), fault)
         _look(DecodeError, code, fault, rules)
 
     def decode(self, octets, rules="per"):
-        value, fault, rules = Value(), Fault(), _rules(rules)
+        value, fault, rules, octets = Value(), Fault(), _rules(rules), _octets(octets)
         with self.lock:
-            code = _library.tulvorn_decode(self.handle, rules, bytes(octets), len(octets), value.handle, fault)
+            code = _library.tulvorn_decode(self.handle, rules, octets, len(octets), value.handle, fault)
         _look(DecodeError, code, fault, rules)
         return value
 
     def explain(self, octets, rules="per"):
         """Why the octets are no encoding, with the component in which that shows; None where they are one."""
-        words = _Held()
+        words, rules, octets = _Held(), _rules(rules), _octets(octets)
         with self.lock:
-            code = _library.tulvorn_explain(self.handle, _rules(rules), bytes(octets), len(octets), words.handle)
-        if code != DONE:
-            raise MemoryError
+            code = _library.tulvorn_explain(self.handle, rules, octets, len(octets), words.handle)
+        _look(TulvornError, code, Fault(code))
         return words.copied().decode() or None
 
     def read_newer(self, octets, rules="per"):
         """What a receiver of this type reads of a message whose sender's type has more or fewer extension additions:
         the value, and for each field that the type has not a pair of its index among the additions, from 0, and its
         octets."""
-        value, fields, fault, rules = Value(), _Held(), Fault(), _rules(rules)
+        value, fields, fault, rules, octets = Value(), _Held(), Fault(), _rules(rules), _octets(octets)
         with self.lock:
             code = _library.tulvorn_read_newer(
-                self.handle, rules, bytes(octets), len(octets), value.handle, fields.handle, fault
+                self.handle, rules, octets, len(octets), value.handle, fields.handle, fault
             )
         _look(DecodeError, code, fault, rules)
         count = ctypes.c_size_t()
@@ -427,9 +470,9 @@ class Type(_Held):
 
     def convert(self, octets, rules="per"):
         """The octets by the other rules of the value whose encoding by these rules the octets are."""
-        other, fault, rules = _Held(), Fault(), _rules(rules)
+        other, fault, rules, octets = _Held(), Fault(), _rules(rules), _octets(octets)
         with self.lock:
-            code = _library.tulvorn_convert(self.handle, rules, bytes(octets), len(octets), other.handle, fault)
+            code = _library.tulvorn_convert(self.handle, rules, octets, len(octets), other.handle, fault)
         _look(DecodeError, code, fault, rules)
         return other.copied()
 
@@ -452,11 +495,12 @@ class Type(_Held):
 
     def misfit(self, value):
         """The first part of a value, also of another type, that does not fit this type, and why; None where it fits."""
+        if not isinstance(value, Value):
+            raise TypeError(f"a Value is wanted, and this is a {type(value).__name__}")
         words = _Held()
         with self.lock, value.lock:
             code = _library.tulvorn_misfit(self.handle, value.handle, words.handle)
-        if code != DONE:
-            raise MemoryError
+        _look(TulvornError, code, Fault(code))
         return words.copied().decode() or None
 
     def open(self, rules="per"):
@@ -464,13 +508,21 @@ class Type(_Held):
         session = Session(_rules(rules))
         with self.lock:
             code = _library.tulvorn_open(self.handle, session.rules, session.handle)
-        if code != DONE:
-            raise MemoryError
+        _look(TulvornError, code, Fault(code))
         return session
 
     def of(self, value):
         """A value of the type from the kinds of Python."""
-        return self.from_json(json.dumps(_json_of(value)))
+        given = []
+        try:
+            shown = json.dumps(_json_of(value, "$", given))
+        except (RecursionError, ValueError):
+            raise EncodeError("a value that goes too deep, or an int of too many digits") from None
+        made = self.from_json(shown)
+        for path, kind in given:
+            if (found := made.kind(path)) != kind:
+                raise EncodeError(f"{path}: {GIVEN[kind]}, and the type has {KINDS[found]} there")
+        return made
 
 
 def _explained(text):
@@ -512,6 +564,7 @@ class Specification(_Held):
 
     def decode_with_length(self, name, octets, rules=None):
         """The value that the octets begin with, and how many of them are its encoding."""
+        octets = _octets(octets)
         try:
             return self.decode(name, octets, rules), len(octets)
         except DecodeError as fault:
@@ -526,10 +579,10 @@ def compile_string(text, rules="per"):
 
 
 def compile_files(files, rules="per"):
-    """The module of a file, or of one text in several files."""
+    """The module of a file, or of one text in several files, an LF after each but the last."""
     texts = []
     for name in [files] if isinstance(files, (str, os.PathLike)) else files:
-        with open(name, encoding="utf-8") as it:
+        with open(name, encoding="utf-8", newline="") as it:
             texts.append(it.read())
     return Specification("\n".join(texts), rules)
 

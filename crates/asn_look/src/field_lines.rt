@@ -8,6 +8,7 @@ use crate::explaining::why_refused;
 use crate::fault::ShowFault;
 use crate::fronts::front_len;
 use crate::looking::written;
+use crate::streams::{Next, next_message};
 use asn_fields::{MessageFields, PAGE_END, fields, page_head, page_note};
 use asn_jobs::{OctetForm, Order, Place, RuleName, RunFault, next_text, octets_in, place_text};
 use asn_oer::Oer;
@@ -95,14 +96,16 @@ fn show_input<'a, R: BufRead>(
     input: &mut R,
     so_far: &mut SoFar,
 ) -> Result<(), ShowFault<'a>> {
+    if shown.forms.is_split && shown.forms.given == Some(OctetForm::Binary) {
+        return show_stream(rt, shown, file, input, so_far);
+    }
     let mut text = Vec::new(rt.alloc());
     let mut lines = 0;
     for _ in 0..u64::MAX {
         let line = match next_text(input, shown.forms.given, &mut text, &mut lines) {
             Ok(Some(line)) => line,
             Ok(None) => return Ok(()),
-            Err(RunFault::Read) if !file.is_empty() => return Err(ShowFault::Unread(file)),
-            Err(fault) => return Err(ShowFault::from(fault)),
+            Err(fault) => return Err(fault_in(file, fault)),
         };
         let place = Place {
             file,
@@ -113,6 +116,46 @@ fn show_input<'a, R: BufRead>(
     }
     // (more texts than 64 bits count)
     Err(ShowFault::Memory)
+}
+
+/// Shows messages that stand one after the other in an input, each as soon as its last octet is there. After octets that
+/// are refused nothing is read.
+fn show_stream<'a, R: BufRead>(
+    rt: &HostRuntime,
+    shown: Shown<'_>,
+    file: &'a str,
+    input: &mut R,
+    so_far: &mut SoFar,
+) -> Result<(), ShowFault<'a>> {
+    let mut octets = Vec::new(rt.alloc());
+    for message in 1..u64::MAX {
+        let next = match next_message(rt.alloc(), input, shown.ty, shown.rules, &mut octets) {
+            Ok(next) => next,
+            Err(fault) => return Err(fault_in(file, fault)),
+        };
+        if next == Next::End {
+            return Ok(());
+        }
+        let place = Place {
+            file,
+            line: 1,
+            message,
+        };
+        show_message(rt, shown, place, octets.as_slice(), so_far)?;
+        if next == Next::Last {
+            return Ok(());
+        }
+    }
+    // (more messages than 64 bits count)
+    Err(ShowFault::Memory)
+}
+
+/// The fault of an input, whose name is that of its file, or empty for standard input.
+fn fault_in<'a>(file: &'a str, fault: RunFault) -> ShowFault<'a> {
+    match fault {
+        RunFault::Read if !file.is_empty() => ShowFault::Unread(file),
+        fault => ShowFault::from(fault),
+    }
 }
 
 /// Shows the message of a text, or the messages that stand in it one after the other.

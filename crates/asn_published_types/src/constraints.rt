@@ -5,12 +5,12 @@ ghost use Rattle.asn_published_types.specs.Left.{IsLeft};
 use crate::info::{Base, State};
 use crate::numbers::{Scope, Values};
 use crate::places::{after_table, after_unseen, mark_at, root_end};
-use crate::seen::{Mode, Seen, both_of, either_of, exception, intersection};
+use crate::seen::{Mode, Seen, both_of, either_of, every_number, exception, intersection};
 use asn_published_text::places::{is_and, is_contained, is_or};
 use asn_published_text::refusal::{Refusal, Why, refused};
 use asn_published_text::token::Sign;
 use asn_published_text::tokens::next;
-use std::alloc::Global;
+use std::alloc::{AllocError, Global};
 
 /// How deep constraints are read: four levels for each parenthesis.
 const MOST_LEVELS: u32 = 96;
@@ -129,7 +129,7 @@ impl<'a, 't> Values<'a, 't> {
             return Err(refused(tokens.line(at), Why::Constraint));
         }
         let (seen, behind) = if tokens.is_word(at, "ALL") {
-            (Seen::all(), next(at))
+            (all_seen(alloc, mode)?, next(at))
         } else {
             self.element_seen(alloc, scope, mode, at, levels - 1)?
         };
@@ -247,6 +247,15 @@ impl<'a, 't> Values<'a, 't> {
         // a constraint of which nothing is seen makes no type extensible
         seen.marked = (seen.marked || marked) && !seen.is_unseen();
         Ok(seen)
+    }
+}
+
+/// What ALL leaves: of numbers each, as MIN..MAX does.
+fn all_seen(alloc: Global, mode: Mode) -> Result<Seen, AllocError> {
+    if mode == Mode::Numbers {
+        Seen::numbers(alloc, every_number())
+    } else {
+        Ok(Seen::all())
     }
 }
 

@@ -324,7 +324,7 @@ impl<'a, 't> Values<'a, 't> {
         }
     }
 
-    /// The number at `at`, and the index after it.
+    /// The number at `at`, and the index after it. A named number counts before a parameter, and that before other names.
     pub fn number_at(&self, scope: Scope, at: usize) -> Result<(i128, usize), Refusal> {
         let Some(tokens) = self.world.tokens_of(scope.module) else {
             return Err(refused(0, Why::Value));
@@ -338,17 +338,17 @@ impl<'a, 't> Values<'a, 't> {
             return Err(refused(line, Why::Value));
         }
         let name = tokens.text(at);
-        match self.parameter(scope, name) {
-            Ok(Some(number)) => return Ok((number, next(at))),
-            Ok(None) => {}
-            Err(why) => return Err(refused(line, why)),
-        }
         if let Some((module, braces)) = scope.named {
             match self.named(module, braces, name) {
                 Ok(Some(number)) => return Ok((number, next(at))),
                 Ok(None) => {}
                 Err(why) => return Err(refused(line, why)),
             }
+        }
+        match self.parameter(scope, name) {
+            Ok(Some(number)) => return Ok((number, next(at))),
+            Ok(None) => {}
+            Err(why) => return Err(refused(line, why)),
         }
         match self.plain_number(scope.module, at) {
             Some(found) => Ok(found),

@@ -143,7 +143,7 @@ pub(crate) fn union(alloc: Global, a: Seen, b: Seen, line: u32) -> Result<Seen, 
 }
 
 /// The range without bounds.
-fn every_number() -> Range {
+pub(crate) fn every_number() -> Range {
     Range {
         low: None,
         high: None,

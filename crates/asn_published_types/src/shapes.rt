@@ -2,6 +2,7 @@
 use crate::building::{Forest, Task};
 use crate::classes::{Field, field_at};
 use crate::instances::{Actual, Instance, are_as_many};
+use crate::places::{after_table, after_unseen, root_end};
 use crate::tags::is_tag;
 use asn_published_text::class_fields::is_class_field;
 use asn_published_text::modules::{What, World};
@@ -68,6 +69,9 @@ impl<'t> Forest<'t> {
         };
         match field_at(world, tokens, it.module, at, first, name) {
             Ok(Field::Open) => Ok(Some(Shape::Open)),
+            Ok(Field::Type { .. }) if !are_unseen(tokens, it.constraints, it.end) => {
+                Ok(Some(Shape::Refused(Why::Constraint)))
+            }
             Ok(Field::Type { module, start, end }) => {
                 let type_of_values = Actual {
                     module,
@@ -253,6 +257,28 @@ impl<'t> Forest<'t> {
         }
         Ok(())
     }
+}
+
+/// Whether the encoding rules see nothing of the constraints from `start` to before `end`: tables, and those that no rule
+/// sees.
+fn are_unseen(tokens: &Tokens<'_>, start: usize, end: usize) -> bool {
+    let mut at = start;
+    for _ in 0..tokens.len() {
+        if at >= end {
+            break;
+        }
+        let inside = next(at);
+        let behind = if tokens.is(inside, Sign::LeftBrace) {
+            Some(after_table(tokens, inside))
+        } else {
+            after_unseen(tokens, inside)
+        };
+        if behind != Some(root_end(tokens, inside, tokens.other(at))) {
+            return false;
+        }
+        at = tokens.after(at);
+    }
+    true
 }
 
 /// Whether an element of a constraint may begin after the item at `at`.

@@ -54,6 +54,17 @@ pub(crate) fn keeps_codes(kind: Letters, left: &Ranges) -> bool {
     }
 }
 
+/// Whether each character of a kind of string is left.
+pub(crate) fn are_all_left(kind: Letters, left: &Ranges) -> bool {
+    for code in 0..128u8 {
+        let code = i128::from(code);
+        if has_letter(kind, code) && !is_left(kind, left, code) {
+            return false;
+        }
+    }
+    true
+}
+
 /// The profile's name of a kind of string.
 pub(crate) fn name_of(kind: Letters) -> &'static str {
     match kind {

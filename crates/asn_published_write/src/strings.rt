@@ -1,6 +1,6 @@
 //! Writes INTEGER and strings, with what their constraints leave.
 use crate::known::Known;
-use crate::letters::{keeps_codes, name_of};
+use crate::letters::{are_all_left, keeps_codes, name_of};
 use crate::widths::{is_one_number, is_zero};
 use crate::writer::Writer;
 use asn_published_text::nodes::{Letters, Node, Shape};
@@ -230,7 +230,7 @@ impl<'t> Writer<'t> {
             if seen.marked || !keeps_codes(kind, letters) {
                 return Err(refused(line, Why::Alphabet));
             }
-            are_all = kind == Letters::Numeric;
+            are_all &= are_all_left(kind, letters);
         }
         if !are_all {
             self.remark(alloc, known, index, Remark::Characters)?;

@@ -7,7 +7,8 @@ Of the messages of `examples`, of values that `example` gives, of messages that 
 the fields are all units, one after the other, up to the last or to the refused one; what is marked of them are the bits of
 the octets; the values that they say are those of the JSON that `show` writes; the last line tells of a refusal what `show`
 does; and the page of HTML has the same bits and lines, each field in one colour and its neighbours in others. Of types: the
-names are those that stand in the text of the module, and the sizes of messages are within those that are told. What
+names are those that stand in the text of the module, the sizes of messages are within those that are told, and these are
+the least and the greatest. What
 `example` gives is encoded, and is the value again.
 """
 import base64
@@ -307,6 +308,41 @@ def types(count, program):
                 count.add(is_within, f"{name} {one} {rules}: {sizes} in {low}..{high}")
 
 
+# types with the sizes of their values, worked out by hand from X.691 and X.696: in PER in bits, in OER and of a message in
+# PER in octets
+SIZES = (
+    ("SEQUENCE { a BOOLEAN, ... }", "2", "2", "1"),
+    ("SEQUENCE { ... }", "1", "1", "1"),
+    ("SEQUENCE { a BOOLEAN, ..., b NULL OPTIONAL }", "2..26", "2..6", "1..4"),
+    ("OCTET STRING (SIZE (127..MAX))", "1024..", "128..", "128.."),
+    ("OCTET STRING (SIZE (200..MAX))", "1616..", "202..", "202.."),
+    ("SEQUENCE (SIZE (200..MAX)) OF BOOLEAN", "216..", "202..", "27.."),
+    ("OCTET STRING (SIZE (16384..MAX))", "131088..", "16387..", "16386.."),
+    ("BIT STRING (SIZE (65535..MAX))", "65552..", "8196..", "8194.."),
+    ("BIT STRING (SIZE (1..4, ...))", "4..", "2..", "1.."),
+    ("BIT STRING (SIZE (0..65535, ...))", "17..", "2..", "3.."),
+    ("INTEGER (MIN..-1000)", "24..72", "3..9", "3..9"),
+    ("INTEGER (MIN..5)", "16..72", "2..9", "2..9"),
+    ("INTEGER (1000..MAX)", "16..72", "3..9", "2..9"),
+    ("INTEGER (7..MAX, ...)", "17..73", "2..10", "3..10"),
+    ("INTEGER (-1000..1000, ...)", "12..81", "2..10", "2..11"),
+    ("SEQUENCE { a ENUMERATED { p(0), q(300) } DEFAULT q }", "1..2", "1..2", "1"),
+    ("SEQUENCE { a ENUMERATED { p(0), q(300) } DEFAULT p }", "1..2", "1..4", "1"),
+    ("ENUMERATED { a, b, ... }", "2", "1", "1"),
+    ("CHOICE { a NULL, ..., b BOOLEAN }", "1..24", "1..3", "1..3"),
+    ("SEQUENCE (SIZE (65535)) OF " * 4 + "OCTET STRING (SIZE (65535))", "18446744073709551615..", "18446744073709551615..",
+     "2305843009213693952.."),
+)
+
+
+def sizes(count, program):
+    for notation, *wanted in SIZES:
+        text = f"M DEFINITIONS AUTOMATIC TAGS ::= BEGIN T ::= {notation} END"
+        told = run([program, "types", "T"], text.encode())[1].decode().splitlines()
+        shown = [*COLUMNS.split(told[1].strip())[-2:], re.search(r"has (\S+) octets", told[-1])[1]] if told[2:] else told
+        count.add(shown == wanted, f"{notation}: {shown}, not {wanted}")
+
+
 def extent(text):
     """The least and the greatest number of `N`, `N..M` or `N..`."""
     low, dots, high = text.partition("..")
@@ -364,6 +400,7 @@ def main(words):
         messages(count, program)
         forms(count, program, room)
         types(count, program)
+        sizes(count, program)
         examples(count, program)
         published(count, program)
     print(f"{count.passed} passed, {count.failed} failed")

@@ -230,7 +230,6 @@ fn components_octets(fields: &[Field]) -> (u64, Extent) {
 fn others_octets(ty: &AsnType, default: &Value) -> Extent {
     match (ty, default) {
         (AsnType::Enum { root, ext: None }, Value::Enum(index)) => items_but(root, *index as usize),
-        (AsnType::Int(bounds), _) if is_one_number(bounds) => Extent::fixed(0),
         _ => octets_of(ty),
     }
 }
@@ -246,13 +245,6 @@ fn items_but(items: &[Item], but: usize) -> Extent {
     any.unwrap_or(Extent::fixed(0))
 }
 
-/// Whether the root has one number alone, and there is no extension marker.
-fn is_one_number(bounds: &Bounds) -> bool {
-    match (bounds.low, bounds.high) {
-        (Some(low), Some(high)) => low == high && !bounds.ext,
-        _ => false,
-    }
-}
 
 /// Of components after a preamble of this many bits.
 fn with_preamble(bits: u64, components: Extent) -> Extent {

@@ -6,7 +6,7 @@ usage: tests/streaming.py PROGRAM      a built asn_tool
 The answers to the messages of `examples` are those to the same messages after a line `====`, in each order and under both
 rules, whole and cut into pieces of few octets; an answer comes before the next line is written; the memory of the program
 does not grow with its input; and what stops it is told. With --explain standard output is the same. Of messages that stand
-one after the other without lines (--in binary --split) each is answered once its last octet has come. With --stats a
+one after the other without lines (--in binary --split) each is answered once its last octet has come, also by `fields`. With --stats a
 terminal is told how many messages are answered so far, and nothing else is.
 """
 import os
@@ -178,6 +178,21 @@ def octets_as_they_come(count, program, file):
     count.add(used.ru_maxrss < 20_000, f"21 MB among octets: {used.ru_maxrss} KB")
 
 
+def fields_as_they_come(count, program, file):
+    """A message among octets is shown by its fields before the next octets are written."""
+    words = [program, "fields", "--type", "T", "--rules", "per", "--module", file]
+    ran = subprocess.Popen([*words, "--in", "binary", "--split"], stdin=subprocess.PIPE, stdout=subprocess.PIPE)
+    between = b""
+    for octets in (b"\x50", b"\xd0\x2a\xab\xb0", b"\x0f"):
+        wanted = between + run(words, octets.hex().encode() + b"\n")[1]
+        os.write(ran.stdin.fileno(), octets)
+        shown = ran.stdout.read(len(wanted))
+        count.add(shown == wanted, f"fields of {octets} among octets: {shown}")
+        between = b"\n"
+    ran.stdin.close()
+    count.add(ran.wait() == 1 and ran.stdout.read() == b"", "the end of the octets whose fields come")
+
+
 def told_on_a_terminal(count, program, file):
     """With --stats standard error has a line that is written again and again, where it is a terminal, and takes it away."""
     words = [program, "check", "--type", "T", "--rules", "per", "--module", file, "--stats"]
@@ -235,6 +250,7 @@ def main(words):
         over_budget(count, program)
         as_they_come(count, program, file)
         octets_as_they_come(count, program, file)
+        fields_as_they_come(count, program, file)
         told_on_a_terminal(count, program, file)
         memory(count, program, file)
         faults(count, program, file)

@@ -245,7 +245,6 @@ fn items_but(items: &[Item], but: usize) -> Extent {
     any.unwrap_or(Extent::fixed(0))
 }
 
-
 /// Of components after a preamble of this many bits.
 fn with_preamble(bits: u64, components: Extent) -> Extent {
     Extent::fixed(bits.div_ceil(8)).and(components)

@@ -171,6 +171,14 @@ def _look(kind, code, fault, rules=PER):
         raise kind(_words(fault, rules), fault)
 
 
+def _look_part(code, path):
+    if code == NO_PATH:
+        raise KeyError(path)
+    if code == OTHER_KIND:
+        raise TypeError(f"{path or '$'} is of another kind")
+    _look(TulvornError, code, Fault(code))
+
+
 def _rules(rules):
     if isinstance(rules, bool) or rules not in RULES:
         raise ValueError(f"no encoding rules: {rules!r}")
@@ -230,13 +238,10 @@ class Value(_Held):
         return text.copied().decode()
 
     def _part(self, function, path, out, *between):
-        path = path.encode()
+        octets = path.encode()
         with self.lock:
-            code = function(self.handle, path, len(path), *between, out)
-        if code in (NO_PATH, NOT_TEXT):
-            raise KeyError(path.decode())
-        if code != DONE:
-            raise TypeError(f"{path.decode() or '$'} is of another kind")
+            code = function(self.handle, octets, len(octets), *between, out)
+        _look_part(code, path)
         return out.value
 
     def _string(self, function, path):
@@ -247,10 +252,7 @@ class Value(_Held):
             room = ctypes.create_string_buffer(max(1, needed.value))
             if code == TOO_SHORT:
                 code = function(self.handle, octets, len(octets), room, needed.value, needed)
-        if code in (NO_PATH, NOT_TEXT):
-            raise KeyError(path)
-        if code != DONE:
-            raise TypeError(f"{path or '$'} is of another kind")
+        _look_part(code, path)
         return room.raw[: needed.value]
 
     def kind(self, path=""):
@@ -279,7 +281,7 @@ class Value(_Held):
 
     def _count_of_bits(self, path):
         if self.kind(path) != BIT_STRING:
-            raise TypeError(f"{path or '$'} is of another kind")
+            _look_part(OTHER_KIND, path)
         return self.count(path)
 
     def octets(self, path):

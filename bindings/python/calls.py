@@ -160,15 +160,24 @@ def values_given(spec):
     for given in ({"key": "00ff", "bits": "101"}, {"key": memoryview(b"\x00\xff"), "bits": (bytearray(b"\xa0"), 3)}):
         assert kinds.of(given).value() == {"key": b"\x00\xff", "bits": (b"\xa0", 3)}
     assert spec.encode("All", {**ALL, "one": {"number": 200}}) == spec.encode("All", ALL)
-    for levels in (300, 3000):
-        deep = []
-        for _ in range(levels):
-            deep = [deep]
-        assert raised(tulvorn.EncodeError, lambda: kinds.of({"list": deep}))
     circle = []
     circle.append(circle)
-    assert raised(tulvorn.EncodeError, lambda: kinds.of({"list": circle}))
+    for name, given in (
+        ("list", nested(300)), ("list", nested(3000)), ("list", circle), ("word", "\ud800"), ("row", 10**400),
+    ):
+        assert "that goes too deep" in str(raised(tulvorn.EncodeError, lambda: kinds.of({name: given})))
     assert raised(tulvorn.EncodeError, lambda: spec.encode("Wide", 10**5000))
+    for given in ({"id": 1, "other": 2}, {"id": 1, "note": None}, {}, {"id": True}, {"id": "1"}):
+        assert raised(tulvorn.EncodeError, lambda: spec.encode("Msg", given)).code == tulvorn.SHAPE
+    for given in ({"id": 8}, {"id": 1, "note": "four"}, {"id": 1, "note": "\u00e4"}):
+        assert raised(tulvorn.EncodeError, lambda: spec.encode("Msg", given)).code == tulvorn.NOT_OF_TYPE
+
+
+def nested(levels):
+    deep = []
+    for _ in range(levels):
+        deep = [deep]
+    return deep
 
 
 def bits_and_paths(spec):
@@ -178,6 +187,9 @@ def bits_and_paths(spec):
     assert [value.bit("bits", index) for index in range(3)] == [True, False, True]
     for index in (2**64, 3, -1):
         assert raised(IndexError, lambda: value.bit("bits", index))
+    assert raised(TypeError, lambda: value.bit("bits", 1.5)) and raised(TypeError, lambda: value.bit("bits", "1"))
+    assert raised(TypeError, lambda: value[b"far"]) and raised(TypeError, lambda: value.integer(None))
+    assert value.count("word") == 2 and value.count("list") == 2 and value.count("one") == 0
     for path in ("[\u00b2]", "list[\u00b2]", "list[2]", "list[0000000000]", "far.x", "other", "$$far"):
         assert raised(KeyError, lambda: value[path])
     for path in ("$.list[1].id", "list.1.id", "..list[000000001]..id."):
@@ -284,6 +296,7 @@ def versions(spec):
         assert value["c"] == item and value["d"] == ("?1", None) and [place for place, _ in fields] == [0]
         assert raised(TypeError, lambda: value.name("c")) and raised(TypeError, lambda: value.name("d"))
         assert raised(tulvorn.EncodeError, value.encode).code == tulvorn.NOT_OF_TYPE
+        assert raised(tulvorn.DecodeError, lambda: spec.decode("Seen", octets, rules)).code == tulvorn.REFUSED
     assert old.explain(b"\x00") is None
     assert spec.type("Msg").explain(b"\xac") == "refused at bit 6 in $.ok: default"
 

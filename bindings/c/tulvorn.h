@@ -63,24 +63,27 @@ enum {
     TULVORN_REFUSED = 3,            /* no encoding begins so: `at` is the first unit after which none can */
     TULVORN_TRUNCATED = 4,          /* an encoding may still follow: `at` units were taken */
     TULVORN_REST = 5,               /* the first `at` octets are an encoding, and more follow */
-    TULVORN_TOO_LONG = 6,           /* more than 268,435,455 octets */
+    TULVORN_TOO_LONG = 6,           /* of octets: the first 268,435,455 are no encoding, and only a longer one may begin
+                                       so; of a value: its encoding would have more than these; of tulvorn_read_newer:
+                                       the octets are more than these, whatever they are */
     TULVORN_TOO_SHORT = 7,          /* the caller's octets are fewer than those to be written */
     TULVORN_NOT_TEXT = 8,           /* a text is not UTF-8 */
     TULVORN_NO_MODULE = 9,          /* the text is no module: `why` below, `at` an octet of it, from 0, or 0 */
     TULVORN_NO_NAME = 10,           /* the module has no type of that name */
     TULVORN_NOT_OF_TYPE = 11,       /* the value is none of the type */
-    TULVORN_NO_JSON = 12,           /* the text is no JSON */
+    TULVORN_NO_JSON = 12,           /* the text is no JSON in UTF-8, or has a number past what is read, as 1e400, half
+                                       of a surrogate pair, or more than 127 levels */
     TULVORN_SHAPE = 13,             /* the JSON is not of the shape of the type */
     TULVORN_NO_PATH = 14,           /* the value has no part there, or it is absent and has no DEFAULT */
     TULVORN_OTHER_KIND = 15,        /* the part there is of another kind */
     /* of tulvorn_read_newer alone: */
-    TULVORN_NO_MESSAGE = 16,        /* no message of any version begins so */
+    TULVORN_NO_MESSAGE = 16,        /* no message of any version begins so, or more octets follow one */
     TULVORN_CUT_MESSAGE = 17,       /* the octets end before a message of any version does */
     TULVORN_TOO_MANY_ADDITIONS = 18, /* a count of additions, the index or tag of an alternative, or the index of an
                                         item, past those of the profile */
     /* of tulvorn_feed alone: */
     TULVORN_MORE = 19,              /* the octets so far are no whole encoding, and one may still follow */
-    TULVORN_SPENT = 20              /* the session has given its value, or wanted memory, before */
+    TULVORN_SPENT = 20              /* the session has given its value, or answered NO_MEMORY, before */
 };
 
 /* ---- why, where octets are TULVORN_REFUSED: what was being read */
@@ -89,8 +92,8 @@ enum {
                               is no UTF-8 */
     TULVORN_DEFAULT = 2,   /* the value of a component with a DEFAULT */
     TULVORN_LENGTH = 3,    /* a length or a quantity */
-    TULVORN_EXTENSION = 4, /* an extension bit, or the count of extension additions, their presence bits or, in OER, what
-                              fills these up */
+    TULVORN_EXTENSION = 4, /* an extension bit, or the count of extension additions, their presence bits or, in OER,
+                              what fills these up */
     TULVORN_CHARACTER = 5, /* a character of a string */
     TULVORN_PADDING = 6,   /* the zeros that fill an octet; of a BIT STRING in OER also how many there are */
     TULVORN_NUMBER = 7     /* anything else */
@@ -107,8 +110,12 @@ enum {
     TULVORN_OUT_OF_PROFILE = 7  /* a word, a number or a constraint that the profile does not have, at `at` */
 };
 
-/* What a call answered: the code that it returns, and with some codes a reason and a place. Units are bits of PER and
-   octets of OER, counted from 1. */
+/* What a call answered: the code that it returns, of REFUSED and NO_MODULE the reason `why`, and of some codes `at`;
+   else they are 0. Units are bits of PER and octets of OER. `at` is
+     - of REFUSED a unit, counted from 1;
+     - of TRUNCATED a number of units;
+     - of REST and TOO_SHORT a number of octets, by both rules;
+     - of NO_MODULE, where the reason has a place, an octet of the text, counted from 0. */
 typedef struct tulvorn_fault {
     uint32_t code, why;
     uint64_t at;
@@ -120,8 +127,8 @@ typedef struct tulvorn_fault {
    Answers NOT_TEXT, NO_MODULE, NO_MEMORY. */
 uint32_t tulvorn_module(const uint8_t *text, size_t len, tulvorn_handle *module, tulvorn_fault *fault);
 
-/* Puts into `words`, as octets, why the text is no module: the line and the column, what could stand there, and the line
-   itself with a mark, in some lines of text. No octets where it is one. Answers NOT_TEXT, NO_MEMORY. */
+/* Puts into `words`, as octets, why the text is no module: the line and the column, what could stand there, and the
+   line itself with a mark, in some lines of text. No octets where it is one. Answers NOT_TEXT, NO_MEMORY. */
 uint32_t tulvorn_explain_module(const uint8_t *text, size_t len, tulvorn_handle *words);
 
 /* Puts the type that the module assigns to the name into `type`. It outlives the module, which is as it was.
@@ -186,15 +193,21 @@ uint32_t tulvorn_feed(tulvorn_handle *session, const uint8_t *piece, size_t len,
 
 /* Ends the session, and lets go of it: `session` holds nothing then. DONE where the octets that it took are a whole
    encoding, as after DONE of tulvorn_feed; TRUNCATED where they are none: `at` is how many units were taken while an
-   encoding could still follow, also of a session that answered REFUSED. Takes no memory. Answers MISUSE where `session`
-   holds no session, and then it is as it was. */
+   encoding could still follow, also of a session that answered REFUSED or TOO_LONG.
+   DONE does not say that a value was given: DONE of tulvorn_feed alone says that. After NO_MEMORY of tulvorn_feed no
+   value comes any more, since each further piece is answered SPENT, and this call is DONE all the same where the octets
+   taken are a whole encoding: those up to the end of the value where only putting it into `value` wanted memory, else
+   those before that piece. A session that took no octet is DONE where the encoding of a value has none, as that of
+   NULL in OER. Takes no memory. Answers MISUSE where `session` holds no session, and then it is as it was. */
 uint32_t tulvorn_finish(tulvorn_handle *session, tulvorn_fault *fault);
 
 /* ---- messages of newer and older senders, whose version of the type has more or fewer extension additions */
 
 /* Puts into `value` what a receiver of this type reads of the message, and into `skipped` the fields that the type has
-   not. An item or alternative that the type has not stands in the value as such; such a value has JSON and no encoding.
-   Answers NO_MESSAGE, CUT_MESSAGE, TOO_MANY_ADDITIONS, TOO_LONG, NO_MEMORY. */
+   not. An item or alternative that the type has not stands in the value as such. Such a value has no encoding, and
+   tulvorn_name answers OTHER_KIND there; its JSON tells the number, as `"?2"` of an item, by PER its index among the
+   additions, from 0, and by OER its number, and as `{"?1":null}` of an alternative its index, root before additions,
+   from 0. Answers NO_MESSAGE, CUT_MESSAGE, TOO_MANY_ADDITIONS, TOO_LONG, NO_MEMORY. */
 uint32_t tulvorn_read_newer(tulvorn_handle *type, uint32_t rules, const uint8_t *octets, size_t len,
                             tulvorn_handle *value, tulvorn_handle *skipped, tulvorn_fault *fault);
 
@@ -213,8 +226,9 @@ uint32_t tulvorn_skipped(tulvorn_handle *skipped, size_t index, uint32_t *place,
    NOT_OF_TYPE, NO_MEMORY. */
 uint32_t tulvorn_to_json(tulvorn_handle *value, tulvorn_handle *json, tulvorn_fault *fault);
 
-/* Puts the value of the type that the JSON shows into `value`. Answers MISUSE where `type` holds no type, NO_JSON,
-   SHAPE, NOT_OF_TYPE, NO_MEMORY. */
+/* Puts the value of the type that the JSON shows into `value`. An INTEGER is shown by a number without fraction and
+   exponent, from -2^63 to 2^64 - 1; any other number, `-0` too, is not of its SHAPE. Of members with one name the last
+   counts. Answers MISUSE where `type` holds no type, NO_JSON, SHAPE, NOT_OF_TYPE, NO_MEMORY. */
 uint32_t tulvorn_from_json(tulvorn_handle *type, const uint8_t *json, size_t len, tulvorn_handle *value,
                            tulvorn_fault *fault);
 
@@ -231,11 +245,12 @@ uint32_t tulvorn_misfit(tulvorn_handle *type, tulvorn_handle *value, tulvorn_han
    Answers MISUSE where `type` holds no type, NO_JSON, NO_MEMORY. */
 uint32_t tulvorn_explain_json(tulvorn_handle *type, const uint8_t *json, size_t len, tulvorn_handle *words);
 
-/* ---- the parts of a value, by a path such as coreData.speed or path[3].x. The path is cut at each `.`, `[` and `]`; a
-   piece of digits is the index of an element, counted from 0, and any other the name of a component or of the chosen
-   alternative; an absent component is its DEFAULT. The empty path is the value itself. No call here takes memory. Each
-   answers MISUSE where `value` holds no value, NOT_TEXT, NO_PATH, and OTHER_KIND where the part is of another kind
-   than the call is for; the part is not told then. */
+/* ---- the parts of a value, by a path such as coreData.speed or path[3].x. A `$` at the very front is passed over. The
+   path is cut at each `.`, `[` and `]`; an empty piece is passed over, one of digits, of which there are at most nine,
+   is the index of an element, counted from 0, and any other the name of a component or of the chosen alternative; an
+   absent component is its DEFAULT. The empty path is the value itself. No call here takes memory. Each answers MISUSE
+   where `value` holds no value, NOT_TEXT, NO_PATH, and OTHER_KIND where the part is of another kind than the call is
+   for; the part is not told then. */
 
 /* ---- kinds */
 enum {
@@ -257,8 +272,8 @@ uint32_t tulvorn_kind(tulvorn_handle *value, const uint8_t *path, size_t len, ui
 /* The value of a BOOLEAN, 0 or 1, in `truth`. */
 uint32_t tulvorn_boolean(tulvorn_handle *value, const uint8_t *path, size_t len, uint32_t *truth);
 
-/* The value of an INTEGER, in `number`: of one that is no more than INT64_MAX. OTHER_KIND too where it is greater, which
-   tulvorn_unsigned tells. */
+/* The value of an INTEGER, in `number`: of one that is no more than INT64_MAX. OTHER_KIND too where it is greater,
+   which tulvorn_unsigned tells. */
 uint32_t tulvorn_integer(tulvorn_handle *value, const uint8_t *path, size_t len, int64_t *number);
 
 /* The value of an INTEGER, in `number`: of one that is not below 0. OTHER_KIND too where it is, which tulvorn_integer
@@ -284,7 +299,9 @@ uint32_t tulvorn_octets(tulvorn_handle *value, const uint8_t *path, size_t len, 
 uint32_t tulvorn_text(tulvorn_handle *value, const uint8_t *path, size_t len, uint8_t *into, size_t room,
                       size_t *needed);
 
-/* The name of the item of an ENUMERATED, or of the chosen alternative of a CHOICE. */
+/* The name of the item of an ENUMERATED, or of the chosen alternative of a CHOICE. OTHER_KIND too of an item or
+   alternative that the type has not (in a value of tulvorn_read_newer): it has no name here, and JSON tells its number,
+   as `"?2"` and `{"?1":null}`. */
 uint32_t tulvorn_name(tulvorn_handle *value, const uint8_t *path, size_t len, uint8_t *into, size_t room,
                       size_t *needed);
 

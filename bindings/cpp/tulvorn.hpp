@@ -1,8 +1,8 @@
 // Tulvorn for C++17: handles that close themselves, and faults as exceptions. Header only, over tulvorn.h and its
 // library.
 //
-// A Module, Type, Value or Session is moved and not copied; Type::share makes another of a type, for another thread. No object
-// is used by two threads at once. A call that does not do what it was asked for throws tulvorn::Fault, or
+// A Module, Type, Value or Session is moved and not copied; Type::share makes another of a type, for another thread. No
+// object is used by two threads at once. A call that does not do what it was asked for throws tulvorn::Fault, or
 // std::bad_alloc where an allocation failed; the functions that end in _if answer instead.
 #ifndef TULVORN_HPP
 #define TULVORN_HPP
@@ -84,7 +84,8 @@ inline std::string words_of(const tulvorn_fault &fault, Rules rules) {
 
 }  // namespace detail
 
-// Why a call did not do what it was asked for: its code, reason and place are those of tulvorn.h.
+// Why a call did not do what it was asked for: its code, reason and place are those of tulvorn.h, which says of each
+// code what its place counts, and from where.
 class Fault : public std::runtime_error {
   public:
     Fault(const tulvorn_fault &fault, Rules rules) : Fault(fault, detail::words_of(fault, rules)) {}
@@ -109,7 +110,7 @@ inline void look(uint32_t code) { look(code, tulvorn_fault{code, 0, 0}); }
 
 }  // namespace detail
 
-// A value beside its type. Its parts are told by paths, as coreData.speed or path[3].x.
+// A value beside its type. Its parts are told by paths, as coreData.speed or path[3].x: see tulvorn.h.
 class Value {
   public:
     Octets encode(Rules rules) const {
@@ -178,7 +179,8 @@ class Value {
     }
     Octets octets(std::string_view path) const { return string_at<Octets>(tulvorn_octets, path); }
     std::string text(std::string_view path) const { return string_at<std::string>(tulvorn_text, path); }
-    // The name of the item of an ENUMERATED, or of the chosen alternative of a CHOICE.
+    // The name of the item of an ENUMERATED, or of the chosen alternative of a CHOICE. Of one that the type has not, in
+    // a value of Type::read_newer, it throws TULVORN_OTHER_KIND: JSON tells its number, as "?2" and {"?1":null}.
     std::string name(std::string_view path) const { return string_at<std::string>(tulvorn_name, path); }
 
   private:
@@ -207,13 +209,15 @@ struct Skipped {
     Octets octets;
 };
 
-// What is read of a message of a newer or older sender.
+// What is read of a message of a newer or older sender. A value with an item or alternative that the type has not has
+// JSON and no encoding: see tulvorn_read_newer.
 struct Newer {
     Value value;
     std::vector<Skipped> skipped;
 };
 
-// What a session answers to a piece in which its message ends: the value, and how many octets of the piece belong to it.
+// What a session answers to a piece in which its message ends: the value, and how many octets of the piece belong to
+// it.
 struct Fed {
     Value value;
     size_t used;
@@ -222,7 +226,8 @@ struct Fed {
 // A message whose octets come in pieces: see tulvorn_feed. It outlives its type.
 class Session {
   public:
-    // Takes the next piece. Nothing where the octets so far are no whole encoding, and one may still follow.
+    // Takes the next piece. Nothing where the octets so far are no whole encoding, and one may still follow. After
+    // std::bad_alloc no value comes any more: each further piece is TULVORN_SPENT.
     std::optional<Fed> feed(OctetsView piece) {
         Fed fed{{}, 0};
         tulvorn_fault fault;
@@ -232,7 +237,8 @@ class Session {
         detail::look(code, fault, rules_);
         return fed;
     }
-    // Ends the session: throws where the octets that it took are no whole encoding.
+    // Ends the session: throws where the octets that it took are no whole encoding. That it does not throw does not say
+    // that a value was given, which feed alone says: see tulvorn_finish.
     void finish() {
         tulvorn_fault fault;
         uint32_t code = tulvorn_finish(held_.get(), &fault);

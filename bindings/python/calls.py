@@ -3,8 +3,12 @@
 usage: python3 bindings/python/calls.py
 """
 
+import array
+import copy
 import doctest
 import os
+import pickle
+import tempfile
 import threading
 
 import tulvorn
@@ -17,6 +21,11 @@ All ::= SEQUENCE { far INTEGER, colour ENUMERATED { red, green }, key OCTET STRI
 Old ::= SEQUENCE { a BOOLEAN, ... }
 Low ::= SEQUENCE { id INTEGER (0..3), ok BOOLEAN DEFAULT TRUE, note IA5String (SIZE (0..3)) OPTIONAL }
 Wide ::= INTEGER
+Kinds ::= SEQUENCE { word IA5String OPTIONAL, wide UTF8String OPTIONAL, digits NumericString OPTIONAL,
+    bits BIT STRING OPTIONAL, key OCTET STRING OPTIONAL, item ENUMERATED { aa } OPTIONAL,
+    row SEQUENCE { number INTEGER } OPTIONAL, list SEQUENCE OF BOOLEAN OPTIONAL }
+Sent ::= SEQUENCE { c ENUMERATED { red, ..., green, blue }, d CHOICE { x NULL, ..., y NULL, z INTEGER } }
+Seen ::= SEQUENCE { c ENUMERATED { red, ... }, d CHOICE { x NULL, ... } }
 END"""
 
 
@@ -61,17 +70,19 @@ def examples():
     return count
 
 
+ALL = {
+    "far": -70000000000, "colour": "green", "key": b"\x00\xff", "bits": (b"\xa0", 3), "one": ("number", 200),
+    "list": [{"id": 5, "ok": True, "note": "A"}, {"id": 0, "ok": False}], "word": "\u00e4",
+}
+
+
 def parts():
     spec = tulvorn.compile_string(TEXT)
-    given = {
-        "far": -70000000000, "colour": "green", "key": b"\x00\xff", "bits": (b"\xa0", 3), "one": ("number", 200),
-        "list": [{"id": 5, "ok": True, "note": "A"}, {"id": 0, "ok": False}], "word": "\u00e4",
-    }
     for rules in ("per", "oer"):
-        octets = spec.encode("All", given, rules)
-        assert spec.decode("All", octets, rules) == given
-        assert spec.decode_with_length("All", octets + b"\x00", rules) == (given, len(octets))
-    value = spec.type("All").of(given)
+        octets = spec.encode("All", ALL, rules)
+        assert spec.decode("All", octets, rules) == ALL
+        assert spec.decode_with_length("All", octets + b"\x00", rules) == (ALL, len(octets))
+    value = spec.type("All").of(ALL)
     assert value["list[0].ok"] is True and value["list[0].note"] == "A" and value["one"] == ("number", 200)
     assert value["bits"] == (b"\xa0", 3) == value.bits("bits") and value["key"] == b"\x00\xff" == value.octets("key")
     assert value.name("colour") == "green" and value.text("word") == "\u00e4" and value.integer("far") == -70000000000
@@ -91,6 +102,122 @@ def wide_integers(spec):
         assert raised(tulvorn.EncodeError, lambda: spec.encode("Wide", number)).code == tulvorn.SHAPE
 
 
+class Odd:
+    """It has octets, and no buffer."""
+
+    def __len__(self):
+        return 2
+
+    def __bytes__(self):
+        return b"\x01\x05"
+
+
+def octets_given(spec):
+    """Octets are those of a buffer, and of nothing else."""
+    wide, octets = spec.type("Wide"), b"\x01\x05"
+    calls = (
+        wide.decode, wide.check, wide.explain, wide.read_newer, wide.convert, lambda it: wide.open().feed(it),
+        lambda it: spec.decode("Wide", it), lambda it: spec.decode_with_length("Wide", it),
+    )
+    buffers = (bytearray(octets), memoryview(octets), memoryview(b"\x01\xff\x05")[::2], array.array("H", octets))
+    for it in buffers:
+        assert wide.decode(it)[""] == 5 and wide.check(it) is None and wide.explain(it) is None
+        assert wide.read_newer(it)[0][""] == 5 and wide.convert(it) == octets and wide.open().feed(it)[1] == 2
+        assert spec.decode("Wide", it) == 5 and spec.decode_with_length("Wide", it) == (5, 2)
+    assert spec.decode_with_length("Wide", bytearray(b"\x01\x05\x00")) == (5, 2)
+    for it in (Odd(), 2, "28", None, [1, 5]):
+        for call in calls:
+            assert raised(TypeError, lambda: call(it))
+
+
+# what is no value of the component, and what the words of the fault say of the component
+NO_VALUES = (
+    ("word", b"A", "$.word: bytes, and the type has a character string there"),
+    ("wide", b"A", "$.wide: bytes, and the type has a character string there"),
+    ("digits", b"A", "$.digits: bytes, and the type has a character string there"),
+    ("bits", b"\x11", "$.bits: bytes, and the type has a BIT STRING there"),
+    ("bits", b"A", "not of the type's shape at $.bits"),
+    ("item", b"\xaa", "$.item: bytes, and the type has an ENUMERATED there"),
+    ("key", (b"\xff", 8), "$.key: bytes with a number of bits, and the type has an OCTET STRING there"),
+    ("word", (b"A", 8), "$.word: bytes with a number of bits, and the type has a character string there"),
+    ("row", ("number", 5), "$.row: a pair with a name, and the type has a SEQUENCE there"),
+    ("bits", (b"A", 100), "$.bits: 100 is no number of bits that fill 1 octets"),
+    ("bits", (b"A", -1), "$.bits: -1 is no number of bits that fill 1 octets"),
+    ("bits", (b"A", None), "$.bits: None is no number of bits that fill 1 octets"),
+    ("bits", (b"", 5), "$.bits: 5 is no number of bits that fill 0 octets"),
+    ("list", {True}, "$.list: no kind of value is given by this set"),
+    ("row", {"number": 1.0}, "$.row.number: no kind of value is given by this float"),
+    ("row", {"number": float("nan")}, "$.row.number: no kind of value is given by this float"),
+    ("row", {b"number": 1}, "$.row: no kind of value is given by this dict"),
+)
+
+
+def values_given(spec):
+    """What is no value of the type is refused, and the fault names its path."""
+    kinds = spec.type("Kinds")
+    for name, given, words in NO_VALUES:
+        assert str(raised(tulvorn.EncodeError, lambda: kinds.of({name: given}))) == words, (name, given)
+    for given in ({"key": "00ff", "bits": "101"}, {"key": memoryview(b"\x00\xff"), "bits": (bytearray(b"\xa0"), 3)}):
+        assert kinds.of(given).value() == {"key": b"\x00\xff", "bits": (b"\xa0", 3)}
+    assert spec.encode("All", {**ALL, "one": {"number": 200}}) == spec.encode("All", ALL)
+    circle = []
+    circle.append(circle)
+    for name, given in (
+        ("list", nested(300)), ("list", nested(3000)), ("list", circle), ("word", "\ud800"), ("row", 10**400),
+    ):
+        assert "that goes too deep" in str(raised(tulvorn.EncodeError, lambda: kinds.of({name: given})))
+    assert raised(tulvorn.EncodeError, lambda: spec.encode("Wide", 10**5000))
+    for given in ({"id": 1, "other": 2}, {"id": 1, "note": None}, {}, {"id": True}, {"id": "1"}):
+        assert raised(tulvorn.EncodeError, lambda: spec.encode("Msg", given)).code == tulvorn.SHAPE
+    for given in ({"id": 8}, {"id": 1, "note": "four"}, {"id": 1, "note": "\u00e4"}):
+        assert raised(tulvorn.EncodeError, lambda: spec.encode("Msg", given)).code == tulvorn.NOT_OF_TYPE
+
+
+def nested(levels):
+    deep = []
+    for _ in range(levels):
+        deep = [deep]
+    return deep
+
+
+def bits_and_paths(spec):
+    value = spec.type("All").of(ALL)
+    for path in ("far", "one", "key", "list", "word", ""):
+        assert raised(TypeError, lambda: value.bits(path)) and raised(TypeError, lambda: value.bit(path, 0))
+    assert [value.bit("bits", index) for index in range(3)] == [True, False, True]
+    for index in (2**64, 3, -1):
+        assert raised(IndexError, lambda: value.bit("bits", index))
+    assert raised(TypeError, lambda: value.bit("bits", 1.5)) and raised(TypeError, lambda: value.bit("bits", "1"))
+    assert raised(TypeError, lambda: value[b"far"]) and raised(TypeError, lambda: value.integer(None))
+    assert value.count("word") == 2 and value.count("list") == 2 and value.count("one") == 0
+    for path in ("[\u00b2]", "list[\u00b2]", "list[2]", "list[0000000000]", "far.x", "other", "$$far"):
+        assert raised(KeyError, lambda: value[path])
+    for path in ("$.list[1].id", "list.1.id", "..list[000000001]..id."):
+        assert value[path] == 0 == value.integer(path)
+
+
+def not_copied(spec):
+    msg = spec.type("Msg")
+    for held in (spec, msg, msg.of({"id": 1}), msg.open()):
+        for call in (copy.copy, copy.deepcopy, pickle.dumps):
+            assert raised(TypeError, lambda: call(held))
+
+
+def misuse(spec):
+    """Objects that were made by hand hold nothing, and each call on one says so."""
+    msg, none, value = spec.type("Msg"), tulvorn.Type(), tulvorn.Value()
+    calls = (
+        none.share, none.open, lambda: none.check(b""), lambda: none.explain(b""), lambda: none.read_newer(b""),
+        lambda: none.of({}), lambda: none.explain_json("{}"), lambda: msg.misfit(value), value.encode, value.to_json,
+        value.kind, value.count, value.value, lambda: value.integer("id"), lambda: value.text("note"),
+        lambda: value["id"],
+    )
+    for call in calls:
+        assert raised(tulvorn.TulvornError, call).code == tulvorn.MISUSE
+    for it in (msg, spec, {"id": 1}, None):
+        assert raised(TypeError, lambda: msg.misfit(it))
+
+
 def faults(spec):
     fault = raised(tulvorn.DecodeError, lambda: spec.decode("Msg", b"\xac"))
     assert (fault.code, fault.at, fault.why, str(fault)) == (3, 6, "default", "refused at bit 6: default")
@@ -98,10 +225,39 @@ def faults(spec):
     assert raised(tulvorn.EncodeError, lambda: spec.encode("Msg", {"id": 9})).code == tulvorn.NOT_OF_TYPE
     assert raised(tulvorn.EncodeError, lambda: spec.encode("Msg", {})).code == tulvorn.SHAPE
     assert raised(tulvorn.ModuleError, lambda: tulvorn.compile_string("M")).at == 1
-    unknown = raised(tulvorn.ModuleError, lambda: tulvorn.compile_string("M DEFINITIONS AUTOMATIC TAGS ::= BEGIN\nT ::= U END"))
-    assert str(unknown).startswith("line 2, column 7: "), unknown
     assert raised(KeyError, lambda: spec.type("Other"))
-    assert raised(ValueError, lambda: spec.encode("Msg", {"id": 1}, "ber"))
+    for rules in ("ber", "PER", 2, True, False):
+        assert raised(ValueError, lambda: spec.encode("Msg", {"id": 1}, rules))
+        assert raised(ValueError, lambda: spec.type("Msg").decode(b"\x28", rules))
+
+
+# an assignment that no module has: why, and the place in the octets of the text
+NO_MODULES = (
+    ("T ::= % END", "bad character", 6), ("T ::= { END", "unexpected", 6), ("T ::= U END", "unknown", None),
+    ("T ::= T END", "cycle", None), ("T ::= NULL T ::= NULL END", "twice", None),
+    ("T ::= REAL END", "out of profile", 6), ("T ::= CHOICE { a NULL, a NULL } END", "bad type", None),
+)
+
+
+def no_modules():
+    head = "M DEFINITIONS AUTOMATIC TAGS ::= BEGIN\n"
+    for text, why, at in NO_MODULES:
+        fault = raised(tulvorn.ModuleError, lambda: tulvorn.compile_string(head + text))
+        assert (fault.code, fault.why) == (tulvorn.NO_MODULE, why) and str(fault).startswith("line 2, column "), text
+        assert fault.at == (0 if at is None else len(head) + at), text
+
+
+def files():
+    """A file whose lines end with CR and LF is read as it stands: each place counts its octets."""
+    text = "M DEFINITIONS AUTOMATIC TAGS ::= BEGIN\r\n-- \u00e4\r\nT ::= BOOLEAN\r\n".encode()
+    with tempfile.TemporaryDirectory() as folder:
+        good, bad = os.path.join(folder, "good.asn"), os.path.join(folder, "bad.asn")
+        for name, end in ((good, b"END\r\n"), (bad, b"% END\r\n")):
+            with open(name, "wb") as it:
+                it.write(text + end)
+        assert tulvorn.compile_files(good).decode("T", b"\x80") is True
+        fault = raised(tulvorn.ModuleError, lambda: tulvorn.compile_files([bad]))
+        assert (fault.why, fault.at) == ("bad character", len(text)) and "line 4, column 1: " in str(fault)
 
 
 def sessions(spec):
@@ -133,6 +289,14 @@ def versions(spec):
     value, fields = old.read_newer(b"\x80\xff\x02\x07\x80\x01\x2a", "oer")
     assert value["a"] is True and fields == [(0, b"\x2a")]
     assert raised(tulvorn.DecodeError, lambda: old.read_newer(b"\x80", "oer")).code == tulvorn.CUT_MESSAGE
+    for rules, item in (("per", "?0"), ("oer", "?1")):
+        octets = spec.encode("Sent", {"c": "green", "d": ("y", None)}, rules)
+        value, fields = spec.type("Seen").read_newer(octets, rules)
+        assert value.value() == {"c": item, "d": ("?1", None)}
+        assert value["c"] == item and value["d"] == ("?1", None) and [place for place, _ in fields] == [0]
+        assert raised(TypeError, lambda: value.name("c")) and raised(TypeError, lambda: value.name("d"))
+        assert raised(tulvorn.EncodeError, value.encode).code == tulvorn.NOT_OF_TYPE
+        assert raised(tulvorn.DecodeError, lambda: spec.decode("Seen", octets, rules)).code == tulvorn.REFUSED
     assert old.explain(b"\x00") is None
     assert spec.type("Msg").explain(b"\xac") == "refused at bit 6 in $.ok: default"
 
@@ -159,6 +323,13 @@ if __name__ == "__main__":
     spec = parts()
     wide_integers(spec)
     faults(spec)
+    no_modules()
+    files()
+    octets_given(spec)
+    values_given(spec)
+    bits_and_paths(spec)
+    not_copied(spec)
+    misuse(spec)
     sessions(spec)
     misfits(spec)
     versions(spec)

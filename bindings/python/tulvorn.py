@@ -13,13 +13,18 @@ file, or libtulvorn.so.1 where the system's linker finds it. `compile_string`, `
 
 Values are as in JSON, with the kinds of Python where it has them: BOOLEAN is a bool, NULL None, INTEGER an int,
 ENUMERATED the name of the item, BIT STRING a pair of bytes and the number of bits, OCTET STRING bytes, a character
-string a str, SEQUENCE a dict, SEQUENCE OF a list, CHOICE a pair of the name and the value. A dict that is given may lack
-the components with OPTIONAL or DEFAULT; one that is told lacks those that are absent and have no DEFAULT. A value may be
-given in the form of JSON too: a str of hexadecimal digits for an OCTET STRING, of 0 and 1 for a BIT STRING, and a dict of
-one name for a CHOICE. An item or alternative of a newer sender that the type has not is told by its number: '?2', or the
-pair ('?1', None).
+string a str, SEQUENCE a dict, SEQUENCE OF a list, CHOICE a pair of the name and the value. A dict that is given may
+lack the components with OPTIONAL or DEFAULT; one that is told lacks those that are absent and have no DEFAULT, and is
+in alphabetical order. In the place of bytes a bytearray or memoryview may be given, and a value in the form of JSON
+too: a str of hexadecimal digits for an OCTET STRING, of 0 and 1 for a BIT STRING, and a dict of one name for a CHOICE.
+An item or alternative of a newer sender that the type has not is told by its number: '?2', or the pair ('?1', None); by
+PER the number of an item is its index among the additions, from 0.
 
-Octets may be bytes or what else has a buffer, as bytearray, memoryview and array do.
+Rules are "per" or "uper", "oer", PER or OER; a call that is given others raises ValueError. Octets may be bytes or what
+else has a buffer, as bytearray, memoryview and array do. What has none raises TypeError, and so does a text, a name or
+a path that is no str; one with half of a surrogate pair raises UnicodeEncodeError. Where an allocation failed, a call
+raises MemoryError. What is made by hand, as Value(), holds nothing, and nor does a session that has ended: a call on it
+raises TulvornError, with the code MISUSE. What else a call raises stands with it.
 
 One object may be used by several threads: each has a lock of its own. `Type.share` makes another of a type, which two
 threads then use at once. No object is copied or pickled.
@@ -27,6 +32,7 @@ threads then use at once. No object is copied or pickled.
 
 import ctypes
 import json
+import operator
 import os
 import threading
 
@@ -38,11 +44,13 @@ __all__ = [
 PER, OER = 0, 1
 RULES = {"per": PER, "uper": PER, "oer": OER, PER: PER, OER: OER}
 
+# the codes of the library, of which `TulvornError.code` is one: tulvorn.h says what each is
 (
     DONE, NO_MEMORY, MISUSE, REFUSED, TRUNCATED, REST, TOO_LONG, TOO_SHORT, NOT_TEXT, NO_MODULE, NO_NAME, NOT_OF_TYPE,
     NO_JSON, SHAPE, NO_PATH, OTHER_KIND, NO_MESSAGE, CUT_MESSAGE, TOO_MANY_ADDITIONS, MORE, SPENT,
 ) = range(21)
 
+# the kinds of types, of which `Value.kind` gives one
 (
     BOOLEAN, NULL, INTEGER, ENUMERATED, BIT_STRING, OCTET_STRING, CHARACTER_STRING, SEQUENCE, SEQUENCE_OF, CHOICE,
 ) = range(1, 11)
@@ -133,8 +141,9 @@ _library = _loaded()
 
 
 class TulvornError(Exception):
-    """Why a call did not do what it was asked for: the code of the library, the reason `why` in a word or two, or none,
-    and the place `at`. Of a value that was refused before the library was asked, code and place are None."""
+    """Why a call did not do what it was asked for, in words, with the code of the library, as `tulvorn.REFUSED`, the
+    reason `why` in a word or two, or '' where there is none, and the place `at`. Where `Type.of` refuses a value, and
+    not the library, code and place are None."""
 
     def __init__(self, words, fault=None):
         super().__init__(words)
@@ -148,9 +157,10 @@ class ModuleError(TulvornError):
 
 
 class DecodeError(TulvornError):
-    """Octets are no encoding: refused (REFUSED) at the unit `at`, a bit of PER or an octet of OER, counted from 1; or cut
-    short (TRUNCATED) after `at` units; or more octets follow the first `at` (REST). With every other code `at` is 0: they
-    are too long, no message of any version (`Type.read_newer`), or come after a session has ended."""
+    """Octets are no encoding: refused (REFUSED) at the unit `at`, a bit of PER or an octet of OER, counted from 1; or
+    cut short (TRUNCATED) after `at` units; or more octets follow the first `at`, by both rules (REST). With every other
+    code `at` is 0: they are too long, no message of any version (`Type.read_newer`), or come after a session has
+    ended."""
 
 
 class EncodeError(TulvornError):
@@ -171,10 +181,25 @@ def _look(kind, code, fault, rules=PER):
         raise kind(_words(fault, rules), fault)
 
 
+def _look_part(code, path):
+    if code == NO_PATH:
+        raise KeyError(path)
+    if code == OTHER_KIND:
+        raise TypeError(f"{path or '$'} is of another kind")
+    _look(TulvornError, code, Fault(code))
+
+
 def _rules(rules):
     if isinstance(rules, bool) or rules not in RULES:
         raise ValueError(f"no encoding rules: {rules!r}")
     return RULES[rules]
+
+
+def _text(given):
+    """The octets of a text."""
+    if not isinstance(given, str):
+        raise TypeError(f"a str is wanted, and this is a {type(given).__name__}")
+    return given.encode()
 
 
 def _octets(given):
@@ -206,9 +231,18 @@ class _Held:
 
 
 class Value(_Held):
-    """A value beside its type. Its parts are told by paths, as `coreData.speed` or `path[3].x`."""
+    """A value beside its type, which `Type` and `Session` give.
+
+    Its parts are told by paths, as `coreData.speed` or `path[3].x`. A `$` at the very front is passed over. The path is
+    cut at each `.`, `[` and `]`; an empty piece is passed over, one of at most nine digits is the index of an element,
+    counted from 0, and any other the name of a component or of the chosen alternative. An absent component is its
+    DEFAULT. The empty path is the value itself. A call on a part raises KeyError where the value has none there, or it
+    is absent and has no DEFAULT, and TypeError where it is of another kind than the call is for.
+    """
 
     def encode(self, rules="per"):
+        """The encoding, as bytes. Raises EncodeError where there is none: of a value of `Type.read_newer` with an item
+        or an alternative that the type has not, or where it would have more than 268,435,455 octets."""
         octets, fault, rules = _Held(), Fault(), _rules(rules)
         with self.lock:
             code = _library.tulvorn_encode(self.handle, rules, octets.handle, fault)
@@ -216,6 +250,7 @@ class Value(_Held):
         return octets.copied()
 
     def encoded_len(self, rules="per"):
+        """How many octets the encoding has, which is not made. Raises as `encode` does."""
         size, fault, rules = ctypes.c_size_t(), Fault(), _rules(rules)
         with self.lock:
             code = _library.tulvorn_encoded_len(self.handle, rules, size, fault)
@@ -223,6 +258,7 @@ class Value(_Held):
         return size.value
 
     def to_json(self):
+        """The JSON of the value, as a str without blanks, its members in alphabetical order."""
         text, fault = _Held(), Fault()
         with self.lock:
             code = _library.tulvorn_to_json(self.handle, text.handle, fault)
@@ -230,46 +266,46 @@ class Value(_Held):
         return text.copied().decode()
 
     def _part(self, function, path, out, *between):
-        path = path.encode()
+        octets = _text(path)
         with self.lock:
-            code = function(self.handle, path, len(path), *between, out)
-        if code in (NO_PATH, NOT_TEXT):
-            raise KeyError(path.decode())
-        if code != DONE:
-            raise TypeError(f"{path.decode() or '$'} is of another kind")
+            code = function(self.handle, octets, len(octets), *between, out)
+        _look_part(code, path)
         return out.value
 
     def _string(self, function, path):
         needed = ctypes.c_size_t()
-        octets = path.encode()
+        octets = _text(path)
         with self.lock:
             code = function(self.handle, octets, len(octets), None, 0, needed)
             room = ctypes.create_string_buffer(max(1, needed.value))
             if code == TOO_SHORT:
                 code = function(self.handle, octets, len(octets), room, needed.value, needed)
-        if code in (NO_PATH, NOT_TEXT):
-            raise KeyError(path)
-        if code != DONE:
-            raise TypeError(f"{path or '$'} is of another kind")
+        _look_part(code, path)
         return room.raw[: needed.value]
 
     def kind(self, path=""):
+        """The kind of the part's type, from `tulvorn.BOOLEAN` to `tulvorn.CHOICE`."""
         return self._part(_library.tulvorn_kind, path, ctypes.c_uint32())
 
     def integer(self, path):
+        """The int of an INTEGER."""
         try:
             return self._part(_library.tulvorn_integer, path, ctypes.c_int64())
         except TypeError:
             return self._part(_library.tulvorn_unsigned, path, ctypes.c_uint64())
 
     def boolean(self, path):
+        """The bool of a BOOLEAN."""
         return bool(self._part(_library.tulvorn_boolean, path, ctypes.c_uint32()))
 
     def count(self, path=""):
+        """How many elements a SEQUENCE OF has, or bits, octets or characters a string, of a UTF8String octets; 0 of a
+        part of another kind."""
         return self._part(_library.tulvorn_count, path, ctypes.c_size_t())
 
     def bit(self, path, index):
-        """The bit of a BIT STRING at the index, from 0; IndexError where there are not so many."""
+        """The bit of a BIT STRING at the index, from 0, as a bool. Raises IndexError where there are not so many."""
+        index = operator.index(index)
         if not 0 <= index < self._count_of_bits(path):
             raise IndexError(index)
         return self._bit(path, index)
@@ -279,20 +315,25 @@ class Value(_Held):
 
     def _count_of_bits(self, path):
         if self.kind(path) != BIT_STRING:
-            raise TypeError(f"{path or '$'} is of another kind")
+            _look_part(OTHER_KIND, path)
         return self.count(path)
 
     def octets(self, path):
+        """The bytes of an OCTET STRING."""
         return self._string(_library.tulvorn_octets, path)
 
     def text(self, path):
+        """The str of a character string."""
         return self._string(_library.tulvorn_text, path).decode()
 
     def name(self, path):
+        """The name of the item of an ENUMERATED, or of the chosen alternative of a CHOICE. TypeError too of one that
+        the type has not, in a value of `Type.read_newer`: `value` tells its number."""
         return self._string(_library.tulvorn_name, path).decode()
 
     def bits(self, path):
-        """A BIT STRING: its bits, eight an octet, the first in the highest place, and how many they are."""
+        """The pair of a BIT STRING: its bits as bytes, eight an octet, the first in the highest place, and zeros behind
+        the last, and how many they are."""
         count = self._count_of_bits(path)
         octets = bytearray((count + 7) // 8)
         for index in range(count):
@@ -301,7 +342,8 @@ class Value(_Held):
         return bytes(octets), count
 
     def __getitem__(self, path):
-        """The part at the path, by its kind. All of the value is made for a part that has parts itself."""
+        """The part at the path, by the kinds of Python. All of the value is made for a SEQUENCE, SEQUENCE OF or CHOICE,
+        and nothing else for a part without parts. Raises KeyError."""
         read = READ.get(self.kind(path))
         if read:
             try:
@@ -315,7 +357,7 @@ class Value(_Held):
         return self._of(shown, at)
 
     def value(self):
-        """The value, by its kinds."""
+        """All of the value, by the kinds of Python."""
         return self._of(json.loads(self.to_json()), "")
 
     def _of(self, shown, path):
@@ -348,11 +390,12 @@ KINDS = (
 )
 GIVEN = {OCTET_STRING: "bytes", BIT_STRING: "bytes with a number of bits", CHOICE: "a pair with a name"}
 BYTES = (bytes, bytearray, memoryview)
+NO_JSON_OF = "a value that goes too deep, an int of too many digits, or a str with half of a surrogate pair"
 
 
 def _json_of(value, path, given):
-    """The JSON of a value that is told by the kinds of Python; `given` takes the path and the kind of each part whose kind
-    the JSON does not tell."""
+    """The JSON of a value that is told by the kinds of Python; `given` takes the path and the kind of each part whose
+    kind the JSON does not tell."""
     if isinstance(value, BYTES):
         given.append((path, OCTET_STRING))
         return bytes(value).hex()
@@ -379,7 +422,7 @@ def _bits_of(octets, count, path):
 
 
 class Session(_Held):
-    """A message whose octets come in pieces, from `Type.open`. It outlives its type.
+    """A message whose octets come in pieces, from `Type.open`. It outlives its type, and is for one message.
 
     >>> text = "M DEFINITIONS AUTOMATIC TAGS ::= BEGIN T ::= SEQUENCE { a INTEGER (0..255), b INTEGER (0..255) } END"
     >>> session = compile_string(text).type("T").open()
@@ -395,9 +438,10 @@ class Session(_Held):
         self.rules = rules
 
     def feed(self, piece):
-        """Takes the next piece: the value whose encoding ends in it, and how many octets of the piece belong to that; None
-        where the octets so far are no whole encoding, and one may still follow. Raises DecodeError at the first unit
-        after which none can."""
+        """Takes the next piece, octets, and gives a pair of the Value whose encoding ends in it and how many octets of
+        the piece belong to that; None where the octets so far are no whole encoding, and one may still follow. Raises
+        DecodeError: REFUSED, at the first unit of the message after which none can follow, and TOO_LONG, both again for
+        each further piece; SPENT after a value, or after MemoryError."""
         value, used, fault, piece = Value(), ctypes.c_size_t(), Fault(), _octets(piece)
         with self.lock:
             code = _library.tulvorn_feed(self.handle, piece, len(piece), value.handle, used, fault)
@@ -407,7 +451,9 @@ class Session(_Held):
         return value, used.value
 
     def finish(self):
-        """Ends the session: raises DecodeError where the octets that it took are no whole encoding."""
+        """Ends the session. Raises DecodeError where the octets that it took are no whole encoding: TRUNCATED, after
+        the units that were taken while one could still follow, also where a piece was refused. That it raises nothing
+        does not say that a value was given, which `feed` alone does: after MemoryError of `feed` there is none."""
         fault = Fault()
         with self.lock:
             code = _library.tulvorn_finish(self.handle, fault)
@@ -423,9 +469,10 @@ def _skipped(fields, index):
 
 
 class Type(_Held):
-    """A type of a module. It outlives the module."""
+    """A type of a module, from `Specification.type`. It outlives the module."""
 
     def share(self):
+        """Another object of the same type, for another thread."""
         other = Type()
         with self.lock:
             code = _library.tulvorn_share(self.handle, other.handle)
@@ -433,13 +480,15 @@ class Type(_Held):
         return other
 
     def check(self, octets, rules="per"):
-        """Raises DecodeError where the octets are no encoding of a value of the type."""
+        """Raises DecodeError where the octets are no encoding of a value of the type: REFUSED, TRUNCATED, REST,
+        TOO_LONG."""
         fault, rules, octets = Fault(), _rules(rules), _octets(octets)
         with self.lock:
             code = _library.tulvorn_check(self.handle, rules, octets, len(octets), fault)
         _look(DecodeError, code, fault, rules)
 
     def decode(self, octets, rules="per"):
+        """The Value whose encoding the octets are. Raises as `check` does."""
         value, fault, rules, octets = Value(), Fault(), _rules(rules), _octets(octets)
         with self.lock:
             code = _library.tulvorn_decode(self.handle, rules, octets, len(octets), value.handle, fault)
@@ -447,7 +496,8 @@ class Type(_Held):
         return value
 
     def explain(self, octets, rules="per"):
-        """Why the octets are no encoding, with the component in which that shows; None where they are one."""
+        """Why the octets are no encoding of a value of the type, and the component in which that shows, as a str:
+        `refused at bit 6 in $.ok: default`; None where they are one."""
         words, rules, octets = _Held(), _rules(rules), _octets(octets)
         with self.lock:
             code = _library.tulvorn_explain(self.handle, rules, octets, len(octets), words.handle)
@@ -455,9 +505,10 @@ class Type(_Held):
         return words.copied().decode() or None
 
     def read_newer(self, octets, rules="per"):
-        """What a receiver of this type reads of a message whose sender's type has more or fewer extension additions:
-        the value, and for each field that the type has not a pair of its index among the additions, from 0, and its
-        octets."""
+        """What a receiver of this type reads of a message whose sender's type has more or fewer extension additions: a
+        pair of the Value, and a list with a pair for each field that the type has not, of its index among the
+        additions, from 0, and its octets, as bytes. Where the value has an item or an alternative that the type has
+        not, it has JSON and no encoding. Raises DecodeError: NO_MESSAGE, CUT_MESSAGE, TOO_MANY_ADDITIONS, TOO_LONG."""
         value, fields, fault, rules, octets = Value(), _Held(), Fault(), _rules(rules), _octets(octets)
         with self.lock:
             code = _library.tulvorn_read_newer(
@@ -469,7 +520,8 @@ class Type(_Held):
         return value, [_skipped(fields, index) for index in range(count.value)]
 
     def convert(self, octets, rules="per"):
-        """The octets by the other rules of the value whose encoding by these rules the octets are."""
+        """The octets, as bytes, by the other rules of the value whose encoding by these rules the octets are. Raises as
+        `check` does; TOO_LONG also where those by the other rules would be too many."""
         other, fault, rules, octets = _Held(), Fault(), _rules(rules), _octets(octets)
         with self.lock:
             code = _library.tulvorn_convert(self.handle, rules, octets, len(octets), other.handle, fault)
@@ -477,7 +529,10 @@ class Type(_Held):
         return other.copied()
 
     def from_json(self, text):
-        value, fault, octets = Value(), Fault(), text.encode()
+        """The Value that the JSON shows, which is a str. Raises EncodeError: NO_JSON, SHAPE, whose words have the first
+        place where it is not of the shape of the type, NOT_OF_TYPE where the shape is right, and a number, a length or
+        a character is out of bounds."""
+        value, fault, octets = Value(), Fault(), _text(text)
         with self.lock:
             code = _library.tulvorn_from_json(self.handle, octets, len(octets), value.handle, fault)
         if code == SHAPE:
@@ -486,15 +541,18 @@ class Type(_Held):
         return value
 
     def explain_json(self, text):
-        """Why the JSON shows no value of the type, with the first place where that shows; None where it shows one."""
-        words, octets = _Held(), text.encode()
+        """Why the JSON, which is a str, shows no value of the type, as a str: `not of the type's shape at $.ok`, with
+        the first place where it is not, or `not of the type`, where the shape is right; None where it shows one. Raises
+        EncodeError where it is no JSON."""
+        words, octets = _Held(), _text(text)
         with self.lock:
             code = _library.tulvorn_explain_json(self.handle, octets, len(octets), words.handle)
         _look(EncodeError, code, Fault(code))
         return words.copied().decode() or None
 
     def misfit(self, value):
-        """The first part of a value, also of another type, that does not fit this type, and why; None where it fits."""
+        """The first part of a Value, also of another type, that does not fit this type, and why, as a str:
+        `$.id: 5 is not in 0..3`; None where it fits. Raises TypeError where it is no Value."""
         if not isinstance(value, Value):
             raise TypeError(f"a Value is wanted, and this is a {type(value).__name__}")
         words = _Held()
@@ -504,7 +562,7 @@ class Type(_Held):
         return words.copied().decode() or None
 
     def open(self, rules="per"):
-        """A session for a value of the type, which has taken no octet."""
+        """A Session for a value of the type, which has taken no octet."""
         session = Session(_rules(rules))
         with self.lock:
             code = _library.tulvorn_open(self.handle, session.rules, session.handle)
@@ -512,13 +570,18 @@ class Type(_Held):
         return session
 
     def of(self, value):
-        """A value of the type from the kinds of Python."""
+        """The Value of the type that is given by the kinds of Python. Raises EncodeError where it is none: the words
+        have the first path where it is of another kind or shape; where a number, a length or a character is out of
+        bounds the code is NOT_OF_TYPE, and no place is told."""
         given = []
         try:
-            shown = json.dumps(_json_of(value, "$", given))
+            made = self.from_json(json.dumps(_json_of(value, "$", given)))
         except (RecursionError, ValueError):
-            raise EncodeError("a value that goes too deep, or an int of too many digits") from None
-        made = self.from_json(shown)
+            raise EncodeError(NO_JSON_OF) from None
+        except EncodeError as fault:
+            if fault.code != NO_JSON:
+                raise
+            raise EncodeError(NO_JSON_OF) from None
         for path, kind in given:
             if (found := made.kind(path)) != kind:
                 raise EncodeError(f"{path}: {GIVEN[kind]}, and the type has {KINDS[found]} there")
@@ -534,36 +597,44 @@ def _explained(text):
 
 
 class Specification(_Held):
-    """A module that was read, and the encoding rules that its calls take where they are told no others."""
+    """A module that was read, from `compile_string` or `compile_files`, and the encoding rules that its calls take
+    where they are told no others."""
 
     def __init__(self, text, rules="per"):
         super().__init__()
-        self.rules, self.types = _rules(rules), {}
-        octets, fault = text.encode(), Fault()
+        self.rules, self._types = _rules(rules), {}
+        octets, fault = _text(text), Fault()
         code = _library.tulvorn_module(octets, len(octets), self.handle, fault)
         if code == NO_MODULE:
             raise ModuleError(_explained(octets), fault)
         _look(ModuleError, code, fault)
 
     def type(self, name):
-        if name not in self.types:
-            made, fault, octets = Type(), Fault(), name.encode()
+        """The Type that the module assigns to the name, one object however often it is asked for. Raises KeyError where
+        it assigns none."""
+        if name not in self._types:
+            made, fault, octets = Type(), Fault(), _text(name)
             with self.lock:
                 code = _library.tulvorn_type(self.handle, octets, len(octets), made.handle, fault)
             if code == NO_NAME:
                 raise KeyError(name)
             _look(ModuleError, code, fault)
-            self.types[name] = made
-        return self.types[name]
+            self._types[name] = made
+        return self._types[name]
 
     def encode(self, name, value, rules=None):
+        """The encoding, as bytes, of the value of the named type that is given by the kinds of Python. Raises KeyError
+        as `type` does, and EncodeError as `Type.of` and `Value.encode` do."""
         return self.type(name).of(value).encode(self.rules if rules is None else rules)
 
     def decode(self, name, octets, rules=None):
+        """The value of the named type whose encoding the octets are, by the kinds of Python. Raises KeyError as `type`
+        does, and DecodeError as `Type.check` does."""
         return self.type(name).decode(octets, self.rules if rules is None else rules).value()
 
     def decode_with_length(self, name, octets, rules=None):
-        """The value that the octets begin with, and how many of them are its encoding."""
+        """The pair of the value with whose encoding the octets begin, by the kinds of Python, and how many octets that
+        has. Raises as `decode` does, but where more octets follow."""
         octets = _octets(octets)
         try:
             return self.decode(name, octets, rules), len(octets)
@@ -574,12 +645,15 @@ class Specification(_Held):
 
 
 def compile_string(text, rules="per"):
-    """The module that the text is; `rules` are the encoding rules that its calls take where they are told no others."""
+    """The Specification of the module that the text is, a str; `rules` are the encoding rules that its calls take where
+    they are told no others. Raises ModuleError where the text is no module of the profile."""
     return Specification(text, rules)
 
 
 def compile_files(files, rules="per"):
-    """The module of a file, or of one text in several files, an LF after each but the last."""
+    """The same of a file, by its name, or of one text in several files, by a list of their names, with an LF after each
+    but the last. They are read as UTF-8, and no character of them is changed. Raises OSError and UnicodeDecodeError
+    too."""
     texts = []
     for name in [files] if isinstance(files, (str, os.PathLike)) else files:
         with open(name, encoding="utf-8", newline="") as it:
@@ -588,7 +662,7 @@ def compile_files(files, rules="per"):
 
 
 def version():
-    """The version of the library; it ends with `not proved` where it was built without a proof."""
+    """The version of the library, a str; it ends with `not proved` where it was built without a proof."""
     needed = ctypes.c_size_t()
     _library.tulvorn_version(None, 0, needed)
     room = ctypes.create_string_buffer(max(1, needed.value))

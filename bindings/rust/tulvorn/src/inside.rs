@@ -8,9 +8,9 @@ use std::rc::Rc;
 
 /// A part of a value, as `value["coreData"]["speed"]` or `value["path"][3]` gives it.
 ///
-/// It is there for each name and index. What it is, its calls tell, as those of [`Part`] do: None where the value has no
-/// such part, or it is of another kind. The value keeps what leads to each part that was asked for so, as long as it lives;
-/// `value.at("path[3].x")` keeps nothing.
+/// It is there for each name and index. What it is, its calls tell, as those of [`Part`] do: None where the value has
+/// no such part, or it is of another kind. The value keeps what leads to each part that was asked for so, as long as it
+/// lives; `value.at("path[3].x")` keeps nothing.
 ///
 /// ```
 /// use tulvorn::{Error, Module, Rules};
@@ -41,8 +41,8 @@ impl Parts {
         let part = parts.entry(word.to_owned()).or_insert_with(|| {
             Rc::new(Inside { held: Rc::clone(held), path: format!("{path}{word}"), parts: Parts::default() })
         });
-        // SAFETY: a part stays where it is while the map has it, and nothing is taken out of the map before it is let go
-        // of with `self`, which the reference does not outlive.
+        // SAFETY: a part stays where it is while the map has it, and nothing is taken out of the map before it is let
+        // go of with `self`, which the reference does not outlive.
         unsafe { &*Rc::as_ptr(part) }
     }
 }

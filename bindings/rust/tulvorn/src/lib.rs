@@ -1,5 +1,5 @@
-//! Values of ASN.1 types by CANONICAL-PER UNALIGNED and Canonical OER, by the proved library Tulvorn, which is linked as
-//! a static library.
+//! Values of ASN.1 types by CANONICAL-PER UNALIGNED and Canonical OER, by the proved library Tulvorn, which is linked
+//! as a static library.
 //!
 //! ```
 //! use tulvorn::{Error, Module, Rules};
@@ -92,11 +92,11 @@ pub enum Why {
     Default,
     /// A length or a quantity.
     Length,
-    /// An extension bit, or the number or the presence bits of extension additions.
+    /// An extension bit, or the count of extension additions, their presence bits or, in OER, what fills these up.
     Extension,
     /// A character of a string.
     Character,
-    /// The zeros that fill an octet.
+    /// The zeros that fill an octet; of a BIT STRING in OER also how many there are.
     Padding,
     /// Anything else.
     Number,
@@ -120,31 +120,33 @@ pub enum Reason {
     },
     /// An encoding may still follow the octets.
     Truncated {
-        /// How many units there are.
+        /// How many units were taken.
         taken: u64,
     },
     /// The first octets are an encoding, and more follow.
     Rest {
-        /// How many the first are.
+        /// How many octets the first are, by both rules.
         used: u64,
     },
-    /// More than 268,435,455 octets.
+    /// Of octets: the first 268,435,455 are no encoding, and only a longer one may begin so. Of a value: its encoding
+    /// would have more than these. Of `read_newer`: the octets are more than these, whatever they are.
     TooLong,
     /// The octets are fewer than those to be written.
     TooShort {
-        /// How many are wanted.
+        /// How many octets are wanted.
         wanted: u64,
     },
     /// The text is no module.
     NoModule {
-        /// An octet of the text, from 0, where the fault has a place.
+        /// An octet of the text, counted from 0, where the fault has a place; else 0.
         at: u64,
     },
     /// The module has no type of that name.
     NoName,
     /// The value is none of the type.
     NotOfType,
-    /// The text is no JSON.
+    /// The text is no JSON, or has a number past what is read, as `1e400`, half of a surrogate pair, or more than 127
+    /// levels.
     NoJson,
     /// The JSON is not of the shape of the type.
     Shape,
@@ -152,14 +154,14 @@ pub enum Reason {
     NoPath,
     /// The part is of another kind.
     OtherKind,
-    /// No message of any version begins so.
+    /// No message of any version begins so, or more octets follow one.
     NoMessage,
     /// The octets end before a message of any version does.
     CutMessage,
     /// A count of extension additions, the index or tag of an alternative, or the index of an item, past those of the
     /// profile.
     TooManyAdditions,
-    /// The session has given its value, or wanted memory.
+    /// The session has given its value, or answered `Memory`, before.
     Spent,
     /// The library answered a code that this crate does not know, or the crate misused it.
     Other(u32),
@@ -470,7 +472,8 @@ impl Type {
         Ok(Newer { value: Value::of(value), skipped: fields.fields() })
     }
 
-    /// The value of the type that the JSON shows.
+    /// The value of the type that the JSON shows. An INTEGER is shown by a number without fraction and exponent, from
+    /// -2^63 to 2^64 - 1; any other number, `-0` too, is not of its `Shape`. Of members with one name the last counts.
     ///
     /// # Errors
     /// `NoJson`, `Shape`, `NotOfType`, `Memory`.
@@ -496,7 +499,9 @@ pub struct Skipped {
 
 /// What is read of a message of a newer or older sender.
 pub struct Newer {
-    /// The value, with the entries and alternatives that the type has.
+    /// The value, with the entries and alternatives that the type has. With an item or alternative that the type has
+    /// not it has JSON and no encoding: JSON tells of an item `"?2"`, by PER its index among the additions, from 0, and
+    /// by OER its number, and of an alternative `{"?1":null}`, its index, root before additions, from 0.
     pub value: Value,
     /// The fields that the type has not, in the order of the message.
     pub skipped: Vec<Skipped>,
@@ -571,7 +576,10 @@ impl Value {
     }
 
     /// The part at a path, as `coreData.speed` or `path[3].x`. What it is, its calls tell: None where there is no such
-    /// part, or it is of another kind.
+    /// part, or it is of another kind. A `$` at the very front is passed over. The path is cut at each `.`, `[` and
+    /// `]`; an empty piece is passed over, one of digits, of which there are at most nine, is the index of an element,
+    /// counted from 0, and any other the name of a component or of the chosen alternative; an absent component is its
+    /// DEFAULT.
     #[must_use]
     pub fn at<'a>(&'a self, path: &'a str) -> Part<'a> {
         Part { held: &self.0, path }
@@ -653,7 +661,8 @@ impl Part<'_> {
         String::from_utf8(self.written(ffi::tulvorn_text)?).ok()
     }
 
-    /// The name of the item of an ENUMERATED, or of the chosen alternative of a CHOICE.
+    /// The name of the item of an ENUMERATED, or of the chosen alternative of a CHOICE; None too of one that the type
+    /// has not, in a value of `read_newer`, whose number JSON tells.
     #[must_use]
     pub fn name(self) -> Option<String> {
         String::from_utf8(self.written(ffi::tulvorn_name)?).ok()

@@ -58,9 +58,9 @@ impl Session {
     /// Takes the next piece.
     ///
     /// # Errors
-    /// `Refused` where no encoding begins so: `at` is the first unit of the message, over all its pieces, after which none
-    /// can follow. `TooLong`, `Memory`. A session that answered `Refused` or `TooLong` answers the same to each further
-    /// piece, and one that answered `Done` or `Memory` answers `Spent`.
+    /// `Refused` where no encoding begins so: `at` is the first unit of the message, over all its pieces, after which
+    /// none can follow. `TooLong`, `Memory`. A session that answered `Refused` or `TooLong` answers the same to each
+    /// further piece, and one that answered `Done` or `Memory` answers `Spent`.
     pub fn feed(&mut self, piece: &[u8]) -> Result<Fed, Error> {
         let (value, mut used, mut fault) = (Held::nothing(), 0, Fault::default());
         // SAFETY: the pointer and the length are those of one slice, and the two handles are two objects'.
@@ -83,9 +83,14 @@ impl Session {
 
     /// Ends the session. Takes no memory.
     ///
+    /// `Ok` says that the octets that it took are a whole encoding, and not that a value was given, which `Done` of
+    /// `feed` alone says: after `Memory` of `feed` no value comes any more, and this is `Ok` where the octets taken are
+    /// a whole encoding; so it is of a session that took no octet, where the encoding of a value has none, as that of
+    /// NULL in OER.
+    ///
     /// # Errors
     /// `Truncated` where the octets that it took are no whole encoding: `taken` is how many units were taken while one
-    /// could still follow.
+    /// could still follow, also of a session that answered `Refused` or `TooLong`.
     pub fn finish(self) -> Result<(), Error> {
         let mut fault = Fault::default();
         // SAFETY: the handle is this object's.

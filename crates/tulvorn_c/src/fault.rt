@@ -25,7 +25,7 @@ const TRUNCATED: u32 = 4;
 /// The first `at` octets are an encoding, and more follow.
 const REST: u32 = 5;
 
-/// More than 268,435,455 octets.
+/// No encoding of at most 268,435,455 octets begins so, or a value has none; of a newer sender's message, it has more.
 const TOO_LONG: u32 = 6;
 
 /// The caller's octets are fewer than those that were to be written.
@@ -43,7 +43,7 @@ pub(crate) const NO_NAME: u32 = 10;
 /// The value does not fit the type.
 const NOT_OF_TYPE: u32 = 11;
 
-/// The text is no JSON.
+/// The text is no JSON, or has what is not read: half of a surrogate pair, a number past 1e308, more than 127 levels.
 pub(crate) const NO_JSON: u32 = 12;
 
 /// The JSON is not of the shape of the type.
@@ -55,13 +55,13 @@ pub(crate) const NO_PATH: u32 = 14;
 /// The part at the path is of another kind.
 pub(crate) const OTHER_KIND: u32 = 15;
 
-/// No message of any version begins so.
+/// No message of any version begins so, or more octets follow one.
 const NO_MESSAGE: u32 = 16;
 
 /// The octets end before a message of any version does.
 const CUT_MESSAGE: u32 = 17;
 
-/// More extension additions than the profile allows.
+/// More extension additions than the profile allows, or the index of an alternative or item past those that it allows.
 const TOO_MANY_ADDITIONS: u32 = 18;
 
 /// The octets that a session took are no whole encoding, and one may still follow.

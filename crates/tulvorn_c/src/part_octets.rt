@@ -105,7 +105,8 @@ fn text_of(part: &View<'_>, into: &mut [u8], needed: &mut usize) -> u32
     }
 }
 
-/// Writes the name of the item of an ENUMERATED or of the chosen alternative of a CHOICE, as `tulvorn_copy` does.
+/// Writes the name of the item of an ENUMERATED or of the chosen alternative of a CHOICE, as `tulvorn_copy` does. One that
+/// the type has not (of a newer sender) has no name.
 #[unsafe(no_mangle)]
 pub extern "C" fn tulvorn_name(
     alloc: Global,

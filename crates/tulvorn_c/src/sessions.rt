@@ -196,7 +196,8 @@ fn put_value(alloc: Global, ty: &Checked, value: Value, out: &mut Handle) -> Res
     out.put(alloc, Object::Value { ty, value })
 }
 
-/// Ends a session, and lets go of it: see `tulvorn::Session::finish`. Takes no memory.
+/// Ends a session, and lets go of it: see `tulvorn::Session::finish`. After `tulvorn_feed` had no memory for the handle of
+/// the value, the octets that were taken are an encoding, though no value was given. Takes no memory.
 #[unsafe(no_mangle)]
 pub extern "C" fn tulvorn_finish(alloc: Global, session: &mut Handle, fault: &mut Fault) -> u32
     ensures told { Asked (held_session session.old.kept) (session.new.kept ≡ session.old.kept)

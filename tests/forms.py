@@ -147,7 +147,7 @@ def refusals(count, program, room):
         ran = run([*encode, *words], given)
         count.add(ran == wanted, f"{words} {given}: {ran}")
     newer = run([program, "newer", "--type", "T", "--rules", "per", "--module", file, "--split"])
-    count.add(newer == (2, b"", b"--split is for show, check and convert: newer reads one message a text\n"), f"newer --split: {newer}")
+    count.add(newer == (2, b"", b"--split is for show, check, convert and fields: newer reads one message a text\n"), f"newer --split: {newer}")
 
 
 VERSIONED = "M DEFINITIONS AUTOMATIC TAGS ::= BEGIN T ::= SEQUENCE { z INTEGER (0..7), a P, ... } P ::= SEQUENCE { x BOOLEAN, ...%s } END\n"

@@ -66,7 +66,9 @@ impl<'a> Asking<'a> {
                 )
             }
             Order::Newer if self.forms.is_split => {
-                Some("--split is for show, check and convert: newer reads one message a text")
+                Some(
+                    "--split is for show, check, convert and fields: newer reads one message a text",
+                )
             }
             Order::Check | Order::Encode | Order::Convert if is_laid => {
                 Some("--pretty and --order are for show and newer, which write JSON")

@@ -156,7 +156,7 @@ fn with_versions<'a>(alloc: Global, command: Command<'a>) -> Result<Command<'a>,
     let newer = flag(
         alloc,
         "newer",
-        "`encode` takes such objects, and refuses one of which something was skipped",
+        "`encode` takes such objects, passes over other members, and refuses one of which something was skipped",
     );
     command.arg(json)?.arg(newer)
 }

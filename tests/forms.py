@@ -146,6 +146,14 @@ def refusals(count, program, room):
     ):
         ran = run([*encode, *words], given)
         count.add(ran == wanted, f"{words} {given}: {ran}")
+    no_name = (2, b"", b"no type has such a name: there is a control character in it\n")
+    for words in (
+        *([order, "--rules", "per", "--type", "X\nok 1"] for order in ("show", "check", "encode", "convert", "newer", "fields")),
+        ["example", "--type", "T\x1b"], ["types", "T\n"], ["types", "T\u0085"],
+    ):
+        for given in ([], ["--module", file]):
+            ran = run([program, *words, *given])
+            count.add(ran == no_name, f"{words} {given}: {ran}")
     newer = run([program, "newer", "--type", "T", "--rules", "per", "--module", file, "--split"])
     count.add(newer == (2, b"", b"--split is for show, check, convert and fields: newer reads one message a text\n"), f"newer --split: {newer}")
 

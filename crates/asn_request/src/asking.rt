@@ -5,6 +5,14 @@ ghost use Rattle.asn_request.specs.Asking.{IsPlain};
 use asn_jobs::{Job, OctetForm, Order};
 use asn_json_layout::Layout;
 
+/// What is said of a name that no type of any module has.
+pub(crate) const NO_TYPE_NAME: &str = "no type has such a name: there is a control character in it";
+
+/// Whether there is a control character in a text, an LF among them.
+pub(crate) fn has_control(text: &str) -> bool {
+    text.chars().any(|character| character.is_control())
+}
+
 /// What is asked for of the messages of a job.
 #[derive(Drop)]
 pub struct Asking<'a> {
@@ -47,11 +55,17 @@ impl<'a> Asking<'a> {
             && self.budget.is_none()
     }
 
-    /// What of it the order of the job does not do.
+    /// What of it the order of the job does not do, or why no module has the type of the job.
     pub fn unserved(&self, job: &Job) -> Option<&'static str> {
-        let Job::Lines { order, .. } = job else {
-            return None;
-        };
+        match job {
+            Job::Module => None,
+            Job::Lines { type_name, .. } if has_control(type_name.as_str()) => Some(NO_TYPE_NAME),
+            Job::Lines { order, .. } => self.unserved_by(*order),
+        }
+    }
+
+    /// What of it the order does not do.
+    fn unserved_by(&self, order: Order) -> Option<&'static str> {
         let is_laid = self.layout.is_declared || self.layout.is_pretty;
         match order {
             Order::Encode if self.forms.is_octets() => {
@@ -76,7 +90,7 @@ impl<'a> Asking<'a> {
             Order::Show | Order::Encode | Order::Convert | Order::Newer if self.is_counted => {
                 Some("--stats is for check")
             }
-            _ => self.versions.unserved(*order, self.layout),
+            _ => self.versions.unserved(order, self.layout),
         }
     }
 }

@@ -286,6 +286,7 @@ def counts(count, program, room):
         ("show", ["--split", "--budget", "9"], b"--budget is for texts of one message each: --split decodes to find where one ends\n"),
         ("check", ["--pretty"], b"--pretty and --order are for show and newer, which write JSON\n"),
         ("encode", ["--order", "declared"], b"--pretty and --order are for show and newer, which write JSON\n"),
+        *((it, ["--order", "name"], b"--pretty and --order are for show and newer, which write JSON\n") for it in ("check", "encode", "convert")),
     ):
         ran = run([program, order, "--type", "C", "--rules", "per", "--module", file, *way])
         count.add(ran == (2, b"", told), f"{order} {way}: {ran}")

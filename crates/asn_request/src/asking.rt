@@ -24,6 +24,8 @@ pub struct Asking<'a> {
     pub forms: Forms,
     /// The layout of the JSON of their values.
     pub layout: Layout,
+    /// Whether an order of the members of objects is named, whichever it is.
+    pub is_order_named: bool,
     /// What is asked for of messages of other versions of a type.
     pub versions: Versions,
     /// Whether it is counted how many they are, how long, of which alternatives, and why they are refused.
@@ -66,7 +68,7 @@ impl<'a> Asking<'a> {
 
     /// What of it the order does not do.
     fn unserved_by(&self, order: Order) -> Option<&'static str> {
-        let is_laid = self.layout.is_declared || self.layout.is_pretty;
+        let is_laid = self.is_order_named || self.layout.is_pretty;
         match order {
             Order::Encode if self.forms.is_octets() => {
                 Some("encode reads JSON, a value a line: --in and --split are for octets")

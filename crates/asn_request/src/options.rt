@@ -171,7 +171,7 @@ fn members_option<'a>(alloc: Global) -> Arg<'a>
         .value_name("ORDER")
         .action(ArgAction::Set)
         .value_parser(MEMBERS.as_slice())
-        .help("In which order `show` writes the members of objects [default: name]")
+        .help("In which order `show` and `newer` write the members of objects [default: name]")
 }
 
 /// An option for files.

@@ -146,8 +146,16 @@ def refusals(count, program, room):
     ):
         ran = run([*encode, *words], given)
         count.add(ran == wanted, f"{words} {given}: {ran}")
+    no_name = (2, b"", b"no type has such a name: there is a control character in it\n")
+    for words in (
+        *([order, "--rules", "per", "--type", "X\nok 1"] for order in ("show", "check", "encode", "convert", "newer", "fields")),
+        ["example", "--type", "T\x1b"], ["types", "T\n"], ["types", "T\u0085"],
+    ):
+        for given in ([], ["--module", file]):
+            ran = run([program, *words, *given])
+            count.add(ran == no_name, f"{words} {given}: {ran}")
     newer = run([program, "newer", "--type", "T", "--rules", "per", "--module", file, "--split"])
-    count.add(newer == (2, b"", b"--split is for show, check and convert: newer reads one message a text\n"), f"newer --split: {newer}")
+    count.add(newer == (2, b"", b"--split is for show, check, convert and fields: newer reads one message a text\n"), f"newer --split: {newer}")
 
 
 VERSIONED = "M DEFINITIONS AUTOMATIC TAGS ::= BEGIN T ::= SEQUENCE { z INTEGER (0..7), a P, ... } P ::= SEQUENCE { x BOOLEAN, ...%s } END\n"
@@ -278,6 +286,7 @@ def counts(count, program, room):
         ("show", ["--split", "--budget", "9"], b"--budget is for texts of one message each: --split decodes to find where one ends\n"),
         ("check", ["--pretty"], b"--pretty and --order are for show and newer, which write JSON\n"),
         ("encode", ["--order", "declared"], b"--pretty and --order are for show and newer, which write JSON\n"),
+        *((it, ["--order", "name"], b"--pretty and --order are for show and newer, which write JSON\n") for it in ("check", "encode", "convert")),
     ):
         ran = run([program, order, "--type", "C", "--rules", "per", "--module", file, *way])
         count.add(ran == (2, b"", told), f"{order} {way}: {ran}")

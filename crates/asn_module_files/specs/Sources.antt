@@ -11,7 +11,7 @@ mark = codes "====" ++ 10 ∷ []
 abbrev pub IsInputOf : ModuleTypes → List ℕ → List ℕ → Type 0
 IsInputOf m rest octets = (text : List ℕ) × Accepted text m × (octets ≡ text ++ mark ++ rest)
 
--- the most that a module may be, each type, each item of an ENUMERATED and each octet of a name counting one
+-- the most that a module may be, each type, each item of an ENUMERATED and each octet of a name in them counting one
 abbrev pub most_module : ℕ
 most_module = 10000000
 

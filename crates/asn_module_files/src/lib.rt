@@ -7,6 +7,7 @@ mod refused;
 mod sources;
 mod stop;
 mod telling;
+mod terminal;
 mod texts;
 
 pub use flattening::flatten_files;

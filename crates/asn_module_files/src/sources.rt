@@ -16,7 +16,7 @@ use asn_published::{
 use std::alloc::{AllocError, Global};
 
 /// The most that a module may grow to once its references are followed, as `asn_module::read_within` counts it: each type
-/// one, each item of an ENUMERATED one, each name its octets. What is counted takes some 54 octets of memory each.
+/// one, each item of an ENUMERATED one, each name in them its octets. What is counted takes some 54 octets of memory each.
 pub const MOST: u32 = 10_000_000;
 
 /// What stands for the name of a file where a text is that of standard input.

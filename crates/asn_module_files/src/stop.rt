@@ -29,7 +29,7 @@ pub enum Stop<'a> {
     /// The profile does not take what was written of the published modules.
     #[error("not read: {0}")]
     NotOfProfile(ModuleFault),
-    /// What is asked for of the messages is not done by the order.
+    /// What is asked for is not done by the order, or is of a type that no module has.
     #[error("{0}")]
     Unserved(&'static str),
     /// The module is larger than it may be, at the type of this name.

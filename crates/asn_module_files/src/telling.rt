@@ -2,6 +2,7 @@
 use crate::refused::{imports_told, line_told, text_told};
 use crate::sources::{Instead, input_with, instead_of};
 use crate::stop::Stop;
+use crate::terminal::printable;
 use crate::texts::{texts_of, views_of};
 use asn_jobs::Job;
 use asn_published::{Options, PublishedFault};
@@ -90,11 +91,17 @@ fn tell_line(rt: &HostRuntime, texts: &[&str], fault: &PublishedFault) -> Result
         return Ok(());
     };
     let told = line_told(rt.alloc(), *text, *line)?;
-    let _ = rt.eprint(told.as_str());
+    tell(rt, told.as_str())
+}
+
+/// Writes words that have a stranger's text in them to standard error.
+fn tell(rt: &HostRuntime, words: &str) -> Result<(), AllocError> {
+    let shown = printable(rt.alloc(), words)?;
+    let _ = rt.eprint(shown.as_str());
     Ok(())
 }
 
-/// Tells on standard error what `text_told` says of the text of the module of a job.
+/// Tells on standard error what `text_told` says of the text of the module of a job, as `printable` has it.
 ///
 /// # Errors
 /// `Memory` where an allocation failed.
@@ -106,6 +113,5 @@ pub fn tell_text(
     is_all: bool,
 ) -> Result<(), Stop<'static>> {
     let told = text_told(rt.alloc(), text, options, job, is_all)?;
-    let _ = rt.eprint(told.as_str());
-    Ok(())
+    Ok(tell(rt, told.as_str())?)
 }

@@ -1,7 +1,8 @@
 -- What clap's getters give, as the rows of the matches have it.
 use Rattle.std.proofs.Common.{◌≡◌, ◌∙◌, ap, refl, ℕ, true, false, Bool, List, [], codes, Option, Some, None}
 use Rattle.std.specs.Prelude.{Result, Ok, Err, option_map, unwrap_or}
-use Rattle.std.specs.Option.{option_map_or}
+use Rattle.std.specs.Borrow.{Bor}
+use Rattle.std.specs.Option.{is_some, option_map_or}
 use Rattle.std.specs.Str.Parse.{ParsesUnsigned}
 use Rattle.clap.specs.Words.{ReadsOne, Row, Text, all_of, first_of, found_of, one_text, rows_of}
 use Rattle.clap.specs.declared.parser.matches.Found.{Found}
@@ -52,3 +53,8 @@ some_order rows name b e is = is ∙ ap (λ o. option_map_or is_declared o false
 
 pub no_order : (rows : List Row) → None ≡ first_of (codes "order") rows → false ≡ is_declared_in rows
 no_order rows e = ap (λ o. option_map_or is_declared o false) e
+
+-- whether there is a value
+pub is_named : (o : Option (Bor Text)) (first : Option Text) → option_map (λ s. s.now) o ≡ first → is_some o ≡ is_some first
+is_named (Some s) first e = ap is_some e
+is_named None first e = ap is_some e

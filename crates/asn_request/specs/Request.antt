@@ -1,7 +1,7 @@
 -- What words ask for, as clap states what it finds in them.
 use Rattle.std.specs.Prelude.{◌≡◌, ◌≢◌, ◌<◌, ◌^◌, ℕ, Bool, true, false, List, [], codes, map, option_map, Option, Some, None, unwrap_or, if◌then◌else◌, string_bytes, ⊤}
 use Rattle.std.specs.Borrow.{Bor}
-use Rattle.std.specs.Option.{option_map_or}
+use Rattle.std.specs.Option.{is_some, option_map_or}
 use Rattle.std.specs.Str.{bytes_eq}
 use Rattle.std.specs.Str.Parse.{IsNumeral, digits_value, without_leading_plus}
 use Rattle.clap.specs.Words.{Row, Text, all_of, first_of, one_of, subcommand_of, kind_of, fault_of, IsAmong}
@@ -117,6 +117,10 @@ is_declared name = bytes_eq name (codes "declared")
 abbrev pub is_declared_in : List Row → Bool
 is_declared_in rows = option_map_or is_declared (first_of (codes "order") rows) false
 
+-- whether an order of members is named, whichever it is
+abbrev pub is_order_named_in : List Row → Bool
+is_order_named_in rows = is_some (first_of (codes "order") rows)
+
 abbrev pub IsLayout : List Row → Layout → Type 0
 IsLayout rows l = (l.is_declared ≡ is_declared_in rows) × IsFlag (codes "pretty") rows l.is_pretty
 
@@ -128,7 +132,8 @@ AreVersions rows v = IsFlag (codes "json") rows v.is_json × IsFlag (codes "newe
 abbrev pub IsAsking : List Row → Asking → Type 0
 IsAsking rows a = IsFlag (codes "explain") rows a.is_explained
     × (texts_of a.messages.items ≡ files_of (codes "messages") rows) × AreForms rows a.forms × IsLayout rows a.layout
-    × AreVersions rows a.versions × IsFlag (codes "stats") rows a.is_counted × IsNumberOf (codes "budget") rows a.budget
+    × (a.is_order_named ≡ is_order_named_in rows) × AreVersions rows a.versions
+    × IsFlag (codes "stats") rows a.is_counted × IsNumberOf (codes "budget") rows a.budget
 
 -- ---- what is looked at
 

@@ -5,6 +5,14 @@ ghost use Rattle.asn_request.specs.Asking.{IsPlain};
 use asn_jobs::{Job, OctetForm, Order};
 use asn_json_layout::Layout;
 
+/// What is said of a name that no type of any module has.
+pub(crate) const NO_TYPE_NAME: &str = "no type has such a name: there is a control character in it";
+
+/// Whether there is a control character in a text, an LF among them.
+pub(crate) fn has_control(text: &str) -> bool {
+    text.chars().any(|character| character.is_control())
+}
+
 /// What is asked for of the messages of a job.
 #[derive(Drop)]
 pub struct Asking<'a> {
@@ -16,6 +24,8 @@ pub struct Asking<'a> {
     pub forms: Forms,
     /// The layout of the JSON of their values.
     pub layout: Layout,
+    /// Whether an order of the members of objects is named, whichever it is.
+    pub is_order_named: bool,
     /// What is asked for of messages of other versions of a type.
     pub versions: Versions,
     /// Whether it is counted how many they are, how long, of which alternatives, and why they are refused.
@@ -47,12 +57,18 @@ impl<'a> Asking<'a> {
             && self.budget.is_none()
     }
 
-    /// What of it the order of the job does not do.
+    /// What of it the order of the job does not do, or why no module has the type of the job.
     pub fn unserved(&self, job: &Job) -> Option<&'static str> {
-        let Job::Lines { order, .. } = job else {
-            return None;
-        };
-        let is_laid = self.layout.is_declared || self.layout.is_pretty;
+        match job {
+            Job::Module => None,
+            Job::Lines { type_name, .. } if has_control(type_name.as_str()) => Some(NO_TYPE_NAME),
+            Job::Lines { order, .. } => self.unserved_by(*order),
+        }
+    }
+
+    /// What of it the order does not do.
+    fn unserved_by(&self, order: Order) -> Option<&'static str> {
+        let is_laid = self.is_order_named || self.layout.is_pretty;
         match order {
             Order::Encode if self.forms.is_octets() => {
                 Some("encode reads JSON, a value a line: --in and --split are for octets")
@@ -66,7 +82,9 @@ impl<'a> Asking<'a> {
                 )
             }
             Order::Newer if self.forms.is_split => {
-                Some("--split is for show, check and convert: newer reads one message a text")
+                Some(
+                    "--split is for show, check, convert and fields: newer reads one message a text",
+                )
             }
             Order::Check | Order::Encode | Order::Convert if is_laid => {
                 Some("--pretty and --order are for show and newer, which write JSON")
@@ -74,7 +92,7 @@ impl<'a> Asking<'a> {
             Order::Show | Order::Encode | Order::Convert | Order::Newer if self.is_counted => {
                 Some("--stats is for check")
             }
-            _ => self.versions.unserved(*order, self.layout),
+            _ => self.versions.unserved(order, self.layout),
         }
     }
 }

@@ -45,7 +45,10 @@ What a refusal means, of which --explain tells more on standard error:
 Of newer: ! refused, ! cut short and ! too many additions, where the octets are a message of no version of the type.
 
 A module whose types come to more than 10,000,000 once references are followed is refused, with a line on standard
-error and status 2: each type counts one, each item of an ENUMERATED one, each name its octets.
+error and status 2: each type counts one, each item of an ENUMERATED one, and each name of an item, a component or an
+alternative its octets. The names to which types are assigned do not count.
+
+The number N of --budget, --levels, --seed or --count is at most 4294967295.
 
 Exit status: 0 if all went well; 1 if at least one message or type was refused; 2 if the words were not understood, the
 module was refused or it has no type of the name; 3 if reading, writing or memory failed, with a line on standard error.
@@ -163,7 +166,8 @@ As octets, where m.asn has that module:
 leaves a file of one octet.
 
 With --newer the lines are those of `newer --json`: the value of one of which nothing was skipped is encoded, and any other
-is refused, since the octets of additions that the type does not have would be lost:
+is refused, since the octets of additions that the type does not have would be lost. Members of such an object other than
+value and skipped are passed over:
   asn_tool encode --type T --rules per --module m.asn --newer <lines
 writes a0 for {\"value\":{\"id\":5},\"skipped\":[]}.";
 
@@ -242,9 +246,10 @@ A page of the messages of a file, where m.asn has that module:
 pub static TYPES: &str = "\
 In: the text of a module. Lines after one that is ==== are ignored. With --module nothing is read of standard input.
 Out: the names of its types, one a line, in order. With NAME that type: a line for each part, with the type of the part
-and the least and the greatest size of its values, in PER in bits and in OER in octets; a size without a greatest number
-has none. The last line has the least and the greatest size of a message in PER, in octets. Of published modules the types
-that are refused are left out, of which `flatten` tells.
+and the least and the greatest size of its values, in PER in bits and in OER in octets. A size without a greatest number,
+or with one past 2^64, has none, and a least one past 2^64 is told as 2^64 - 1. The last line has the least and the
+greatest size of a message in PER, in octets. Of published modules the types that are refused are left out, of which
+`flatten` tells.
 
 Exit status: 0; 2 if the module was refused or has no type of the name; 3 if reading, writing or memory failed.
 
@@ -265,7 +270,7 @@ In: the text of a module. Lines after one that is ==== are ignored. With --modul
 Out: a value of the type as JSON, a line that `encode` reads: of each part the least, without the components that are
 OPTIONAL. With --seed N another, always the same of the same N: of 0 the greatest of each part, with all components; of
 other numbers the least, the greatest and anything between. With --count N so many values, a line each, of the seed and
-the numbers after it, from 0 where none is given.
+the numbers after it, from 0 where none is given. Both numbers are at most 4294967295.
 
 Exit status: 0; 2 if the module was refused or has no type of the name; 3 if reading, writing or memory failed.
 

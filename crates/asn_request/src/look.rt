@@ -4,6 +4,7 @@ ghost use Rattle.clap.specs.Words.{first_of, found_of, rows_of};
 ghost use Rattle.asn_request.specs.declared.look.Looking.{Looking};
 ghost use Rattle.asn_request.specs.Request.{IsLook, look_name, name_id, rules_in, rules_of};
 
+use crate::asking::{NO_TYPE_NAME, has_control};
 use asn_jobs::RuleName;
 use clap::ArgMatches;
 use std::alloc::{AllocError, Global};
@@ -22,6 +23,16 @@ pub struct Look {
     pub seed: Option<u32>,
     /// How many values are given, of one seed after the other; one where it is not said.
     pub count: Option<u32>,
+}
+
+impl Look {
+    /// Why none of it is shown, whatever the module is: no module has a type of the name.
+    pub fn unserved(&self) -> Option<&'static str> {
+        match &self.type_name {
+            Some(name) if has_control(name.as_str()) => Some(NO_TYPE_NAME),
+            _ => None,
+        }
+    }
 }
 
 /// What there is to be shown.

@@ -156,7 +156,7 @@ fn with_versions<'a>(alloc: Global, command: Command<'a>) -> Result<Command<'a>,
     let newer = flag(
         alloc,
         "newer",
-        "`encode` takes such objects, and refuses one of which something was skipped",
+        "`encode` takes such objects, passes over other members, and refuses one of which something was skipped",
     );
     command.arg(json)?.arg(newer)
 }
@@ -171,7 +171,7 @@ fn members_option<'a>(alloc: Global) -> Arg<'a>
         .value_name("ORDER")
         .action(ArgAction::Set)
         .value_parser(MEMBERS.as_slice())
-        .help("In which order `show` writes the members of objects [default: name]")
+        .help("In which order `show` and `newer` write the members of objects [default: name]")
 }
 
 /// An option for files.

@@ -5,7 +5,7 @@ ghost use Rattle.asn_jobs.specs.declared.job.Order.{Order};
 ghost use Rattle.asn_jobs.specs.declared.job.RuleName.{RuleName};
 ghost use Rattle.asn_request.specs.declared.request.LineFault.{LineFault};
 ghost use Rattle.asn_request.specs.Command.{HasOptions, IsTaken};
-ghost use Rattle.asn_request.specs.Request.{AreForms, AreOptions, AreVersions, Asks, HasRequest, IsAsking, IsJobOf, IsLayout, IsNumberOf, IsRequestOf, Told, fault_by, files_of, form_in, form_of, is_declared_in, octet_form_in, octet_form_of, look_name, order_name, rule_name, texts_of};
+ghost use Rattle.asn_request.specs.Request.{AreForms, AreOptions, AreVersions, Asks, HasRequest, IsAsking, IsJobOf, IsLayout, IsNumberOf, IsRequestOf, Told, fault_by, files_of, form_in, form_of, is_declared_in, is_order_named_in, octet_form_in, octet_form_of, look_name, order_name, rule_name, texts_of};
 
 use crate::asking::{Asking, Forms, Versions};
 use crate::look::{Look, Looking, look_of, looking_named};
@@ -215,6 +215,7 @@ fn asking_in<'a>(alloc: Global, options: &ArgMatches<'a>) -> Result<Asking<'a>, 
         messages: files_in(alloc, options, "messages")?,
         forms: forms_in(options),
         layout: layout_in(options),
+        is_order_named: is_order_named_in(options),
         versions: versions_in(options),
         is_counted: options.get_flag("stats"),
         budget: budget_in(options),
@@ -289,6 +290,13 @@ fn is_declared_in(options: &ArgMatches<'_>) -> bool
         Some(name) => name == "declared",
         None => false,
     }
+}
+
+/// Whether an order of members is named.
+fn is_order_named_in(options: &ArgMatches<'_>) -> bool
+    ensures { result ≡ is_order_named_in (rows_of (found_of options.now)) }
+{
+    options.get_str("order").is_some()
 }
 
 /// How it is told what became of the types: a summary where it is not said.

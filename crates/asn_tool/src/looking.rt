@@ -18,6 +18,9 @@ pub fn show<'a>(
     options: Options,
     asking: &Asking<'a>,
 ) -> Result<u8, Stop<'a>> {
+    if let Some(words) = look.unserved() {
+        return Err(Stop::Unserved(words));
+    }
     let job = job_for(rt.alloc(), look)?;
     if files.is_empty() {
         show_given(rt, look, &job, options, asking)

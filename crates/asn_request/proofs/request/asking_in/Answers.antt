@@ -9,6 +9,7 @@ returns c = (
   c.in_ok-files_in.ensures,
   c.forms_in.ensures,
   c.layout_in.ensures,
+  c.is_order_named_in.ensures,
   c.versions_in.ensures,
   flag (found_of c.args.options.now) (codes "stats") c.get_flag-2.result c.get_flag-2.ensures.none c.get_flag-2.ensures.value c.get_flag-2.ensures.other,
   c.budget_in.ensures,

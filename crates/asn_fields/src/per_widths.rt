@@ -139,14 +139,14 @@ fn sized_bits(size: &Size, item: Extent) -> Extent {
     marked(known, Some(listed_bits(others, item)))
 }
 
-/// Of so many items and more under their general length. Its last determinant is an octet shorter where all items stand in
-/// whole fragments, which may be less than a few items more have.
+/// Of this many items or more under their general length. A few items more may have fewer bits, where they fill fragments of
+/// 16,384 items and the last length determinant is an octet shorter.
 fn listed_bits(low: u64, item: Extent) -> Extent {
     let whole = low.div_ceil(16_384).saturating_mul(16_384);
     Extent::from(items_bits(low, item.least).min(items_bits(whole, item.least)))
 }
 
-/// Of so many items of this many bits under their general length.
+/// Of this many items, each of as many bits as the other number says, under their general length.
 fn items_bits(count: u64, item: u64) -> u64 {
     general_length(count)
         .saturating_mul(8)

@@ -21,11 +21,11 @@ pub enum Why {
     Default = 2,
     /// A length or a quantity.
     Length = 3,
-    /// An extension bit, or the number or the presence bits of extension additions.
+    /// An extension bit, or the count of extension additions, their presence bits or, in OER, what fills these up.
     Extension = 4,
     /// A character of a string.
     Character = 5,
-    /// The zeros that fill an octet.
+    /// The zeros that fill an octet; of a BIT STRING in OER also the octet that says how many there are.
     Padding = 6,
     /// Anything else.
     Number = 7,
@@ -147,7 +147,7 @@ pub enum DecodeFault {
     /// The first `used` octets are an encoding, and more octets follow.
     #[error("octets left after {used}")]
     Rest { used: usize },
-    /// No encoding of at most 268,435,455 octets begins the octets.
+    /// No encoding of at most 268,435,455 octets begins the octets, and a longer one may.
     #[error("too long")]
     TooLong,
     /// An allocation failed.

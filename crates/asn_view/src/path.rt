@@ -10,8 +10,8 @@ const MAX_DIGITS: usize = 9;
 
 impl<'a> View<'a> {
     /// The part at a path, as `coreData.speed` or `path[3].x`. The path is cut at each `.`, `[` and `]`; an empty piece
-    /// is passed over, one of digits is the index of an element, counted from 0, and any other the name of a component
-    /// or of the chosen alternative, as `get` takes it. A `$` in front is passed over, so a path may be one that
+    /// is passed over, one of at most nine digits is the index of an element, counted from 0, and any other the name of a
+    /// component or of the chosen alternative, as `get` takes it. A `$` in front is passed over, so a path may be one that
     /// `misfit` or `explain` tells. None where a step has none. Allocates nothing.
     pub fn at(&self, path: &str) -> Option<View<'a>>
         ensures { option_map seen result ≡ value_at_path path.now (seen self.now) }

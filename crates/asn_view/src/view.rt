@@ -111,7 +111,8 @@ impl<'a> View<'a> {
         }
     }
 
-    /// The name of the chosen alternative of a CHOICE, and its value.
+    /// The name of the chosen alternative of a CHOICE, and its value. None too of one that the type has not, as a newer
+    /// sender may choose it.
     pub fn alternative(&self) -> Option<(&'a str, View<'a>)>
         ensures { option_map seen_chosen result ≡ chosen_in (seen self.now) }
     {
@@ -126,7 +127,7 @@ impl<'a> View<'a> {
         }
     }
 
-    /// The name of the item of an ENUMERATED.
+    /// The name of the item of an ENUMERATED. None too of one that the type has not, as a newer sender may choose it.
     pub fn item_name(&self) -> Option<&'a str>
         ensures { option_map (λ s. s.now) result ≡ item_name_in (seen self.now) }
     {

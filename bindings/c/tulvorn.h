@@ -128,7 +128,8 @@ typedef struct tulvorn_fault {
 uint32_t tulvorn_module(const uint8_t *text, size_t len, tulvorn_handle *module, tulvorn_fault *fault);
 
 /* Puts into `words`, as octets, why the text is no module: the line and the column, what could stand there, and the
-   line itself with a mark, in some lines of text. No octets where it is one. Answers NOT_TEXT, NO_MEMORY. */
+   line itself with a mark, in some lines of text. What stands in the line stands there as it is, also what a terminal
+   would obey. No octets where it is a module. Answers NOT_TEXT, NO_MEMORY. */
 uint32_t tulvorn_explain_module(const uint8_t *text, size_t len, tulvorn_handle *words);
 
 /* Puts the type that the module assigns to the name into `type`. It outlives the module, which is as it was.

@@ -84,7 +84,7 @@ class Maker:
     def union(self, depth):
         parts = [self.intersection(depth) for _ in range(self.chance.choice((1, 1, 2, 2, 3)))]
         if self.chance.random() < 0.03:
-            return Made(f"ALL EXCEPT {self.element(depth).text}", set(range(self.least, self.most + 1)), True, True)
+            return Made(f"ALL EXCEPT {self.element(depth).text}", set(range(self.least, self.most + 1)), True)
         text = self.chance.choice((" | ", " UNION ")).join(it.text for it in parts)
         numbers = set.union(*(it.numbers for it in parts))
         return Made(text, numbers, any(it.unseen for it in parts), any(it.nothing for it in parts))

@@ -155,8 +155,12 @@ static int fed_without_memory(tulvorn_handle *msg, const uint8_t *octets, size_t
             CHECK(code == wanted && (value.at != NULL) == (code == TULVORN_DONE));
         }
         asked = 0;
-        tulvorn_finish(&session, &fault);
+        uint32_t ended = tulvorn_finish(&session, &fault);
         CHECK(asked == 0 && session.at == NULL);
+        /* the last allocation is that of the handle of the value: the octets that were taken are an encoding by then */
+        int is_whole = wanted == TULVORN_DONE && at == count;
+        CHECK(code != TULVORN_NO_MEMORY || ended == (is_whole ? TULVORN_DONE : TULVORN_TRUNCATED));
+        CHECK(ended != TULVORN_TRUNCATED || code != TULVORN_NO_MEMORY || fault.at == 0);
         tulvorn_close(&value);
     }
     CHECK(count > 0);

@@ -25,10 +25,10 @@ TYPES = 3000
 
 
 class Made:
-    """A set in the text and as numbers; whether something in it is not seen, and whether nothing is."""
+    """A set in the text and as numbers, and whether something in it is not seen."""
 
-    def __init__(self, text, numbers, unseen=False, nothing=False):
-        self.text, self.numbers, self.unseen, self.nothing = text, numbers, unseen, nothing
+    def __init__(self, text, numbers, unseen=False):
+        self.text, self.numbers, self.unseen = text, numbers, unseen
 
 
 class Maker:
@@ -58,7 +58,7 @@ class Maker:
         kind = self.chance.random()
         if depth and kind < 0.25:
             inner = self.union(depth - 1)
-            return Made(f"({inner.text})", inner.numbers, inner.unseen, inner.nothing)
+            return Made(f"({inner.text})", inner.numbers, inner.unseen)
         if self.named and kind < 0.35:
             name, numbers = self.chance.choice(self.named)
             return Made(self.chance.choice(("", "INCLUDES ")) + name, numbers)
@@ -69,17 +69,16 @@ class Maker:
 
     def intersection(self, depth):
         """Elements with INTERSECTION between them, each of which may have an EXCEPT."""
-        text, numbers, unseen, nothing = [], None, False, True
+        text, numbers, unseen = [], None, False
         for _ in range(self.chance.choice((1, 1, 1, 2, 2, 3))):
             one = self.element(depth)
             unseen |= one.unseen
-            nothing &= one.nothing
             if self.chance.random() < 0.08:
                 one.text += f" EXCEPT {self.element(depth).text}"
                 unseen = True
             numbers = one.numbers if numbers is None else numbers & one.numbers
             text.append(one.text)
-        return Made(self.chance.choice((" ^ ", " INTERSECTION ")).join(text), numbers, unseen, nothing)
+        return Made(self.chance.choice((" ^ ", " INTERSECTION ")).join(text), numbers, unseen)
 
     def union(self, depth):
         parts = [self.intersection(depth) for _ in range(self.chance.choice((1, 1, 2, 2, 3)))]
@@ -87,7 +86,7 @@ class Maker:
             return Made(f"ALL EXCEPT {self.element(depth).text}", set(range(self.least, self.most + 1)), True)
         text = self.chance.choice((" | ", " UNION ")).join(it.text for it in parts)
         numbers = set.union(*(it.numbers for it in parts))
-        return Made(text, numbers, any(it.unseen for it in parts), any(it.nothing for it in parts))
+        return Made(text, numbers, any(it.unseen for it in parts))
 
     def marked(self, depth):
         """A set, its text with a mark where it has one, and whether it has."""
@@ -109,9 +108,7 @@ class Type:
             one, text, mark = maker.marked(chance.choice((0, 1, 2, 3)))
             self.numbers &= one.numbers
             self.unseen |= one.unseen
-            # a constraint of which nothing is seen takes no mark away
-            if not one.nothing:
-                self.is_marked = mark
+            self.is_marked = mark
             self.texts.append(text)
 
     def constraints(self, word, chance):

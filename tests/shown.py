@@ -8,8 +8,8 @@ the fields are all units, one after the other, up to the last or to the refused 
 the octets; the values that they say are those of the JSON that `show` writes; the last line tells of a refusal what `show`
 does; and the page of HTML has the same bits and lines, each field in one colour and its neighbours in others. Of types: the
 names are those that stand in the text of the module, the sizes of messages are within those that are told, and these are
-the least and the greatest. What
-`example` gives is encoded, and is the value again.
+the least and the greatest of types whose sizes were worked out by hand. What `example` gives is encoded, and is the value
+again.
 """
 import base64
 import html

@@ -6,8 +6,8 @@ usage: tests/streaming.py PROGRAM      a built asn_tool
 The answers to the messages of `examples` are those to the same messages after a line `====`, in each order and under both
 rules, whole and cut into pieces of few octets; an answer comes before the next line is written; the memory of the program
 does not grow with its input; and what stops it is told. With --explain standard output is the same. Of messages that stand
-one after the other without lines (--in binary --split) each is answered once its last octet has come, also by `fields`. With --stats a
-terminal is told how many messages are answered so far, and nothing else is.
+one after the other without lines (--in binary --split) each is answered once its last octet has come, also by `fields`.
+With --stats a terminal is told how many messages are answered so far, and nothing else is.
 """
 import os
 import pty

@@ -23,8 +23,8 @@ usage: tests/gate.py [PART..]      the parts are proofs, edits and tests; all th
 
 What a step writes is shown as it comes: a line for each crate that is proved, and for each group of edits that is tried.
 The end says how many minutes of a processor each part and each of its steps took, and how many by the clock the part took
-from its first line to its last; and how many times as long as at best the processors took for the same work (speed.py),
-since other guests of their host, or what else runs, makes each minute longer.
+from its first line to its last; how many times as long as at best the processors took for the same work (speed.py), since
+other guests of their host, or what else runs, makes each minute longer; and whether the cache that they share was ours.
 The last line is 'N passed, M failed': crates, edits, rows of the test programs, scripts, and steps of bindings/tests.sh.
 The line before it is 'K skipped' where steps were.
 """
@@ -321,12 +321,15 @@ def run(names):
     return parts
 
 
-def tell_all(used, clock, times):
-    """Says how many minutes of a processor and by the clock all parts took, and how many they would be at the best speed of
-    the processors, which took so many times as long."""
+def tell_all(used, clock, speed):
+    """Says how many minutes of a processor and by the clock all parts took, how many they would be at the best speed of the
+    processors, and how much longer memory takes to answer that only the cache that other guests share can hold."""
+    times = speed.times_as_long()
     say(f"in all: {used:.1f} minutes of a processor, {clock:.1f} by the clock on {len(os.sched_getaffinity(0))} processors")
     at_best = f"some {used / times:.1f} minutes of a processor, and {clock / times:.1f} by the clock"
     say(f"for the same work these took {times:.2f} times as long as at best, where all would be {at_best}")
+    longer = speed.nanoseconds_longer()
+    say(f"a step through 4 MB took {longer:.0f} ns longer than one through 64 KB: some 20 in the host's cache, 100 where it is full")
 
 
 def main(names):
@@ -339,7 +342,7 @@ def main(names):
     parts = {"form": form, **(run(names or [*PARTS]) if not form.failed else {})}
     for name, it in parts.items():
         it.tell(name)
-    tell_all(sum(it.seconds() for it in parts.values()) / 60, (time.time() - start) / 60, speed.times_as_long())
+    tell_all(sum(it.seconds() for it in parts.values()) / 60, (time.time() - start) / 60, speed)
     lost = [name for it in parts.values() for name in it.lost]
     if lost:
         say(f"FAILED: {' '.join(lost)}")

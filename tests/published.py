@@ -376,6 +376,17 @@ def too_large(count, program):
                 count.add(ran[4] < 100, f"{words}, too large: {ran[4]:.0f} MB")
 
 
+def not_utf8(count, program):
+    """A file with an octet that is not UTF-8, in a comment too, is refused with its line."""
+    with tempfile.NamedTemporaryFile(suffix=".asn") as file:
+        file.write(f"{HEAD}T ::= NULL\n-- \u00a7 5.2\nEND\n".encode("latin-1"))
+        file.flush()
+        for words in (["flatten", file.name], ["module", "--module", file.name]):
+            wanted = (2, b"", f"{file.name}:{HEAD.count(chr(10)) + 2}: not UTF-8\n".encode())
+            ran = run(program, words)
+            count.add(ran[:3] == wanted, f"{words}, Latin-1: {ran[:3]}")
+
+
 def main(words):
     if len(words) != 1:
         print(__doc__, file=sys.stderr)
@@ -388,6 +399,7 @@ def main(words):
     told(count, program)
     hostile(count, program)
     too_large(count, program)
+    not_utf8(count, program)
     print(f"{count.passed} passed, {count.failed} failed")
     return 1 if count.failed else 0
 

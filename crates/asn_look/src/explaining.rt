@@ -1,5 +1,6 @@
 //! Why a line is refused, in words.
-use crate::typed::{json_words, type_at, type_words};
+use crate::typed::{type_at, type_words};
+use crate::wanted::wanted_words;
 use asn_explain::{Explanation, explain};
 use asn_jobs::{Order, RuleName};
 use asn_json::{JsonFault, value_shown};
@@ -172,18 +173,23 @@ fn why_no_value(alloc: Global, ty: &Checked, line: &[u8]) -> Result<String, Allo
 fn why_not_shown(alloc: Global, ty: &Checked, json: &Json) -> Result<String, AllocError> {
     match value_shown(alloc, ty, json) {
         Ok(value) => why_no_encoding(alloc, ty, &value),
-        Err(JsonFault::Shape { path }) => wanted_words(alloc, ty, path.as_str()),
+        Err(JsonFault::Shape { path }) => why_no_shape(alloc, ty, json, path.as_str()),
         Err(_) => Err(AllocError),
     }
 }
 
-/// What is wanted at a path of JSON.
-fn wanted_words(alloc: Global, ty: &Checked, path: &str) -> Result<String, AllocError> {
+/// Why JSON is not of the shape of the type at a path.
+fn why_no_shape(
+    alloc: Global,
+    ty: &Checked,
+    json: &Json,
+    path: &str,
+) -> Result<String, AllocError> {
     let place = place_words(alloc, ty, path)?;
     match type_at(ty.get(), path) {
         Some(part) => {
-            let wanted = json_words(alloc, part)?;
-            format!(in alloc; "in {place}: {wanted} is wanted")
+            let reason = wanted_words(alloc, part, json, path)?;
+            format!(in alloc; "in {place}: {reason}")
         }
         None => Ok(place),
     }

@@ -15,6 +15,7 @@ mod newer_json;
 mod paths;
 mod streams;
 mod typed;
+mod wanted;
 
 pub use budget::{over_in_line, over_text};
 pub use counting::Counts;

@@ -1,6 +1,5 @@
 //! The type of a part of a value, in words.
-use asn_values::internal::additions;
-use asn_values::{Alt, AsnType, Bounds, Field, Item, Need, Size, TextKind};
+use asn_values::{AsnType, Bounds, Size, TextKind};
 use std::alloc::{AllocError, Global};
 
 /// The type of the part at a path of the names and indexes that `asn_explain`, `asn_view` and `asn_json` tell; `None` where
@@ -109,80 +108,4 @@ fn sized_words(alloc: Global, name: &str, size: &Size, last: &str) -> Result<Str
         None if low == 0 => format!(in alloc; "{name}{last}"),
         None => format!(in alloc; "{name} (SIZE ({low}..MAX{mark})){last}"),
     }
-}
-
-/// The JSON that stands for a value of the type.
-pub fn json_words(alloc: Global, ty: &AsnType) -> Result<String, AllocError> {
-    let words = match ty {
-        AsnType::Bool => "true or false",
-        AsnType::Null => "null",
-        AsnType::Int(_) => "an integer of at most 64 bits",
-        AsnType::Enum { root, ext } => return item_words(alloc, root, additions(ext)),
-        AsnType::Bits(_) => "a string of 0 and 1",
-        AsnType::Octets(_) => "a string of hexadecimal digits, two an octet",
-        AsnType::Text(..) | AsnType::Utf8 => "a string",
-        AsnType::Seq { root, ext } => return component_words(alloc, root, additions(ext)),
-        AsnType::SeqOf(..) => "an array",
-        AsnType::Choice { root, ext } => return alternative_words(alloc, root, additions(ext)),
-    };
-    String::from_str(alloc, words)
-}
-
-/// The names of the items.
-fn item_words(alloc: Global, root: &[Item], more: &[Item]) -> Result<String, AllocError> {
-    let mut words = String::from_str(alloc, "one of the names")?;
-    push_items(&mut words, root)?;
-    push_items(&mut words, more)?;
-    Ok(words)
-}
-
-/// The names of these items, each behind a SPACE.
-fn push_items(words: &mut String, items: &[Item]) -> Result<(), AllocError> {
-    for item in items {
-        push_name(words, item.name.as_str(), "")?;
-    }
-    Ok(())
-}
-
-/// The keys of an object for the components.
-fn component_words(alloc: Global, root: &[Field], more: &[Field]) -> Result<String, AllocError> {
-    let mut words = String::from_str(alloc, "an object with the keys")?;
-    push_components(&mut words, root)?;
-    push_components(&mut words, more)?;
-    Ok(words)
-}
-
-/// The names of these components, each behind a SPACE.
-fn push_components(words: &mut String, fields: &[Field]) -> Result<(), AllocError> {
-    for field in fields {
-        let may_be_missing = match field.need {
-            Need::Must => "",
-            Need::Optional | Need::Default(_) => " (may be missing)",
-        };
-        push_name(words, field.name.as_str(), may_be_missing)?;
-    }
-    Ok(())
-}
-
-/// The keys of which an object for a CHOICE has one.
-fn alternative_words(alloc: Global, root: &[Alt], more: &[Alt]) -> Result<String, AllocError> {
-    let mut words = String::from_str(alloc, "an object with one of the keys")?;
-    push_alternatives(&mut words, root)?;
-    push_alternatives(&mut words, more)?;
-    Ok(words)
-}
-
-/// The names of these alternatives, each behind a SPACE.
-fn push_alternatives(words: &mut String, alternatives: &[Alt]) -> Result<(), AllocError> {
-    for alternative in alternatives {
-        push_name(words, alternative.name.as_str(), "")?;
-    }
-    Ok(())
-}
-
-/// One more name of a list.
-fn push_name(words: &mut String, name: &str, what: &str) -> Result<(), AllocError> {
-    words.push(' ')?;
-    words.push_str(name)?;
-    words.push_str(what)
 }

@@ -1,5 +1,6 @@
 //! Why a module is refused, with its line and a mark under it, and why a text has no messages.
 use crate::sources::MOST;
+use crate::texts::line_of_octet;
 use asn_jobs::Job;
 use asn_module::{Module, ModuleFault, RefusedText, read_explained};
 use asn_published::{Options, PublishedFault, flatten_within};
@@ -47,8 +48,12 @@ pub fn text_told(
     job: &Job,
     is_all: bool,
 ) -> Result<String, AllocError> {
-    let Ok(text) = std::str::from_utf8(text) else {
-        return Ok(String::new(alloc));
+    let text = match std::str::from_utf8(text) {
+        Ok(text) => text,
+        Err(fault) => {
+            let line = line_of_octet(text, fault.valid_up_to());
+            return format!(in alloc; "line {line}: not UTF-8\n");
+        }
     };
     let words = module_told(alloc, text, options, job)?;
     if !is_all || matches!(job, Job::Module) {
@@ -141,17 +146,12 @@ fn fault_line(fault: &PublishedFault) -> Result<u32, AllocError> {
 
 /// The line, counted from 1, of a fault that has a place.
 fn line_of(text: &str, fault: &ModuleFault) -> Option<u32> {
-    let at = match fault {
-        ModuleFault::Character { at } | ModuleFault::Unexpected { at } => *at,
-        _ => return None,
-    };
-    let mut line: u32 = 1;
-    for (index, octet) in text.as_bytes().iter().enumerate() {
-        if index < at && *octet == b'\n' {
-            line = line.saturating_add(1);
+    match fault {
+        ModuleFault::Character { at } | ModuleFault::Unexpected { at } => {
+            Some(line_of_octet(text.as_bytes(), *at))
         }
+        _ => None,
     }
-    Some(line)
 }
 
 /// The line of this number, counted from 1, of a text, behind its number.

@@ -16,9 +16,12 @@ pub enum Stop<'a> {
     /// A file is not read.
     #[error("{0}: read failed")]
     Unread(&'a str),
-    /// What a file holds is not UTF-8.
-    #[error("{0}: not text")]
-    NotText(&'a str),
+    /// What a file holds is not UTF-8 from this line on, which is counted from 1.
+    #[error("{file}:{line}: not UTF-8")]
+    NotText {
+        file: &'a str,
+        line: u32,
+    },
     /// The text of a file is none of the notation; the line is counted from 1.
     #[error("{file}:{line}: {wrong}")]
     Notation {
@@ -59,7 +62,7 @@ impl<'a> Stop<'a> {
         ensures { result ≡ stop_status self.now }
     {
         match self {
-            Stop::NotText(_) | Stop::Notation { .. } | Stop::NotOfProfile(_) => 2,
+            Stop::NotText { .. } | Stop::Notation { .. } | Stop::NotOfProfile(_) => 2,
             Stop::TooLarge { .. } => 2,
             Stop::Unserved(_) => 2,
             Stop::Unread(_) | Stop::Read | Stop::Write | Stop::Memory => 3,

@@ -8,11 +8,25 @@ fn text_of<'a>(rt: &HostRuntime, file: &'a str) -> Result<String, Stop<'a>> {
     match fs::read(rt, file) {
         Ok(octets) => match String::from_utf8(octets) {
             Ok(text) => Ok(text),
-            Err(_) => Err(Stop::NotText(file)),
+            Err(fault) => {
+                let line = line_of_octet(fault.as_bytes(), fault.utf8_error().valid_up_to());
+                Err(Stop::NotText { file, line })
+            }
         },
         Err(fault) if fault.kind() == ErrorKind::OutOfMemory => Err(Stop::Memory),
         Err(_) => Err(Stop::Unread(file)),
     }
+}
+
+/// The line, counted from 1, on which the octet at an index stands.
+pub(crate) fn line_of_octet(octets: &[u8], at: usize) -> u32 {
+    let mut line: u32 = 1;
+    for octet in octets.iter().take(at) {
+        if *octet == b'\n' {
+            line = line.saturating_add(1);
+        }
+    }
+    line
 }
 
 /// The texts of files, in their order.

@@ -32,6 +32,11 @@ pub(crate) fn is_type(tokens: &Tokens<'_>, at: usize) -> bool {
     tokens.is_bracket(at) || is_selection || is_field || is_contained(tokens, at)
 }
 
+/// Whether what stands before `end` is the low end of a range.
+fn is_range(tokens: &Tokens<'_>, end: usize) -> bool {
+    tokens.is(end, Sign::UpTo) || tokens.is(end, Sign::Less)
+}
+
 /// Of a component relation, as `@a.b` or `@..c`, the index after it.
 fn after_relation(tokens: &Tokens<'_>, from: usize) -> Result<usize, TextFault> {
     let mut at = tokens.past(from, Sign::At, "@")?;
@@ -143,7 +148,7 @@ impl<'a, 't> Reading<'a, 't> {
         }
         if is_type(tokens, at) {
             if let Ok(end) = type_end(tokens, at) {
-                if !tokens.is(end, Sign::Colon) {
+                if !tokens.is(end, Sign::Colon) && !is_range(tokens, end) {
                     return self.push_type(todo, at);
                 }
             }

@@ -43,7 +43,8 @@ impl Given {
 }
 
 /// Reserved words with which types begin that go on after them.
-const WORDS_THAT_GO_ON: [&str; 11] = [
+const WORDS_THAT_GO_ON: [&str; 12] = [
+    "INTEGER",
     "SEQUENCE",
     "SET",
     "CHOICE",

@@ -354,9 +354,11 @@ def hostile(count, program):
 
 
 def grown(published):
-    """A text of 14 KB whose module comes to more than 10,000,000: names of 1,000 letters, in types inside others."""
+    """A text of 14 KB whose module comes to more than 10,000,000, and so does its type E: names of 1,000 letters, in types
+    inside others."""
     long = ", ".join(f"a{chr(98 + it) * 999} NULL" for it in range(10))
     many = "".join(f"D{it} ::= SEQUENCE {{ c C }}\n" for it in range(20))
+    many += f"E ::= SEQUENCE {{ {', '.join(f'd{it} D{it}' for it in range(15))} }}\n"
     value = "n INTEGER ::= 7\n" if published else ""
     return f"{HEAD}{value}B ::= SEQUENCE {{ {long} }}\nC ::= SEQUENCE {{ {', '.join(f'b{it} B' for it in range(60))} }}\n{many}END\n".encode()
 
@@ -368,12 +370,24 @@ def too_large(count, program):
         with tempfile.NamedTemporaryFile(suffix=".asn") as file:
             file.write(text)
             file.flush()
-            show = ["show", "--type", "B", "--rules", "per"]
+            show = ["show", "--type", "E", "--rules", "per"]
             for words, given in ((["module"], text), ([*show], text + b"====\n00\n"), (["module", "--module", file.name], b""), ([*show, "--module", file.name], b"00\n"), (["flatten", file.name], b"")):
                 ran = run(program, words, given)
-                line = rb"not read: at D\d+ its types come to more than 10000000, references followed\n"
+                line = rb"not read: at (D\d+|E) its types come to more than 10000000, references followed\n"
                 count.add(ran[0] == 2 and not ran[1] and bool(re.fullmatch(line, ran[2])), f"{words}, too large: {ran[:3]}")
                 count.add(ran[4] < 100, f"{words}, too large: {ran[4]:.0f} MB")
+
+
+def small_of_large(count, program):
+    """Of published modules that come to too much the types are read to which the one that is named leads."""
+    with tempfile.NamedTemporaryFile(suffix=".asn") as file:
+        file.write(grown(True))
+        file.flush()
+        for name, octets in ("B", b"00\n"), ("D7", b"00\n"):
+            ran = run(program, ["check", "--type", name, "--rules", "per", "--module", file.name], octets)
+            count.add(ran[:3] == (0, b"ok 1\n", b""), f"check --type {name} of modules that are too large: {ran[:3]}")
+        ran = run(program, ["types", "B", "--module", file.name])
+        count.add(ran[0] == 0 and ran[1].count(b"NULL") == 10, f"types B of modules that are too large: {ran[:3]}")
 
 
 def not_utf8(count, program):
@@ -399,6 +413,7 @@ def main(words):
     told(count, program)
     hostile(count, program)
     too_large(count, program)
+    small_of_large(count, program)
     not_utf8(count, program)
     print(f"{count.passed} passed, {count.failed} failed")
     return 1 if count.failed else 0

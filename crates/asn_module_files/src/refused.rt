@@ -1,9 +1,9 @@
 //! Why a module is refused, with its line and a mark under it, and why a text has no messages.
-use crate::sources::MOST;
+use crate::sources::flattened_for;
 use crate::texts::line_of_octet;
 use asn_jobs::Job;
 use asn_module::{Module, ModuleFault, RefusedText, read_explained};
-use asn_published::{Options, PublishedFault, flatten_within};
+use asn_published::{Options, PublishedFault};
 use std::alloc::{AllocError, Global};
 
 /// What is said where a text imports from modules that are not given.
@@ -73,7 +73,7 @@ fn module_told(
 ) -> Result<String, AllocError> {
     match read_explained(alloc, text) {
         Ok(module) => type_told(alloc, &module, job),
-        Err(refused) => refusal_told(alloc, text, options, &refused),
+        Err(refused) => refusal_told(alloc, text, options, job, &refused),
     }
 }
 
@@ -112,6 +112,7 @@ fn refusal_told(
     alloc: Global,
     text: &str,
     options: Options,
+    job: &Job,
     refused: &RefusedText,
 ) -> Result<String, AllocError> {
     let RefusedText { fault, words } = refused;
@@ -119,7 +120,7 @@ fn refusal_told(
         return Err(AllocError);
     }
     let own_line = line_of(text, fault);
-    match (own_line, published_line(alloc, text, options)?) {
+    match (own_line, published_line(alloc, text, options, job)?) {
         (Some(own), Some(line)) if own < line => line_told(alloc, text, line),
         (Some(_), None) => Ok(String::new(alloc)),
         _ => format!(in alloc; "{words}\n"),
@@ -128,8 +129,13 @@ fn refusal_told(
 
 /// The line, counted from 1, at which the reader of published modules finds a fault of the notation; 0 where what it reads
 /// is not taken, and `None` where it is.
-fn published_line(alloc: Global, text: &str, options: Options) -> Result<Option<u32>, AllocError> {
-    match flatten_within(alloc, &[text], options, MOST) {
+fn published_line(
+    alloc: Global,
+    text: &str,
+    options: Options,
+    job: &Job,
+) -> Result<Option<u32>, AllocError> {
+    match flattened_for(alloc, &[text], options, job) {
         Ok(_) => Ok(None),
         Err(fault) => Ok(Some(fault_line(&fault)?)),
     }

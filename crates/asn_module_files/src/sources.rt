@@ -10,8 +10,8 @@ ghost use Rattle.asn_module_files.specs.Sources.{IsInput, IsInputOf, IsOwn, IsOw
 use asn_jobs::{Job, cut_input};
 use asn_module::{BoundFault, Module, ModuleFault, read_within};
 use asn_published::{
-    Flattened, Options, PublishedFault, Status, TypeReport, flatten_within, missing_text,
-    report_text, way_text,
+    Flattened, Options, PublishedFault, Status, TypeReport, flatten_type_within, flatten_within,
+    missing_text, report_text, way_text,
 };
 use std::alloc::{AllocError, Global};
 
@@ -69,12 +69,30 @@ fn published(
 ) -> Result<Instead, PublishedFault>
     ensures { IfOk result (λ i. IfSome i.octets (λ o. IsInput rest.now o.items)) }
 {
-    match flatten_within(alloc, &[text], options, MOST) {
+    match flattened_for(alloc, &[text], options, job) {
         Ok(flattened) => Ok(flattened_input(alloc, &[STDIN], &flattened, rest, job)?),
         Err(fault) => Ok(Instead {
             octets: None,
             remarks: fault_line(alloc, fault)?,
         }),
+    }
+}
+
+/// What published modules become for a job: the types that its type leads to, or all where no type has its name.
+pub(crate) fn flattened_for(
+    alloc: Global,
+    texts: &[&str],
+    options: Options,
+    job: &Job,
+) -> Result<Flattened, PublishedFault>
+    ensures accepted { IfOk result (λ f. Accepted (string_bytes f.text) (types_view f.module)) }
+    ensures within { IfOk result (λ f. IsNotLarge (types_view f.module)) }
+{
+    match job {
+        Job::Module => flatten_within(alloc, texts, options, MOST),
+        Job::Lines { type_name, .. } => {
+            flatten_type_within(alloc, texts, options, type_name.as_str(), MOST)
+        }
     }
 }
 
@@ -198,7 +216,7 @@ fn published_input(
 ) -> Result<Instead, PublishedFault>
     ensures { IfOk result (λ i. IfSome i.octets (λ o. IsInput rest.now o.items)) }
 {
-    let flattened = flatten_within(alloc, texts, options, MOST)?;
+    let flattened = flattened_for(alloc, texts, options, job)?;
     Ok(flattened_input(alloc, files, &flattened, rest, job)?)
 }
 

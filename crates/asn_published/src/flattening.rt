@@ -8,6 +8,7 @@ ghost use Rattle.asn_published.specs.TextFaults.{IsOneOf};
 
 use crate::fault::PublishedFault;
 use crate::naming::{level_mark_of, names_of};
+use crate::reaching::order_for;
 use crate::refusing::refuse;
 use crate::reports::reports_of;
 use asn_module::{Module, read, read_within};
@@ -17,7 +18,6 @@ use asn_published_text::modules::{What, World};
 use asn_published_text::options::Options;
 use asn_published_types::building::Forest;
 use asn_published_types::numbers::numbers_of;
-use asn_published_types::order::order_of;
 use asn_published_types::pieces::push_pieces;
 use asn_published_types::report::TypeReport;
 use asn_published_write::sources::Sources;
@@ -114,8 +114,12 @@ fn places_of<'t>(
     Ok(places)
 }
 
-/// Reads the texts, and builds the nodes of all types.
-fn sources_of<'t>(alloc: Global, texts: &[&'t str]) -> Result<Sources<'t>, PublishedFault>
+/// Reads the texts, and builds the nodes of all types; those are written to which the type of a name leads, or all.
+fn sources_of<'t>(
+    alloc: Global,
+    texts: &[&'t str],
+    wanted: Option<&str>,
+) -> Result<Sources<'t>, PublishedFault>
     ensures { IfErr result (IsOneOf (length texts.now)) }
 {
     let world = read_texts(alloc, texts)?;
@@ -124,8 +128,8 @@ fn sources_of<'t>(alloc: Global, texts: &[&'t str]) -> Result<Sources<'t>, Publi
     let numbers = numbers_of(alloc, &world)?;
     let names = names_of(alloc, &world, &forest.instances)?;
     let level_mark = level_mark_of(alloc, names.as_slice())?;
-    let order = order_of(alloc, &forest, places.spans.as_slice())?;
-    let Places { firsts, spans: _ } = places;
+    let Places { firsts, spans } = places;
+    let order = order_for(alloc, &forest, spans.as_slice(), names.as_slice(), wanted)?;
     Ok(Sources {
         world,
         forest,
@@ -248,7 +252,7 @@ pub fn flatten(alloc: Global, texts: &[&str], options: Options) -> Result<Flatte
     // The text is one that `asn_module` accepts, as the module that is beside it.
     ensures accepted { IfOk result (λ f. Accepted (string_bytes f.text) (types_view f.module)) }
 {
-    flatten_at_most(alloc, texts, options, None)
+    flatten_at_most(alloc, texts, options, None, None)
 }
 
 /// What `flatten` answers, of a module that is no larger than `most`, as `asn_module::read_within` counts it.
@@ -265,22 +269,42 @@ pub fn flatten_within(
     ensures accepted { IfOk result (λ f. Accepted (string_bytes f.text) (types_view f.module)) }
     ensures within { IfOk result (λ f. types_size (types_view f.module).types ≤ most) }
 {
-    flatten_at_most(alloc, texts, options, Some(most))
+    flatten_at_most(alloc, texts, options, None, Some(most))
 }
 
-/// The module, which is no larger where there is a bound.
+/// What `flatten_within` answers, of the types alone to which the type of a name leads, itself one of them; of all types,
+/// where none has the name. The name is that in the module of the profile.
+///
+/// # Errors
+/// Those of `flatten_within`.
+pub fn flatten_type_within(
+    alloc: Global,
+    texts: &[&str],
+    options: Options,
+    name: &str,
+    most: u32,
+) -> Result<Flattened, PublishedFault>
+    ensures fault { IfErr result (IsOneOf (length texts.now)) }
+    ensures accepted { IfOk result (λ f. Accepted (string_bytes f.text) (types_view f.module)) }
+    ensures within { IfOk result (λ f. types_size (types_view f.module).types ≤ most) }
+{
+    flatten_at_most(alloc, texts, options, Some(name), Some(most))
+}
+
+/// The module of the types that the type of a name leads to, or of all. Where there is a bound, it is no larger.
 #[tactic(auto, using(crate::proofs::TextFaults::of_no_text))]
 fn flatten_at_most(
     alloc: Global,
     texts: &[&str],
     options: Options,
+    wanted: Option<&str>,
     most: Option<u32>,
 ) -> Result<Flattened, PublishedFault>
     ensures fault { IfErr result (IsOneOf (length texts.now)) }
     ensures accepted { IfOk result (λ f. Accepted (string_bytes f.text) (types_view f.module)) }
     ensures within { IfOk result (λ f. IsAtMost most (types_size (types_view f.module).types)) }
 {
-    let sources = sources_of(alloc, texts)?;
+    let sources = sources_of(alloc, texts, wanted)?;
     let mut refused = vec![in alloc; false; sources.names.len()]?;
     for _ in 1..MOST_TRIES {
         match attempt(alloc, &sources, options, refused.as_slice(), most) {

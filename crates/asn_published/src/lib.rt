@@ -4,6 +4,7 @@
 mod fault;
 mod flattening;
 mod naming;
+mod reaching;
 mod refusing;
 mod reports;
 
@@ -16,4 +17,4 @@ pub use asn_published_text::refusal::Why;
 pub use asn_published_text::wrong::Wrong;
 pub use asn_published_types::report::{Note, Remark, Status, TypeReport};
 pub use fault::PublishedFault;
-pub use flattening::{Flattened, flatten, flatten_within};
+pub use flattening::{Flattened, flatten, flatten_type_within, flatten_within};

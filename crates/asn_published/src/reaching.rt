@@ -1,0 +1,67 @@
+//! Which types are written: those that one leads to, or all.
+use asn_published_text::nodes::Shape;
+use asn_published_types::building::Forest;
+use asn_published_types::order::{Order, order_of};
+use std::alloc::{AllocError, Global};
+
+/// Appends the types to which the nodes of a type refer.
+fn push_references(
+    todo: &mut Vec<usize>,
+    forest: &Forest<'_>,
+    nodes: (usize, usize),
+) -> Result<(), AllocError> {
+    let (first, end) = nodes;
+    for index in first..end {
+        if let Some(node) = forest.node(index) {
+            if let Shape::Reference { to } = node.shape {
+                todo.push(to)?;
+            }
+        }
+    }
+    Ok(())
+}
+
+/// Where the nodes of a type and of all that it leads to stand, and of no others.
+fn spans_from(
+    alloc: Global,
+    forest: &Forest<'_>,
+    spans: &[Option<(usize, usize)>],
+    start: usize,
+) -> Result<Vec<Option<(usize, usize)>>, AllocError> {
+    let mut reached = vec![in alloc; None; spans.len()]?;
+    let mut todo = Vec::new(alloc);
+    todo.push(start)?;
+    for _ in 0..u64::MAX {
+        let Some(entry) = todo.pop() else {
+            break;
+        };
+        let (Some(Some(nodes)), Some(place)) = (spans.get(entry), reached.get_mut(entry)) else {
+            continue;
+        };
+        if place.is_none() {
+            *place = Some(*nodes);
+            push_references(&mut todo, forest, *nodes)?;
+        }
+    }
+    Ok(reached)
+}
+
+/// The types in order that the type of a name leads to, itself one of them; all, where there is no name or none has it.
+pub(crate) fn order_for(
+    alloc: Global,
+    forest: &Forest<'_>,
+    spans: &[Option<(usize, usize)>],
+    names: &[String],
+    wanted: Option<&str>,
+) -> Result<Order, AllocError> {
+    let Some(wanted) = wanted else {
+        return order_of(alloc, forest, spans);
+    };
+    match names.iter().position(|name| *name.as_str() == *wanted) {
+        Some(start) => {
+            let reached = spans_from(alloc, forest, spans, start)?;
+            order_of(alloc, forest, reached.as_slice())
+        }
+        None => order_of(alloc, forest, spans),
+    }
+}

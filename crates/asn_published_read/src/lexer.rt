@@ -1,9 +1,13 @@
-//! Cuts a text into its lexical items (X.680, "ASN.1 lexical items"), with both kinds of comment.
+//! Cuts a text into its lexical items (X.680, "ASN.1 lexical items"), with both kinds of comment and a byte order mark in
+//! front.
 use crate::octets::{Place, octet_at, on, step};
 use crate::xml::after_xml;
 use asn_published_text::token::{Kind, Sign, Token};
 use asn_published_text::wrong::{TextFault, Wrong};
 use std::alloc::Global;
+
+/// What may stand in front of a text, and is no part of it.
+const BYTE_ORDER_MARK: char = '\u{FEFF}';
 
 /// How many characters a name may have, which stands in each line of a report.
 const MOST_CHARACTERS: usize = 1000;
@@ -299,11 +303,21 @@ fn item_at(octets: &[u8], from: Place) -> Result<(Kind, Place), TextFault> {
     }
 }
 
+/// Where the text begins: after the byte order mark that some editors put in front of UTF-8, if it has one.
+fn start_of(text: &str) -> Place {
+    let at = if text.starts_with(BYTE_ORDER_MARK) {
+        BYTE_ORDER_MARK.len_utf8()
+    } else {
+        0
+    };
+    Place { at, line: 1 }
+}
+
 /// The lexical items of a text, in order.
 pub(crate) fn items_of<'t>(alloc: Global, text: &'t str) -> Result<Vec<Token<'t>>, TextFault> {
     let octets = text.as_bytes();
     let mut tokens = Vec::new(alloc);
-    let mut place = Place { at: 0, line: 1 };
+    let mut place = start_of(text);
     let mut follows = false;
     for _ in 0..u64::MAX {
         place = skip_blank(octets, place)?;

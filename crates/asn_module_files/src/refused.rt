@@ -12,6 +12,37 @@ The text is one of several: it imports types from modules that are not given. Gi
 the other in front of the line ====, or as files, --module FILE FILE ..
 ";
 
+/// What is said where named bits without a fixed size are refused.
+const PLAIN_BITS: &str = "\
+With --plain-bits named bits without a fixed size are a BIT STRING, whose writer trims the last zeros.
+";
+
+/// What is said where a recursive type is refused.
+const LEVELS: &str = "\
+With --levels N a recursive type has N levels, below which is NULL.
+";
+
+/// What is said where a type is refused of which the content can be had.
+const OCTETS: &str = "\
+With --octets OBJECT IDENTIFIER, REAL and strings of other characters are an OCTET STRING of their content.
+";
+
+/// The ends of remarks, and what is said, once, where one of them stands among the remarks on published modules.
+const ADVICE: [(&str, &str); 6] = [
+    (": a module that is not given\n", ONE_OF_SEVERAL),
+    (
+        ": named bits without a fixed size: PER trims zeros\n",
+        PLAIN_BITS,
+    ),
+    (": recursion\n", LEVELS),
+    (": OBJECT IDENTIFIER is no type of the profile\n", OCTETS),
+    (": REAL is no type of the profile\n", OCTETS),
+    ("String is no type of the profile\n", OCTETS),
+];
+
+/// How many types of a module are named where it has none of a name.
+const MOST_NAMES: usize = 100;
+
 /// What is said where no line is the mark.
 const NO_MARK: &str = "\
 No line is ====, which ends the text of the module: so all is that text, and there are no messages.
@@ -27,13 +58,19 @@ const CARRIAGE_RETURN: &str = "\
 The line ==== ends in a carriage return, so it does not end the text of the module: only ==== and a line feed do.
 ";
 
-/// What is to be told where the remarks on published modules name one that is not given.
-pub fn imports_told(remarks: &str) -> &'static str {
-    if remarks.contains(": a module that is not given\n") {
-        ONE_OF_SEVERAL
-    } else {
-        ""
+/// What is to be told beside the remarks on published modules: that a text is one of several, and the options by which what
+/// is refused is taken.
+///
+/// # Errors
+/// `AllocError` where an allocation failed.
+pub fn advice_told(alloc: Global, remarks: &str) -> Result<String, AllocError> {
+    let mut told = String::new(alloc);
+    for (remark, advice) in &ADVICE {
+        if remarks.contains(*remark) && !told.as_str().contains(*advice) {
+            told.push_str(*advice)?;
+        }
     }
+    Ok(told)
 }
 
 /// What is to be told of the text of the module of a job: why it is refused, with its line and a mark under it, or which
@@ -90,7 +127,7 @@ fn mark_words(text: &str) -> &'static str {
     NO_MARK
 }
 
-/// The types of the module, where it has none of the name that the job has.
+/// The types of the module, the first MOST_NAMES of them, where it has none of the name that the job has.
 fn type_told(alloc: Global, module: &Module, job: &Job) -> Result<String, AllocError> {
     let Job::Lines { type_name, .. } = job else {
         return Ok(String::new(alloc));
@@ -99,7 +136,11 @@ fn type_told(alloc: Global, module: &Module, job: &Job) -> Result<String, AllocE
         return Ok(String::new(alloc));
     }
     let mut told = String::from_str(alloc, "The types of the module:")?;
-    for name in module.type_names() {
+    for (index, name) in module.type_names().enumerate() {
+        if index == MOST_NAMES {
+            told.push_str(" .. (`types` names all)")?;
+            break;
+        }
         told.push(' ')?;
         told.push_str(name)?;
     }

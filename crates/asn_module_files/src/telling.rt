@@ -1,5 +1,5 @@
 //! The input of a job, and what is told on standard error of its module.
-use crate::refused::{imports_told, line_told, text_told};
+use crate::refused::{advice_told, line_told, text_told};
 use crate::sources::{Instead, input_with, instead_of};
 use crate::stop::Stop;
 use crate::terminal::printable;
@@ -28,7 +28,7 @@ pub fn input_given(
     is_told: bool,
 ) -> Result<Vec<u8>, Stop<'static>> {
     let Instead { octets, remarks } = instead_of(rt.alloc(), given.as_slice(), options, job)?;
-    tell_remarks(rt, remarks.as_str(), is_told);
+    tell_remarks(rt, remarks.as_str(), is_told)?;
     match octets {
         Some(octets) => Ok(octets),
         None => Ok(given),
@@ -53,19 +53,21 @@ pub fn input_of_files<'a>(
     let views = views.as_slice();
     match input_with(rt.alloc(), files, views, b"".as_slice(), options, job) {
         Ok(Instead { octets, remarks }) => {
-            tell_remarks(rt, remarks.as_str(), is_told);
+            tell_remarks(rt, remarks.as_str(), is_told)?;
             Ok(octets)
         }
         Err(fault) => Err(stop_told(rt, files, views, fault, is_told)),
     }
 }
 
-/// Writes the remarks on published modules to standard error, and where that is asked for, that a module is one of several.
-fn tell_remarks(rt: &HostRuntime, remarks: &str, is_told: bool) {
+/// Writes the remarks on published modules to standard error, and where that is asked for, what can be done about them.
+fn tell_remarks(rt: &HostRuntime, remarks: &str, is_told: bool) -> Result<(), AllocError> {
     let _ = rt.eprint(remarks);
     if is_told {
-        let _ = rt.eprint(imports_told(remarks));
+        let advice = advice_told(rt.alloc(), remarks)?;
+        let _ = rt.eprint(advice.as_str());
     }
+    Ok(())
 }
 
 /// Why the texts of these files become no module, after the line of the fault, where that is told.

@@ -127,12 +127,13 @@ fn mark_words(text: &str) -> &'static str {
     NO_MARK
 }
 
-/// The types of the module, the first MOST_NAMES of them, where it has none of the name that the job has.
+/// The types of the module, the first MOST_NAMES of them, where it has none of the name that the job has; nothing where
+/// it has no types.
 fn type_told(alloc: Global, module: &Module, job: &Job) -> Result<String, AllocError> {
     let Job::Lines { type_name, .. } = job else {
         return Ok(String::new(alloc));
     };
-    if module.type_named(type_name.as_str()).is_some() {
+    if module.type_named(type_name.as_str()).is_some() || module.type_names().next().is_none() {
         return Ok(String::new(alloc));
     }
     let mut told = String::from_str(alloc, "The types of the module:")?;

@@ -386,6 +386,10 @@ def small_of_large(count, program):
         for name, octets in ("B", b"00\n"), ("D7", b"00\n"):
             ran = run(program, ["check", "--type", name, "--rules", "per", "--module", file.name], octets)
             count.add(ran[:3] == (0, b"ok 1\n", b""), f"check --type {name} of modules that are too large: {ran[:3]}")
+        ran = run(program, ["flatten", "--type", "B", file.name])
+        count.add(ran[0] == 0 and ran[1].count(b"::=") == 2 and b"same: 1\n" in ran[2], f"flatten --type B of modules that are too large: {ran[:3]}")
+        ran = run(program, ["flatten", "--type", "No", file.name])
+        count.add(ran[0] == 2 and not ran[1], f"flatten --type No of modules that are too large: {ran[:3]}")
         ran = run(program, ["types", "B", "--module", file.name])
         count.add(ran[0] == 0 and ran[1].count(b"NULL") == 10, f"types B of modules that are too large: {ran[:3]}")
 

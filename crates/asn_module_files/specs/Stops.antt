@@ -10,6 +10,7 @@ stop_status (stop.NotText file line) = 2
 stop_status (stop.Notation file line wrong) = 2
 stop_status (stop.NotOfProfile why) = 2
 stop_status (stop.Unserved words) = 2
+stop_status (stop.NoType name) = 2
 stop_status (stop.TooLarge most name) = 2
 stop_status stop.Read = 3
 stop_status stop.Write = 3

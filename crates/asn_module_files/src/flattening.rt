@@ -3,24 +3,52 @@ use crate::sources::MOST;
 use crate::stop::Stop;
 use crate::texts::{texts_of, views_of};
 use asn_published::{
-    Flattened, Options, Status, TypeReport, flatten_within, missing_json, missing_text,
-    report_json, report_text, summary_of,
+    Flattened, Options, Status, TypeReport, flatten_type_within, flatten_within, missing_json,
+    missing_text, report_json, report_text, summary_of,
 };
 use asn_request::request::Form;
 use std::alloc::{AllocError, Global};
 
 /// Writes the module that the published modules of these files become to standard output, and what became of each type
-/// to standard error. The exit status is 0, or 1 where a type is refused.
+/// to standard error; where a type is named, of this one and those that it leads to alone. The exit status is 0, or 1 where
+/// a type is refused.
 pub fn flatten_files<'a>(
     rt: &HostRuntime,
     files: &[&'a str],
+    type_name: &Option<String>,
     options: Options,
     form: Form,
 ) -> Result<u8, Stop<'a>> {
-    let flattened = flattened_of(rt, files, options)?;
+    let flattened = match type_name {
+        Some(name) => type_flattened(rt, files, name.as_str(), options)?,
+        None => flattened_of(rt, files, options)?,
+    };
     let told = told_in(rt.alloc(), files, &flattened, form)?;
     write_both(rt, flattened.text.as_str(), told.as_str())?;
     Ok(flatten_ending(flattened.report.as_slice()))
+}
+
+/// The module of the type of a name, and of those that it leads to, in the published modules of these files.
+fn type_flattened<'a>(
+    rt: &HostRuntime,
+    files: &[&'a str],
+    name: &str,
+    options: Options,
+) -> Result<Flattened, Stop<'a>> {
+    let texts = texts_of(rt, files)?;
+    let views = views_of(rt, texts.as_slice())?;
+    match flatten_type_within(rt.alloc(), views.as_slice(), options, name, MOST) {
+        Ok(flattened) if !is_told_of(flattened.report.as_slice(), name) => {
+            Err(Stop::NoType(String::from_str(rt.alloc(), name)?))
+        }
+        Ok(flattened) => Ok(flattened),
+        Err(fault) => Err(Stop::of(files, fault)),
+    }
+}
+
+/// Whether there is a type of this name, refused or not.
+fn is_told_of(report: &[TypeReport], name: &str) -> bool {
+    report.iter().any(|one| *one.name.as_str() == *name)
 }
 
 /// The module that the published modules of these files become.

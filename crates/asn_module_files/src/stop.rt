@@ -35,6 +35,9 @@ pub enum Stop<'a> {
     /// What is asked for is not done by the order, or is of a type that no module has.
     #[error("{0}")]
     Unserved(&'static str),
+    /// No type has this name.
+    #[error("no type {0}")]
+    NoType(String),
     /// The module is larger than it may be, at the type of this name.
     #[error("not read: at {name} its types come to more than {most}, references followed")]
     TooLarge {
@@ -63,7 +66,7 @@ impl<'a> Stop<'a> {
     {
         match self {
             Stop::NotText { .. } | Stop::Notation { .. } | Stop::NotOfProfile(_) => 2,
-            Stop::TooLarge { .. } => 2,
+            Stop::TooLarge { .. } | Stop::NoType(_) => 2,
             Stop::Unserved(_) => 2,
             Stop::Unread(_) | Stop::Read | Stop::Write | Stop::Memory => 3,
             Stop::Closed => 141,

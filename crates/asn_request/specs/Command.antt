@@ -115,7 +115,7 @@ leave_rules = flag_rule (codes "plain-bits") ∷ flag_rule (codes "octets") ∷ 
 -- the subcommand that flattens published modules
 abbrev pub flatten_app : Option ValueParser → App
 flatten_app p = with_rules (new_app (codes "flatten"))
-    (file_rule ∷ names_rule (codes "report") p ∷ flag_rule (codes "strict") ∷ leave_rules)
+    (file_rule ∷ names_rule (codes "report") p ∷ option_rule (codes "type") ∷ flag_rule (codes "strict") ∷ leave_rules)
 
 abbrev pub IsFlatten : Shape → Type 0
 IsFlatten s = (p : Option ValueParser) × TakesNames report_names p × (s ≡ (flatten_app p).top)

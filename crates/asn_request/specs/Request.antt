@@ -164,8 +164,10 @@ IsLook rows l = (option_map string_bytes l.type_name ≡ first_of (name_id l.wha
 
 -- what a subcommand asks for, by its name, and the values of its arguments
 abbrev pub IsRequestOf : Text × List Row → Request → Type 0
-IsRequestOf found (request.Flatten files options f) = (found.0 ≡ codes "flatten")
-    × (texts_of files.items ≡ files_of (codes "file") found.1) × AreOptions found.1 options × (f ≡ form_in found.1)
+IsRequestOf found (request.Flatten files type_name options f) = (found.0 ≡ codes "flatten")
+    × (texts_of files.items ≡ files_of (codes "file") found.1)
+    × (option_map string_bytes type_name ≡ first_of (codes "type") found.1) × AreOptions found.1 options
+    × (f ≡ form_in found.1)
 IsRequestOf found (request.Run j files options asking) = IsJobOf found j
     × (texts_of files.items ≡ files_of (codes "module") found.1) × AreOptions found.1 options × IsAsking found.1 asking
 IsRequestOf found (request.Look l files options asking) = (found.0 ≡ look_name l.what) × IsLook found.1 l

@@ -65,9 +65,10 @@ in [[ ]], contents, classes and parameters.
 Out: on standard output the one module of the profile that they become. On standard error what became of the types: how
 many are the same, wider, owed, per only and refused; with --report text a line for each remark, as FILE:LINE: TYPE:
 STATUS: REMARK; with --report json a line of JSON for each type. Before it each import of a module that is not given.
+With --type only that type is written and told of, and those that it leads to.
 
 Exit status: 0; 1 if at least one type was refused; 2 if a text is none of the notation, which standard error tells with
-file and line; 3 if reading, writing or memory failed.
+file and line, or no type has the name; 3 if reading, writing or memory failed.
 
 Example:
   echo 'M DEFINITIONS AUTOMATIC TAGS ::= BEGIN n INTEGER ::= 7 T ::= INTEGER (0..n) END' >m.asn

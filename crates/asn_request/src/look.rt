@@ -72,7 +72,11 @@ fn name_id(what: Looking) -> &'static str
 }
 
 /// The value of the argument of this id, if it was used.
-fn text_in(alloc: Global, options: &ArgMatches<'_>, id: &str) -> Result<Option<String>, AllocError>
+pub(crate) fn text_in(
+    alloc: Global,
+    options: &ArgMatches<'_>,
+    id: &str,
+) -> Result<Option<String>, AllocError>
     ensures { IfOk result (λ t. option_map string_bytes t ≡ first_of id.now (rows_of (found_of options.now))) }
 {
     match options.get_str(id) {

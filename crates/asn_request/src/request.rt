@@ -8,7 +8,7 @@ ghost use Rattle.asn_request.specs.Command.{HasOptions, IsTaken};
 ghost use Rattle.asn_request.specs.Request.{AreForms, AreOptions, AreVersions, Asks, HasRequest, IsAsking, IsJobOf, IsLayout, IsNumberOf, IsRequestOf, Told, fault_by, files_of, form_in, form_of, is_declared_in, is_order_named_in, octet_form_in, octet_form_of, look_name, order_name, rule_name, texts_of};
 
 use crate::asking::{Asking, Forms, Versions};
-use crate::look::{Look, Looking, look_of, looking_named};
+use crate::look::{Look, Looking, look_of, looking_named, text_in};
 use crate::program::command;
 use asn_jobs::{Job, OctetForm, Order, RuleName};
 use asn_json_layout::Layout;
@@ -25,6 +25,8 @@ pub enum Request<'a> {
     Flatten {
         /// Where their texts are.
         files: Vec<&'a str>,
+        /// The one type that is written, with those that it leads to; all where none is named.
+        type_name: Option<String>,
         /// What becomes of types that the profile does not have as they are.
         options: Options,
         /// How it is told what became of the types.
@@ -117,6 +119,7 @@ fn flatten_in<'a>(alloc: Global, options: &ArgMatches<'a>) -> Result<Request<'a>
 {
     Ok(Request::Flatten {
         files: files_in(alloc, options, "file")?,
+        type_name: text_in(alloc, options, "type")?,
         options: options_in(options),
         form: form_in(options),
     })

@@ -2,7 +2,7 @@
 ghost use Rattle.std.specs.Prelude.{◌≡◌, IfOk, codes, false, true};
 ghost use Rattle.clap.specs.Words.{app_of, rule_of, shape_of};
 ghost use Rattle.clap.specs.declared.builder.Command.TheViews.{out-Command};
-ghost use Rattle.asn_request.specs.Command.{IsFields, IsFlatten, IsOrder, IsOrderApp, TakesNames, example_shape, file_rule, module_shape, name_rule, names_rule, report_names, types_shape};
+ghost use Rattle.asn_request.specs.Command.{IsFields, IsFlatten, IsOrder, IsOrderApp, TakesNames, example_shape, file_rule, module_shape, name_rule, names_rule, option_rule, report_names, types_shape};
 
 use crate::help;
 use crate::options::{
@@ -30,6 +30,7 @@ pub fn flatten<'a>(alloc: Global) -> Result<Command<'a>, AllocError>
         .after_help(help::FLATTEN)
         .arg(file_argument(alloc))?
         .arg(report_option(alloc))?
+        .arg(one_type_option(alloc))?
         .arg(strict)?;
     with_leave(alloc, command)
 }
@@ -45,6 +46,18 @@ fn file_argument<'a>(alloc: Global) -> Arg<'a>
         .num_args(1..)
         .action(ArgAction::Append)
         .help("The texts of the modules")
+}
+
+/// The option for the one type that is written, with those that it leads to.
+fn one_type_option<'a>(alloc: Global) -> Arg<'a>
+    ensures rule { rule_of result ≡ option_rule (codes "type") }
+    ensures local { result.global ≡ false }
+{
+    Arg::new(alloc, "type")
+        .long("type")
+        .value_name("NAME")
+        .action(ArgAction::Set)
+        .help("Writes this type alone, by its name in the module, and those that it leads to")
 }
 
 /// The option for the form of the report.

@@ -66,9 +66,10 @@ fn do_request<'a>(rt: &HostRuntime, request: &Request<'a>) -> Result<u8, Stop<'a
     match request {
         Request::Flatten {
             files,
+            type_name,
             options,
             form,
-        } => flatten_files(rt, files.as_slice(), *options, *form),
+        } => flatten_files(rt, files.as_slice(), type_name, *options, *form),
         Request::Run {
             job,
             files,

@@ -394,6 +394,18 @@ def small_of_large(count, program):
         count.add(ran[0] == 0 and ran[1].count(b"NULL") == 10, f"types B of modules that are too large: {ran[:3]}")
 
 
+def one_type(count, program):
+    """`flatten --type` writes a type, and of the other lines of the whole module only those of types that it leads to."""
+    whole = run(program, ["flatten", *FILES])[1].decode().splitlines()
+    for line in whole[1:-1]:
+        name = line.partition(" ::=")[0]
+        ran = run(program, ["flatten", "--type", name, *FILES])
+        told = ran[1].decode().splitlines()
+        count.add(ran[0] == 0 and line in told and {*told} <= {*whole}, f"flatten --type {name}: {ran[:3]}")
+        summary = sum(int(it.rpartition(" ")[2]) for it in ran[2].decode().splitlines())
+        count.add(summary == len(told) - 2, f"flatten --type {name}: {len(told) - 2} types, told of {summary}")
+
+
 def not_utf8(count, program):
     """A file with an octet that is not UTF-8, in a comment too, is refused with its line."""
     with tempfile.NamedTemporaryFile(suffix=".asn") as file:
@@ -418,6 +430,7 @@ def main(words):
     hostile(count, program)
     too_large(count, program)
     small_of_large(count, program)
+    one_type(count, program)
     not_utf8(count, program)
     print(f"{count.passed} passed, {count.failed} failed")
     return 1 if count.failed else 0

@@ -115,7 +115,7 @@ fn item_words(alloc: Global, root: &[Item], more: &[Item]) -> Result<String, All
     Ok(words)
 }
 
-/// The names of these items, each behind a SPACE.
+/// The names of these items, each after a SPACE.
 fn push_items(words: &mut String, items: &[Item]) -> Result<(), AllocError> {
     for item in items {
         push_name(words, item.name.as_str(), "")?;
@@ -131,7 +131,7 @@ fn component_words(alloc: Global, root: &[Field], more: &[Field]) -> Result<Stri
     Ok(words)
 }
 
-/// The names of these components, each behind a SPACE.
+/// The names of these components, each after a SPACE.
 fn push_components(words: &mut String, fields: &[Field]) -> Result<(), AllocError> {
     for field in fields {
         let may_be_missing = match field.need {
@@ -151,7 +151,7 @@ fn alternative_words(alloc: Global, root: &[Alt], more: &[Alt]) -> Result<String
     Ok(words)
 }
 
-/// The names of these alternatives, each behind a SPACE.
+/// The names of these alternatives, each after a SPACE.
 fn push_alternatives(words: &mut String, alternatives: &[Alt]) -> Result<(), AllocError> {
     for alternative in alternatives {
         push_name(words, alternative.name.as_str(), "")?;

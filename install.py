@@ -6,9 +6,9 @@ usage: python3 install.py [--program FILE] FOLDER
 It leaves FOLDER/bin/asn_tool, FOLDER/share/man/man1/asn_tool.1, FOLDER/share/bash-completion/completions/asn_tool and
 FOLDER/share/zsh/site-functions/_asn_tool. The last three are made from what the program's own `--help` says.
 
-The program is compiled from the sources of the crates without a proof, which takes two minutes, and `asn_tool --version`
-says `unproved build`. With --program it is FILE: crates/asn_tool/out/asn_tool, say, where `rt run` or `rt ci` leaves the
-program that is proved.
+The program is compiled from the sources of the crates without a proof, which takes three minutes on an idle machine, and
+`asn_tool --version` says `unproved build`. Standard error shows each ten seconds how far it is. With --program it is FILE:
+crates/asn_tool/out/asn_tool, say, where `rt run` or `rt ci` leaves the program that is proved.
 """
 import os
 import re
@@ -16,6 +16,7 @@ import shutil
 import subprocess
 import sys
 import tempfile
+import time
 
 sys.dont_write_bytecode = True
 TOP = os.path.dirname(os.path.abspath(__file__))
@@ -24,6 +25,7 @@ import room
 
 NAME = "asn_tool"
 VERSION = re.compile(r'\.version\("([^"]*)"\)')
+USUAL = 170  # seconds of a compilation on an idle machine
 
 
 def build(program):
@@ -35,8 +37,22 @@ def build(program):
         with open(words, "w", encoding="utf-8") as it:
             it.write(VERSION.sub(r'.version("\1, unproved build")', text))
         made = f"{folder}/{NAME}"
-        subprocess.run([sys.executable, f"{TOP}/tests/unproved.py", f"{folder}/crates/{NAME}", TOP, made], check=True)
+        waited_for([sys.executable, f"{TOP}/tests/unproved.py", f"{folder}/crates/{NAME}", TOP, made])
         shutil.copy2(made, program)
+
+
+def waited_for(words):
+    """Runs a compilation, and shows on standard error how long it has taken so far."""
+    started = time.monotonic()
+    print(f"compiling {NAME}, which takes some {USUAL} s on an idle machine", file=sys.stderr, flush=True)
+    with subprocess.Popen(words) as ran:
+        while ran.poll() is None:
+            try:
+                ran.wait(timeout=10)
+            except subprocess.TimeoutExpired:
+                print(f"compiling {NAME}: {time.monotonic() - started:.0f} s", file=sys.stderr, flush=True)
+    if ran.returncode:
+        sys.exit(f"install: compiling {NAME} failed")
 
 
 # ---- what the program says of itself
@@ -94,15 +110,31 @@ def escaped(text):
     return re.sub(r"^([.'])", r"\\&\1", text, flags=re.M)
 
 
+def filled(text):
+    """The rest of a help text for a manual page: lines that are indented stay as they are, and others are filled. A line
+    that begins with a heading, as `Output:`, or with an option begins a paragraph."""
+    lines, is_kept = [], False
+    for line in text.strip().split("\n"):
+        keeps = line.startswith("  ")
+        if keeps != is_kept:
+            lines += [".nf", ".in 0"] if keeps else [".in", ".fi"]
+            is_kept = keeps
+        if not line or re.match(r"([A-Z]\w*( \w+)?:|--)", line):
+            lines.append(".PP")
+        if line:
+            lines.append(escaped(line))
+    return [*lines, *[".in", ".fi"] * is_kept]
+
+
 def manual(tool, version):
     lines = [f'.TH ASN_TOOL 1 "" "{version}"', ".SH NAME", f"asn_tool \\- {escaped(tool.about)}", ".SH SYNOPSIS"]
     lines += [f".B asn_tool\n{escaped(it.usage.removeprefix('asn_tool').strip())}\n.br" for it in tool.commands]
-    lines += [".SH DESCRIPTION", ".nf", escaped(tool.after.strip()), ".fi"]
+    lines += [".SH DESCRIPTION", *filled(tool.after)]
     for command in tool.commands:
         lines += [f".SS asn_tool {command.name}", escaped(command.about), ""]
         for names, value, _, what in command.options:
             lines += [".TP", f".B {escaped(', '.join(names))} {escaped(value or '')}".rstrip(), escaped(what)]
-        lines += [".PP", ".nf", escaped(command.after.strip()), ".fi"]
+        lines += [".PP", *filled(command.after)]
     return "\n".join(lines) + "\n"
 
 

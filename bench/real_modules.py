@@ -15,7 +15,7 @@ import subprocess
 import sys
 import time
 
-STATUSES = ("same", "wider", "owed", "per only", "refused")
+STATUSES = ("same", "narrower", "wider", "owed", "per only", "refused")
 
 
 def files_of(folder):

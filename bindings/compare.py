@@ -18,23 +18,26 @@ import exports  # noqa: E402
 
 # what C sees of a type of the source: one word for each argument
 SOURCE = {
-    "&mut Handle": "handle", "&mut Fault": "fault*", "&Fault": "fault", "u32": "u32", "usize": "size",
+    "&mut Handle": "handle*", "&Shown": "handle", "&Budget": "budget", "&mut Fault": "fault*", "&Fault": "fault",
+    "u32": "u32", "usize": "size",
     "&[u8]": "octets size", "&mut [u8]": "octets* size", "&mut usize": "size*", "&mut u32": "u32*", "&mut i64": "i64*",
     "&mut u64": "u64*",
 }
 HEADER = {
-    "tulvorn_handle *": "handle", "tulvorn_fault *": "fault*", "const tulvorn_fault *": "fault", "uint32_t ": "u32",
+    "tulvorn_handle *": "handle*", "const tulvorn_handle *": "handle", "const tulvorn_budget *": "budget",
+    "tulvorn_fault *": "fault*", "const tulvorn_fault *": "fault", "uint32_t ": "u32",
     "size_t ": "size", "const uint8_t *": "octets", "uint8_t *": "octets*", "size_t *": "size*", "uint32_t *": "u32*",
     "int64_t *": "i64*", "uint64_t *": "u64*",
 }
 RUST = {
-    "*mut Handle": "handle", "*mut Fault": "fault*", "*const Fault": "fault", "u32": "u32", "usize": "size",
+    "*mut Handle": "handle*", "*const Handle": "handle", "*const Budget": "budget", "*mut Fault": "fault*",
+    "*const Fault": "fault", "u32": "u32", "usize": "size",
     "*const u8": "octets", "*mut u8": "octets*", "*mut usize": "size*", "*mut u32": "u32*", "*mut i64": "i64*",
     "*mut u64": "u64*",
 }
 PYTHON = {
-    "h": "handle", "f": "fault", "o": "octets", "w": "octets*", "s": "size", "u": "u32", "S": "size*", "U": "u32*",
-    "I": "i64*", "N": "u64*",
+    "h": "handle", "b": "budget", "f": "fault", "o": "octets", "w": "octets*", "s": "size", "u": "u32", "S": "size*",
+    "U": "u32*", "I": "i64*", "N": "u64*",
 }
 
 
@@ -77,8 +80,9 @@ def of_python():
 
 
 def plain(table):
-    """(ctypes has one word for a fault that is read and for one that is written)"""
-    return {name: ([it.replace("fault*", "fault") for it in given], result) for name, (given, result) in table.items()}
+    """(ctypes has one word for a handle or fault that is read and for one that is written)"""
+    both = {"fault*": "fault", "handle*": "handle"}
+    return {name: ([both.get(it, it) for it in given], result) for name, (given, result) in table.items()}
 
 
 def numbers():

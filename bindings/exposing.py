@@ -16,6 +16,8 @@ from exports import exports  # noqa: E402
 CRATE = "tulvorn_c"
 ARGUMENTS = {
     "&mut Handle": ("Handle::none(alloc)", "&mut {}"),
+    "&Shown": ("Shown { at: std::ptr::null_mut() }", "&{}"),
+    "&Budget": ("Budget { entries: 0, octets: 0 }", "&{}"),
     "&mut Fault": ("Fault { code: 0, why: 0, at: 0 }", "&mut {}"),
     "&Fault": ("Fault { code: 0, why: 0, at: 0 }", "&{}"),
     "&mut [u8]": ("[0; 9]", "&mut {}"),
@@ -34,7 +36,8 @@ def calls():
     found = exports()
     lines = ["", "pub mod calling {"]
     lines += [f"    use crate::{it.file}::{it.name};" for it in found]
-    lines += ["    use crate::fault::Fault;", "    use crate::handle::Handle;", "    use std::alloc::Global;", ""]
+    lines += ["    use crate::fault::Fault;", "    use crate::handle::Handle;", "    use crate::shown::Shown;"]
+    lines += ["    use crate::within::Budget;", "    use std::alloc::Global;", ""]
     lines.append("    pub fn call_each(alloc: Global) {")
     for it in found:
         given = ["alloc"] if it.allocates else []

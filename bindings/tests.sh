@@ -64,6 +64,11 @@ in_threads() {
     gcc -std=c11 "${warn[@]}" -pthread "$here/c/threads.c" "$out/libtulvorn.a" -o "$made/threads" && "$made/threads"
 }
 
+# one handle in four threads, which is in memory that cannot be written
+in_shared() {
+    gcc -std=c11 "${warn[@]}" -pthread "$@" "$here/c/shared.c" "$out/libtulvorn.a" -o "$made/shared" && "$made/shared"
+}
+
 in_cpp() {
     g++ -std=c++17 "${warn[@]}" -pthread "$here/cpp/calls.cpp" -L"$out" -ltulvorn -Wl,-rpath,"$out" \
         -o "$made/calls-cpp" && "$made/calls-cpp"
@@ -88,6 +93,8 @@ for it in calls sessions; do
     step "C, $it, under the sanitizers" gcc -- in_c_sanitized $it
 done
 step "C in threads" gcc -- in_threads
+step "C, one handle in threads" gcc -- in_shared
+step "C, one handle in threads, under the thread sanitizer" gcc -- in_shared -fsanitize=thread
 step "C++" g++ -- in_cpp
 step "C++ under valgrind" g++ valgrind -- "${memory[@]}" "$made/calls-cpp"
 step "Python" python3 -- in_python

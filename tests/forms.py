@@ -113,6 +113,39 @@ def written(count, program, name, rules, messages):
         count.add(back == (0, wanted, b""), f"convert {name} {rules} {form} there and back")
 
 
+def dumps(count, program, room):
+    """Dumps whose lines begin with offsets, as od and Wireshark write them, are refused with a word that says what to do;
+    the same without offsets, and words with 0x in front, are read."""
+    module = f"{room}/bytes.asn"
+    with open(module, "w") as it:
+        it.write("M DEFINITIONS AUTOMATIC TAGS ::= BEGIN T ::= OCTET STRING END\n")
+    show = [program, "show", "--type", "T", "--rules", "oer", "--module", module]
+    message = bytes([33]) + bytes(range(33))
+    shown = json.dumps(message[1:].hex()).encode() + b"\n"
+    rows = [message[at : at + 16].hex(" ") for at in range(0, len(message), 16)]
+    with_offsets = {
+        "od -Ax": "".join(f"{16 * at:06x} {row}\n" for at, row in enumerate(rows)) + "000022\n",
+        "od -Ax, first column cut": "\n".join([*rows, "000022"]) + "\n",
+        "Wireshark": "".join(f"{16 * at:04x}  {row}\n" for at, row in enumerate(rows)),
+        "od -Ax -tx4": "000000 " + " ".join(message[at : at + 4].hex() for at in range(0, 16, 4)) + "\n",
+    }
+    for name, text in with_offsets.items():
+        ran = run([*show, "--in", "hex-block"], text.encode())
+        count.add(ran[:2] == (1, b"! hex\n") and b"offset" in ran[2] and b"od -An" in ran[2], f"{name}: {ran}")
+    fields = [program, "fields", "--type", "T", "--rules", "oer", "--module", module, "--in", "hex-block"]
+    ran = run(fields, with_offsets["od -Ax"].encode())
+    count.add(ran[:2] == (1, b"! hex\n") and b"offset" in ran[2], f"fields of od -Ax: {ran}")
+    ran = run([*show, "--in", "hex"], with_offsets["Wireshark"].encode())
+    count.add(ran[:2] == (1, b"! hex\n" * 3) and [b"offset" in it for it in ran[2].splitlines()] == [True] * 3, f"lines of Wireshark: {ran}")
+    for name, text in {
+        "od -An": "\n".join(rows) + "\n",
+        "words of two octets": "\n".join(message[at : at + 2].hex() for at in range(0, len(message), 2)) + "\n",
+        "0x in front": "0x" + message[:4].hex() + " " + message[4:].hex(" ") + "\n",
+    }.items():
+        ran = run([*show, "--in", "hex-block"], text.encode())
+        count.add(ran == (0, shown, b""), f"{name}: {ran}")
+
+
 def refusals(count, program, room):
     """What is none of its form, and messages that are refused, with their places."""
     file, messages = f"{room}/m.asn", f"{room}/messages"
@@ -123,9 +156,9 @@ def refusals(count, program, room):
     show = [program, "show", "--type", "T", "--rules", "per", "--module", file]
     for words, given, wanted in (
         (["--in", "hex"], b"50\n# none\n\nx\n5\n51\n", (1, b'{"id":5}\n! hex\n! hex\n! refused at bit 8: padding\n', b"")),
-        (["--in", "hex", "--messages", messages, "--explain"], b"", (1, b'{"id":5}\n! hex\n! hex\n! refused at bit 8: padding\n', f"{messages}:4: no hexadecimal digits, two an octet\n{messages}:5: no hexadecimal digits, two an octet\n{messages}:6: in $, SEQUENCE: the bits that fill up an octet are not all 0\n".encode())),
-        (["--in", "base64", "--explain"], b"UA==\nUA\n", (1, b'{"id":5}\n! base64\n', b"line 2: no Base64 (RFC 4648), with its padding\n")),
-        (["--split", "--explain"], b"505070\n5050a0\n", (1, b'{"id":5}\n{"id":5}\n{"id":7}\n{"id":5}\n{"id":5}\n! cut short after 8 bits\n', b"line 2, message 3: in $.text, OCTET STRING: more octets are wanted\n")),
+        (["--in", "hex", "--messages", messages, "--explain"], b"", (1, b'{"id":5}\n! hex\n! hex\n! refused at bit 8: padding\n', f"{messages}:4: not hexadecimal digits, two an octet\n{messages}:5: not hexadecimal digits, two an octet\n{messages}:6: in $, SEQUENCE: padding bits must be 0\n".encode())),
+        (["--in", "base64", "--explain"], b"UA==\nUA\n", (1, b'{"id":5}\n! base64\n', b"line 2: not Base64 (RFC 4648) with padding\n")),
+        (["--split", "--explain"], b"505070\n5050a0\n", (1, b'{"id":5}\n{"id":5}\n{"id":7}\n{"id":5}\n{"id":5}\n! cut short after 8 bits\n', b"line 2, message 3: in $.text, OCTET STRING: the message ends too early\n")),
         (["--split"], b"\n", (0, b"", b"")),
         (["--in", "binary"], b"", (1, b"! cut short after 0 bits\n", b"")),
         (["--in", "binary", "--split"], b"", (0, b"", b"")),
@@ -174,8 +207,8 @@ def objects(count, program, room):
         wanted = lines(b'{"value":%s,"skipped":[%s]}' % (value, it) for it in (skipped, b""))
         ran = run([program, "newer", *words, older, "--json", *way], octets)
         count.add(ran == (0, wanted, b""), f"newer --json {way}: {ran}")
-    no_object = "an object with the members value and skipped is wanted, as newer --json writes it"
-    lost = "the type does not have what was skipped there, and it would be lost"
+    no_object = "expected an object with the members value and skipped, as newer --json prints it"
+    lost = "the type does not have this addition, and encoding would lose it"
     of_path = '{"value":{"z":5},"skipped":[{"path":"%s"},{"path":"$"}]}'
     # in none of these a second line may come of the first
     no_paths = "$\\nok 1", "$\\n", "$.a\\r", "$.a b", "$.a\\u0000", "$.\u00e4", "$.a_b", ".a", "a$", "", "\\n$"
@@ -185,7 +218,7 @@ def objects(count, program, room):
         (None, octets.split()[1].decode(), None),
         ("{}", "! shape $.value", no_object),
         ("5", "! shape $.value", no_object),
-        ("{", "! json", "the line is no JSON"),
+        ("{", "! json", "the line is not JSON"),
         ('{"value":{"z":5}}', "! shape $.skipped", no_object),
         ('{"value":{"z":5},"skipped":[7]}', "! shape $.skipped[0].path", no_object),
         (of_path % "$.list[3].x-9.b", "! skipped $.list[3].x-9.b", lost),
@@ -300,6 +333,7 @@ def main(words):
     with tempfile.TemporaryDirectory(prefix="tulvorn-forms-") as room:
         forms(count, program, room)
         refusals(count, program, room)
+        dumps(count, program, room)
         objects(count, program, room)
         layouts(count, program, room)
         counts(count, program, room)

@@ -12,10 +12,12 @@ usage: tests/gate.py [PART..]      the parts are proofs, edits and tests; all th
    beside the proofs: a crate's edits begin when the crate is proved, on processors that no proof takes.
 3. tests: the programs of tests/programs are built without a proof of their own (tests/room.py), and what they write is
    compared; tests/refused_allocations.sh refuses in turn each allocation of programs; tests/first.py runs `asn_first`,
-   and examples/run.sh, tests/versions.py, limits.py, published.py, published_commands.py, published_sets.py,
-   published_tags.py, published_sequences.py, streaming.py, forms.py, shown.py and tests/installed.sh `asn_tool`, as the gate
-   has built them, side by side;
+   and examples/run.sh, tests/versions.py, limits.py, published.py, published_commands.py, published_marks.py,
+   published_sets.py, published_tags.py, published_sequences.py, streaming.py, forms.py, bounds.py, shown.py and
+   tests/installed.sh `asn_tool`, as the gate has built them, side by side;
    tests/octet_counts.py and tests/published_rows.py look at rows without a program, and tests/speed.py tries itself;
+   tests/style.py looks at the sentences of pages, help and header; tests/guide.py and tests/page.py run the commands and
+   blocks of README.md, docs/GUIDE.md and crates/tulvorn/README.md;
    bindings/tests.sh calls the library for C from four languages, and skips a language whose compiler is not there: each
    time as LLVM compiles it with the test programs, without a second proof, and in one merge of sixteen, drawn with the
    edits, as each of two compilers makes it of a proof of its own. Beside the proofs, those that want
@@ -245,9 +247,11 @@ def tests_of_sources(part, room):
     step(part, [*BEHIND, "tests/octet_counts.py"])
     step(part, [*BEHIND, "tests/published_rows.py"])
     step(part, [*BEHIND, "tests/speed.py", "--self-test"])
+    step(part, ["tests/style.py"])
     # the library for C, of the module of those programs
     step(part, [*BEHIND, "bindings/build.sh", "--object", f"{room}/test_checks.o", f"{room}/library"])
     step(part, [*BEHIND, "bindings/tests.sh", f"{room}/library"])
+    step(part, [*BEHIND, "tests/page.py", f"{room}/pages"])
 
 
 def tests_of_archives(part, turn):
@@ -263,13 +267,14 @@ def tests_of_archives(part, turn):
 
 def tests_of_programs(part, room):
     """The tests of the programs that `rt ci` has built, side by side, those first that take longest."""
-    scripts = ["published", "limits", "shown", "versions", "streaming", "published_commands", "published_sets", "published_tags", "published_sequences", "forms"]
+    scripts = ["published", "limits", "shown", "versions", "streaming", "published_commands", "published_marks", "published_sets", "published_tags", "published_sequences", "forms", "bounds"]
     steps = [
         ["tests/refused_allocations.sh", room],
         *([f"tests/{it}.py", TOOL] for it in scripts),
         ["examples/run.sh", TOOL],
         ["tests/first.py", FIRST],
         ["tests/installed.sh", TOOL],
+        ["tests/guide.py", TOOL, f"{room}/library"],
     ]
     with ThreadPoolExecutor(rt.processors()) as pool:
         [*pool.map(lambda words: step(part, words), steps)]

@@ -40,7 +40,7 @@ completes 'name declared' show --order ''
 completes 'at' check --messages a
 
 page=$folder/at/share/man/man1/asn_tool.1
-for word in flatten module show check encode convert newer '\-\-type' '\-\-rules' '\-\-module' '\-\-report' '\-\-levels' '\-\-explain' '\-\-messages' '\-\-in' '\-\-out' '\-\-split' '\-\-pretty' '\-\-order' '\-\-stats'; do
+for word in flatten module show check encode convert newer '\-\-type' '\-\-rules' '\-\-module' '\-\-report' '\-\-levels' '\-\-explain' '\-\-messages' '\-\-in' '\-\-out' '\-\-split' '\-\-pretty' '\-\-order' '\-\-stats' '\-\-strict' '\-\-accept\-wider'; do
     if grep -qF -- "$word" "$page"; then
         passed=$((passed + 1))
     else
@@ -48,6 +48,37 @@ for word in flatten module show check encode convert newer '\-\-type' '\-\-rules
         printf 'the manual page has no %s\n' "$word"
     fi
 done
+
+# fails where the help of a subcommand has a line of more than 80 characters
+for command in '' flatten module show check encode convert newer fields types example; do
+    wide=$("$program" $command --help | LC_ALL=C.UTF-8 awk 'length > 80' | head -n 1)
+    if [ -z "$wide" ]; then
+        passed=$((passed + 1))
+    else
+        failed=$((failed + 1))
+        printf 'asn_tool %s --help: a line of more than 80 characters: %s\n' "$command" "$wide"
+    fi
+done
+
+# of the options that only some subcommands take, help lists those of each
+takes() {
+    local command=$1 said
+    shift
+    said=$("$program" "$command" --help | grep -oE '^ {6}--(in|split|out|pretty|order|stats|json|newer|budget|html)\b' | tr -d ' \n')
+    if [ "$said" = "$*" ]; then
+        passed=$((passed + 1))
+    else
+        failed=$((failed + 1))
+        printf 'asn_tool %s --help lists %s, and not %s\n' "$command" "$said" "$*"
+    fi
+}
+
+takes show --in--split--pretty--order--budget
+takes check --in--split--stats--budget
+takes encode --out--newer--budget
+takes convert --in--split--out--budget
+takes newer --in--pretty--order--json
+takes fields --in--split--html--budget
 
 if [ "$("$folder/at/bin/asn_tool" --version)" = "$("$program" --version)" ]; then
     passed=$((passed + 1))

@@ -1,12 +1,13 @@
 #!/usr/bin/env python3
-"""Builds and runs the code of the pages that a user reads, and compares what it prints with what stands under it.
+"""Builds and runs the blocks of Rattle of the pages that a user reads, and compares what each prints.
 
 usage: tests/page.py ROOM      ROOM is a folder to build in, as tests/room.py takes it
 
-The first screen of README.md has one program, in its only block marked `rust`; the block marked `text` that follows it is
-what it prints. Of crates/tulvorn/README.md the first block marked `rust` is the head of a program, and the others, one
-after the other, are the body of its `main`; a block marked `text` that follows one of them is what it prints. Both pages
-are one program of one room, built without a proof of its own. The last line is 'N passed, M failed': the blocks.
+The pages are crates/tulvorn/README.md, whose blocks marked `rust` are Rattle and the first the head of a program, and
+README.md and docs/GUIDE.md, whose blocks marked `rust rattle` are, and of which lines `use ..` go to the head. The other
+blocks of a page, one after the other, are the body of a function. TEXT is the module of the page. A block prints what
+the next block marked `text` has, if one follows before the next block of Rattle. All are one program of one room, built
+without a proof. The last line is 'N passed, M failed': the blocks.
 """
 import os
 import re
@@ -20,37 +21,68 @@ import room
 
 BREAK = "===="
 USES = "test_page: tulvorn anyhow hex\n"
+PAGES = ["README.md", "docs/GUIDE.md"]
+REFERENCE = "crates/tulvorn/README.md"
 
 
-def blocks_of(page):
-    """The blocks of code, each with what it prints, which is the block of text that follows it with no other between."""
+def all_blocks(page):
+    """The blocks of a page: how each is marked, and its text."""
     with open(f"{TOP}/{page}", encoding="utf-8") as it:
-        found = re.findall(r"^```(\w*)\n(.*?)^```$", it.read(), re.M | re.S)
-    code = []
-    for index, (kind, text) in enumerate(found):
-        if kind == "rust":
-            after = found[index + 1] if index + 1 < len(found) else ("", "")
-            code.append((text, after[1] if after[0] == "text" else ""))
-    return code
+        return re.findall(r"^```([^\n]*)\n(.*?)^```$", it.read(), re.M | re.S)
+
+
+def blocks_of(page, kind):
+    """The blocks that are marked so, each with what it prints."""
+    found, is_open = [], False
+    for marked, text in all_blocks(page):
+        if marked == kind:
+            found.append([text, ""])
+            is_open = True
+        elif marked == "text" and is_open:
+            found[-1][1], is_open = text, False
+    return found
+
+
+def text_of(page):
+    """The module of a page: of the guide its own, else examples/rows.asn."""
+    own = [text for kind, text in all_blocks(page) if kind == "asn1" and "DEFINITIONS" in text]
+    with open(f"{TOP}/examples/rows.asn", encoding="utf-8") as it:
+        return own[0] if own else it.read()
+
+
+def hoisted(code):
+    """The lines of a block that go to the head of a program, and the others."""
+    lines = code.splitlines(keepends=True)
+    return "".join(it for it in lines if it.startswith("use ")), "".join(it for it in lines if not it.startswith("use "))
 
 
 def indented(text):
     return "".join(f"    {line}" if line.strip() else line for line in text.splitlines(keepends=True))
 
 
+def function(page, blocks):
+    """The file of a page whose blocks are the body of a function."""
+    heads, bodies = zip(*[hoisted(code) for code, _ in blocks])
+    text = text_of(page).replace("\\", "\\\\").replace('"', '\\"')
+    head = f"//! The blocks of {page}.\n\n{''.join(heads)}\nconst TEXT: &str = \"{text}\";\n"
+    if "Result" not in heads[0].partition("anyhow::")[2].partition(";")[0]:
+        head = head.replace("use anyhow::Context;", "use anyhow::{Context, Result};")
+    body = "".join(indented(code) + f'    println!(rt; "{BREAK}")?;\n' for code in bodies)
+    return f"{head}\npub fn shown(rt: &HostRuntime) -> Result<()> {{\n    let alloc = rt.alloc();\n{body}    Ok(())\n}}\n"
+
+
 def programs():
     """The files of the program, and what each of its blocks has to print."""
-    (first, printed), = blocks_of("README.md")
-    head, *tasks = blocks_of("crates/tulvorn/README.md")
-    screen = first.replace("fn main(rt: HostRuntime)", "pub fn shown(rt: &HostRuntime)")
-    if screen == first:
-        sys.exit("page: the first screen of README.md has no program")
-    ends = f'    println!(rt; "{BREAK}")?;\n'
-    body = f"    screen::shown(&rt)?;\n{ends}" + "".join(indented(code) + ends for code, _ in tasks)
-    head = f"//! The blocks of crates/tulvorn/README.md.\n#![tactic(auto)]\n\nmod screen;\n\n{head[0]}"
-    main = f"{head}\nfn main(rt: HostRuntime) -> Result<()> {{\n{body}    Ok(())\n}}\n"
-    screen = f"//! The program on the first screen of README.md.\n\n{screen}"
-    return {"main.rt.in": main, "screen.rt.in": screen, "uses": USES}, [printed, *(it for _, it in tasks)]
+    head, *tasks = blocks_of(REFERENCE, "rust")
+    pages = {f"page_{index}": (page, blocks_of(page, "rust rattle")) for index, page in enumerate(PAGES)}
+    calls = "".join(f"    {name}::shown(&rt)?;\n" for name in pages)
+    body = "".join(indented(code) + f'    println!(rt; "{BREAK}")?;\n' for code, _ in tasks)
+    modules = "".join(f"mod {name};\n" for name in pages)
+    main = f"//! The blocks of {REFERENCE}.\n#![tactic(auto)]\n\n{modules}\n{head[0]}"
+    main += f"\nfn main(rt: HostRuntime) -> Result<()> {{\n{calls}{body}    Ok(())\n}}\n"
+    files = {f"{name}.rt.in": function(page, blocks) for name, (page, blocks) in pages.items()}
+    wanted = [printed for _, blocks in pages.values() for _, printed in blocks] + [printed for _, printed in tasks]
+    return {"main.rt.in": main, **files, "uses": USES}, wanted
 
 
 def main(words):

@@ -27,6 +27,13 @@ SPEC = importlib.util.spec_from_file_location("reference", f"{TOP}/examples/refe
 REFERENCE = importlib.util.module_from_spec(SPEC)
 SPEC.loader.exec_module(REFERENCE)
 FILES = ["report.asn", "common.asn"]
+# what `check` says of the messages of examples/published behind their lengths
+UNLOOKED = (
+    b"",
+    b", not looked at: $.body.sealed (a constraint is not looked at)",
+    b", not looked at: $.body.part.id (a constraint is not looked at), and 2 more",
+    b"",
+)
 HEAD = "M DEFINITIONS AUTOMATIC TAGS ::= BEGIN\n"
 # the seconds of a processor after which a run is taken for one that does not end
 LIMIT = 300
@@ -67,7 +74,7 @@ def examples(count, program):
         ran = run(program, ["flatten", *words, *FILES])
         count.add(ran[:3] == (1, flat, stored(told)), f"flatten {words}: {ran[:3]}")
     ran = run(program, ["flatten", "--plain-bits", *FILES])
-    count.add(ran[0] == 0 and b"\nFaults ::= BIT STRING\n" in ran[1] and b"owed: 1\n" in ran[2], f"flatten --plain-bits: {ran[:3]}")
+    count.add(ran[0] == 0 and b"\nFaults ::= BIT STRING\n" in ran[1] and b"owed: 2\n" in ran[2], f"flatten --plain-bits: {ran[:3]}")
     ran = run(program, ["flatten", "--strict", *FILES])
     count.add(ran[0] == 1 and b"\nReport" not in ran[1] and b"\nLights" in ran[1] and b"refused: 4\n" in ran[2], f"flatten --strict: {ran[:3]}")
     # what was flattened is a module of the profile, and stays what it is
@@ -82,7 +89,8 @@ def examples(count, program):
     texts = b"".join(map(stored, FILES)) + b"====\n"
     for rules, other in (("per", "oer"), ("oer", "per")):
         octets = stored(f"report.{rules}")
-        checked = b"".join(b"ok %d\n" % (len(it) // 2) for it in octets.split())
+        lengths = [len(it) // 2 for it in octets.split()]
+        checked = b"".join(b"ok %d\n" % it for it in lengths)
         for order, lines, wanted in (
             ("encode", stored("report.values"), octets),
             ("show", octets, stored("report.json")),
@@ -90,16 +98,20 @@ def examples(count, program):
             ("convert", octets, stored(f"report.{other}")),
             ("newer", octets, stored("report.json")),
         ):
-            words = [order, "--type", "Report", "--rules", rules]
+            words = [order, "--type", "Report", "--rules", rules, "--accept-wider"]
             ran = run(program, [*words, "--module", *FILES], lines)
             count.add(ran[:3] == (0, wanted, way), f"{order} {rules} --module: {ran[:3]}")
             ran = run(program, words, texts + lines)
             told = b"".join(b"<stdin>" + it[it.index(b":"):] + b"\n" for it in way.splitlines())
             count.add(ran[:3] == (0, wanted, told), f"{order} {rules}: {ran[:3]}")
+        # what is not looked at is told of each message that has it, and the status is 4
+        said = b"".join(b"ok %d%s\n" % it for it in zip(lengths, UNLOOKED, strict=True))
+        ran = run(program, ["check", "--type", "Report", "--rules", rules, "--module", *FILES], octets)
+        count.add(ran[:3] == (4, said, way), f"check {rules} --module: {ran[:3]}")
     # what is refused is told with file and line
     for words, given, wanted in (
         (["show", "--type", "Faults", "--rules", "per", "--module", *FILES], b"00\n", (2, b"! no type Faults\n", b"common.asn:21: Faults: refused: named bits without a fixed size: PER trims zeros\n")),
-        (["show", "--type", "Report", "--rules", "per", "--module", "report.asn"], b"00\n", (2, b"! no type Report\n", b"report.asn:10: StationCommon: a module that is not given\nreport.asn:16: Report.station: refused: a name of a module that is not given\n")),
+        (["show", "--type", "Report", "--rules", "per", "--module", "report.asn"], b"00\n", (2, b"! no type Report\n", b"report.asn:10: StationCommon: a module that is not given\nreport.asn:22: Report.[[ ]]: owed: an addition that is not OPTIONAL may be absent before another: the writer gives it\nreport.asn:16: Report.station: refused: a name of a module that is not given\n")),
         (["flatten", "report.asn", "report.asn"], b"", (2, b"", b"report.asn:2: a module that is given twice\n")),
         (["flatten", "common.asn", "none.asn"], b"", (3, b"", b"none.asn: read failed\n")),
         (["module", "--module", "none.asn"], b"", (3, b"", b"none.asn: read failed\n")),
@@ -112,14 +124,21 @@ def examples(count, program):
 # modules, the lines that the report has, and options: what is too large, with its count, and lines of several files
 TOLD = (
     ([HEAD + "T ::= " + "SEQUENCE { a\n" * 70000 + "NULL" + " }" * 70000 + "\nU ::= T\nV ::= NULL\nEND\n"],
-     ["0.asn:34: T." + ".".join("a" * 32) + ": refused: 70001 levels, more than 32", "0.asn:70003: U: refused: a type that is refused"]),
+     ["0.asn:34: T." + ".".join("a" * 32) + ": refused: 70001 levels, more than 32", "0.asn:70003: U: refused: 70001 nodes, more than 10000"]),
+    # what refers to a type past a limit is told what it has itself
+    ([HEAD + "S ::= SEQUENCE { " + ", ".join(f"a{i} NULL" for i in range(64)) + " }\nB ::= SEQUENCE { " + ", ".join(f"b{i} S" for i in range(64)) + " }\n"
+      "T ::= SEQUENCE { a B, b B, c B }\nU ::= SEQUENCE { t T OPTIONAL }\nV ::= SEQUENCE { a B }\nEND\n"],
+     ["0.asn:4: T.c: refused: 12484 nodes, more than 10000", "0.asn:5: U.t: refused: 12485 nodes, more than 10000"]),
+    # a line ends with LF, and with no CR or FF
+    ([HEAD + "A ::= NULL\r\n-- a\r\f-- A\vT ::= NULL\n\f\r\fB ::= BMPString\nEND\n"],
+     ["0.asn:4: B: refused: BMPString is no type of the profile"]),
     ([HEAD + "T ::= SEQUENCE {\n" + ",\n".join(f"a{i} NULL" for i in range(90000)) + " }\nEND\n"],
      ["0.asn:67: T.a64: refused: 90000 components, more than 64"]),
     ([HEAD + "T ::= SEQUENCE { e ENUMERATED {\n" + ",\n".join(f"a{i}" for i in range(90000)) + " } }\nEND\n"],
      ["0.asn:259: T.e: refused: 90000 items, more than 256"]),
     # many types with names that those of levels would have
     ([HEAD + "T ::= SEQUENCE { t T OPTIONAL }\n" + "".join(f"T-level-{i} ::= NULL\nT-level{i}-{i} ::= NULL\n" for i in range(100)) + "END\n"],
-     ["0.asn:2: T.t: wider: recursion ends in NULL"], "--levels", "3"),
+     ["0.asn:2: T.t: wider: recursion ends after the levels that are asked for"], "--levels", "3"),
     # a module that is not given is told where no type needs it, and in each module that imports from it
     ([HEAD + "IMPORTS A, B FROM N C FROM\nO { 1 2 }; T ::= NULL\nEND\n", "O DEFINITIONS ::= BEGIN\nIMPORTS A FROM\nN; END\n"],
      ["0.asn:2: N: a module that is not given", "1.asn:3: N: a module that is not given"]),
@@ -231,6 +250,13 @@ HOSTILE = {
     "SEQUENCE OF one in the other": (100000, lambda n: [HEAD + "T ::= " + "SEQUENCE OF " * n + "NULL\nEND\n"]),
     "parameters without end": (1000, lambda n: [HEAD + "".join(f"P{i} {{ X }} ::= SEQUENCE {{ a P{i} {{ SEQUENCE OF X }} OPTIONAL }} T{i} ::= P{i} {{ NULL }}\n" for i in range(n)) + "END\n"]),
     "parameters that double": (30, lambda n: [HEAD + "P0 { X } ::= SEQUENCE { a X, b X }\n" + "".join(f"P{i} {{ X }} ::= SEQUENCE {{ a P{i - 1} {{ X }}, b P{i - 1} {{ SEQUENCE OF X }} }}\n" for i in range(1, n)) + f"T ::= P{n - 1} {{ NULL }}\nEND\n"]),
+    # an argument is written out twice in each argument of the next, also where no wanted type has it
+    "arguments that double": (12, lambda n: [HEAD + "".join(f"P{i} {{X}} ::= P{i + 1} {{SEQUENCE {{ a X, b X }}}}\n" for i in range(n)) + f"P{n} {{X}} ::= SEQUENCE {{ x X }}\nT ::= P0 {{NULL}}\nEND\n"]),
+    "arguments of CHOICE that grow": (12, lambda n: [HEAD + "".join(f"P{i} {{X}} ::= P{i + 1} {{CHOICE {{ a X, b X, c X, d X, e X, f X, g X, h X }}}}\n" for i in range(n)) + f"P{n} {{X}} ::= SEQUENCE {{ x X }}\nT ::= P0 {{NULL}}\nEND\n"]),
+    "many arguments that double": (150, lambda n: [HEAD + "".join(f"P{i} {{X}} ::= P{i + 1} {{SEQUENCE {{ a X, b X }}}}\n" for i in range(14)) + "P14 {X} ::= SEQUENCE { x X }\n" + "".join(f"T{i} ::= P0 {{INTEGER (0..{i})}}\n" for i in range(n)) + "END\n"]),
+    "a field of a class that holds itself": (1, lambda n: [HEAD + "C ::= CLASS { &f SEQUENCE { a C.&f OPTIONAL } }\nT ::= SEQUENCE { x C.&f } U ::= NULL\nEND\n"]),
+    "fields of a class that double": (12, lambda n: [HEAD + "C ::= CLASS { " + ", ".join(f"&f{i} SEQUENCE {{ a C.&f{i + 1}, b C.&f{i + 1} }}" for i in range(n)) + f", &f{n} INTEGER }}\nT ::= SEQUENCE {{ x C.&f0 }} U ::= NULL\nEND\n"]),
+    "fields of one large type": (5000, lambda n: [HEAD + "C ::= CLASS { &f SEQUENCE { " + ", ".join(f"a{i} SEQUENCE {{ b BOOLEAN, c NULL }}" for i in range(60)) + " } }\n" + "".join(f"T{i} ::= SEQUENCE {{ x C.&f }}\n" for i in range(n)) + "END\n"]),
     "instances": (30000, lambda n: [HEAD + "P { X } ::= SEQUENCE { x X }\n" + "".join(f"T{i} ::= P {{ INTEGER (0..{i}) }}\n" for i in range(n)) + "END\n"]),
     "actual parameters": (100000, lambda n: [HEAD + "P { X } ::= SEQUENCE { x X } T ::= P { " + ", ".join("NULL" for _ in range(n)) + " }\nEND\n"]),
     "fields of a class": (100000, lambda n: [HEAD + "C ::= CLASS { " + ", ".join(f"&a{i} INTEGER" for i in range(n)) + f" }}\nT ::= SEQUENCE {{ a C.&a7, b C.&a{n - 1} }}\nEND\n"]),
@@ -278,6 +304,16 @@ HOSTILE = {
     "types of a module": (2800, large),
 }
 
+# the most memory, in MB, that some of them take
+MEMORY = {
+    "arguments that double": 30,
+    "arguments of CHOICE that grow": 30,
+    "many arguments that double": 150,
+    "a field of a class that holds itself": 30,
+    "fields of a class that double": 30,
+    "types of a module": 400,
+}
+
 # what is told first of a hostile text of a size, after the name of its file; of others nothing is wrong
 LINES = {
     "imports in a ring": lambda n: "1: M0-U: refused: a name that is not assigned",
@@ -297,6 +333,10 @@ LINES = {
     "SEQUENCE OF one in the other": lambda n: f"2: T: refused: {n + 1} levels, more than 32",
     "parameters without end": lambda n: "2: T0: refused: a type that is refused",
     "parameters that double": lambda n: f"{n + 2}: T: refused: a type that is refused",
+    "arguments that double": lambda n: f"{n + 3}: T: refused: a type that is refused",
+    "arguments of CHOICE that grow": lambda n: f"{n + 3}: T: refused: a type that is refused",
+    "a field of a class that holds itself": lambda n: "3: T: refused: parameters that expand to more than 10000 nodes",
+    "fields of a class that double": lambda n: "3: T: refused: parameters that expand to more than 10000 nodes",
     "instances": lambda n: "20003: T20000: refused: parameters that expand without end",
     "items": lambda n: f"2: T: refused: {n} items, more than 256",
     "COMPONENTS OF in a ring": lambda n: "2: T0: refused: recursion",
@@ -348,8 +388,8 @@ def hostile(count, program):
         if name in LINES:
             count.add(first == f"0.asn:{LINES[name](size)}", f"{name}, {size}: told is {first[:200]}")
         count.add(told_well(ran), f"{name}, {size}: status {ran[0]}, {ran[1]}, {ran[2][:200]}")
-        if name == "types of a module":
-            count.add(ran[4] <= 400, f"{size} types: {ran[4]:.0f} MB")
+        if name in MEMORY:
+            count.add(ran[4] <= MEMORY[name], f"{name}, {size}: {ran[4]:.0f} MB")
         print(f"{name}, {size}: status {ran[0]}, {ran[4]:.0f} MB, {first if len(first) < 110 else first[:70] + ' .. ' + first[-40:]}", flush=True)
 
 
@@ -363,19 +403,85 @@ def grown(published):
     return f"{HEAD}{value}B ::= SEQUENCE {{ {long} }}\nC ::= SEQUENCE {{ {', '.join(f'b{it} B' for it in range(60))} }}\n{many}END\n".encode()
 
 
+# the lines of the types with which the module of `grown` comes to more than 10,000,000: of D15 to D19, and of E
+SIZE_OF_C = 1 + sum(len(f"b{it}") + 1 + 10 * 1001 for it in range(60))
+SIZE_OF_D = 2 + SIZE_OF_C
+SIZE_BEFORE = 1 + 10 * 1001 + SIZE_OF_C + 15 * SIZE_OF_D
+PAST = [(f"D{it}", SIZE_BEFORE + SIZE_OF_D) for it in range(15, 20)]
+PAST += [("E", SIZE_BEFORE + 1 + sum(len(f"d{it}") + SIZE_OF_D for it in range(15)))]
+
+
+def lines_past(file, first, names=None):
+    """What is told of these types, or of all, where the first of the types D stands on a line."""
+    told = [(name, first + (int(name[1:]) if name != "E" else 20), size) for name, size in PAST if names is None or name in names]
+    text = "types, items and octets of names in all, more than 10000000"
+    return "".join(f"{file}:{line}: {name}: refused: {size} {text}\n" for name, line, size in told).encode()
+
+
 def too_large(count, program):
-    """A module that grows too large is refused by each command, in little memory, and told on standard error."""
+    """A module of the profile that grows too large is refused by each command, in little memory, and told on standard
+    error; of published modules the types with which they come to too much, and no others."""
+    show = ["show", "--type", "E", "--rules", "per"]
+    with tempfile.NamedTemporaryFile(suffix=".asn") as file:
+        text = grown(False)
+        file.write(text)
+        file.flush()
+        for words, given in ((["module"], text), ([*show], text + b"====\n00\n"), (["module", "--module", file.name], b""), ([*show, "--module", file.name], b"00\n")):
+            ran = run(program, words, given)
+            line = rb"not read: at (D\d+|E) its types come to more than 10000000, references followed\n"
+            count.add(ran[0] == 2 and not ran[1] and bool(re.fullmatch(line, ran[2])), f"{words}, too large: {ran[:3]}")
+            count.add(ran[4] < 100, f"{words}, too large: {ran[4]:.0f} MB")
     for published in (False, True):
-        text = grown(published)
         with tempfile.NamedTemporaryFile(suffix=".asn") as file:
-            file.write(text)
+            file.write(grown(published))
             file.flush()
-            show = ["show", "--type", "E", "--rules", "per"]
-            for words, given in ((["module"], text), ([*show], text + b"====\n00\n"), (["module", "--module", file.name], b""), ([*show, "--module", file.name], b"00\n"), (["flatten", file.name], b"")):
-                ran = run(program, words, given)
-                line = rb"not read: at (D\d+|E) its types come to more than 10000000, references followed\n"
-                count.add(ran[0] == 2 and not ran[1] and bool(re.fullmatch(line, ran[2])), f"{words}, too large: {ran[:3]}")
-                count.add(ran[4] < 100, f"{words}, too large: {ran[4]:.0f} MB")
+            first = 4 + published
+            ran = run(program, ["flatten", "--report", "text", file.name])
+            count.add((ran[0], ran[2]) == (1, lines_past(file.name, first)), f"flatten, too large: {ran[0]}, {ran[2]}")
+            names = [it.partition(" ::=")[0] for it in ran[1].decode().splitlines()[1:-1]]
+            count.add(names == ["B", "C", *(f"D{it}" for it in range(15))], f"flatten, too large: {names}")
+            count.add(ran[4] < 150, f"flatten, too large: {ran[4]:.0f} MB")
+    with tempfile.NamedTemporaryFile(suffix=".asn") as file:
+        file.write(grown(True))
+        file.flush()
+        ran = run(program, ["types", "--module", file.name])
+        count.add(ran[:3] == (1, "\n".join([*names, ""]).encode(), lines_past(file.name, 5)), f"types, too large: {ran[:3]}")
+        ran = run(program, [*show, "--module", file.name], b"00\n")
+        count.add(ran[:2] == (2, b"! no type E\n"), f"show, too large: {ran[:3]}")
+        # of the types that E leads to it alone is too large
+        size = SIZE_BEFORE + 1 + sum(len(f"d{it}") + SIZE_OF_D for it in range(15))
+        wanted = f"{file.name}:25: E: refused: {size} types, items and octets of names in all, more than 10000000\n"
+        count.add(ran[2] == wanted.encode(), f"show, too large: {ran[2]}")
+
+
+def one_large_type(count, program):
+    """620 names of one large type, in 12 KB: all come to a little less than 10,000,000, in a stated memory."""
+    inner = ", ".join(f"n{it} NULL" for it in range(64))
+    many = "".join(f"T{it} ::= SEQUENCE {{ a B }}\n" for it in range(620))
+    text = f"{HEAD}S ::= SEQUENCE {{ {inner} }}\nB ::= SEQUENCE {{ {', '.join(f's{it} S' for it in range(64))} }}\n{many}END\n"
+    with tempfile.NamedTemporaryFile(suffix=".asn") as file:
+        file.write(text.encode())
+        file.flush()
+        ran = run(program, ["check", "--type", "B", "--rules", "per", "--module", file.name], b"-\n")
+        count.add(ran[0] in (0, 1) and ran[2] == b"", f"620 names of one large type: {ran[:3]}")
+        count.add(ran[4] < 700, f"620 names of one large type: {ran[4]:.0f} MB")
+
+
+def left_out(count, program):
+    """A list of types tells what it leaves out: those that are refused, with their lines, and a status that says so."""
+    text = f"{HEAD}Foo ::= NULL\nT ::= SEQUENCE {{ a Fo }}\nU ::= SEQUENCE {{ t T }}\nV ::= BOOLEAN\nEND\n"
+    lines = "{0}:3: T.a: refused: a name that is not assigned\n{0}:4: U.t: refused: a type that is refused\n"
+    with tempfile.NamedTemporaryFile(suffix=".asn") as file:
+        file.write(text.encode())
+        file.flush()
+        ran = run(program, ["types", "--module", file.name])
+        count.add(ran[:3] == (1, b"Foo\nV\n", lines.format(file.name).encode()), f"types, a name not assigned: {ran[:3]}")
+        ran = run(program, ["types"], text.encode())
+        count.add(ran[:3] == (1, b"Foo\nV\n", lines.format("<stdin>").encode()), f"types, a name not assigned: {ran[:3]}")
+        ran = run(program, ["types", "V", "--module", file.name])
+        count.add(ran[0] == 0 and ran[2] == b"", f"types V, another name not assigned: {ran[:3]}")
+    ran = run(program, ["types"], f"{HEAD}Foo ::= NULL\nV ::= BOOLEAN\nEND\n".encode())
+    count.add(ran[:3] == (0, b"Foo\nV\n", b""), f"types: {ran[:3]}")
 
 
 def small_of_large(count, program):
@@ -402,19 +508,39 @@ def one_type(count, program):
         ran = run(program, ["flatten", "--type", name, *FILES])
         told = ran[1].decode().splitlines()
         count.add(ran[0] == 0 and line in told and {*told} <= {*whole}, f"flatten --type {name}: {ran[:3]}")
-        summary = sum(int(it.rpartition(" ")[2]) for it in ran[2].decode().splitlines())
+        counts = [it for it in ran[2].decode().splitlines() if not it.startswith("not the same: ")]
+        summary = sum(int(it.rpartition(" ")[2]) for it in counts)
         count.add(summary == len(told) - 2, f"flatten --type {name}: {len(told) - 2} types, told of {summary}")
 
 
 def not_utf8(count, program):
-    """A file with an octet that is not UTF-8, in a comment too, is refused with its line."""
+    """Octets that are not UTF-8 are passed over in comments, and refused elsewhere with line and column; what is wrong
+    before them is told first."""
     with tempfile.NamedTemporaryFile(suffix=".asn") as file:
-        file.write(f"{HEAD}T ::= NULL\n-- \u00a7 5.2\nEND\n".encode("latin-1"))
-        file.flush()
-        for words in (["flatten", file.name], ["module", "--module", file.name]):
-            wanted = (2, b"", f"{file.name}:{HEAD.count(chr(10)) + 2}: not UTF-8\n".encode())
-            ran = run(program, words)
-            count.add(ran[:3] == wanted, f"{words}, Latin-1: {ran[:3]}")
+        for text, wanted in (
+            (f"{HEAD}-- \u00a7 5.2\nT ::= -- \u00a7 -- NULL /* \u00a7 /* \u00a7 */\n\u00a7 */ -- \u00a7 \r\nU ::= BOOLEAN -- \u00a7\nEND -- \u00a7", None),
+            (f"{HEAD}v IA5String ::= \"-- \" -- \u00a7 \"\nT ::= NULL\nEND\n", None),
+            (f"\ufeff{HEAD}T ::= NULL -- \udca7\nU ::= BOOLEAN\nEND\n", None),
+            (f"{HEAD}T ::= NULL\n-- \u00a7\n v \u00a7 INTEGER ::= 5\nEND\n", "4:4: not UTF-8"),
+            (f"{HEAD}T ::= NULL v IA5String ::= \"\u00a7\"\nEND\n", "2:29: not UTF-8"),
+            (f"{HEAD}T ::= NULL # -- \u00a7\nEND\n", "2: no lexical item begins here"),
+            (f"{HEAD}T ::= NULL /* \u00a7\nEND\n", "2: a comment or string without end"),
+        ):
+            octets = text.encode("utf-8", "surrogateescape") if "\ufeff" in text else text.encode("latin-1")
+            file.seek(0)
+            file.truncate()
+            file.write(octets)
+            file.flush()
+            ran = run(program, ["flatten", file.name])
+            if wanted is None:
+                clean = bytes(it if it < 0x80 else 0x2e for it in octets.removeprefix(b"\xef\xbb\xbf"))
+                count.add(ran[:3] == run(program, ["flatten", "/dev/stdin"], clean)[:3] and ran[0] == 0, f"flatten, Latin-1 in comments: {octets}: {ran[:3]}")
+                names = run(program, ["types"], octets)
+                count.add(names[:3] == run(program, ["types"], clean)[:3] and names[0] == 0, f"types, Latin-1 in comments: {octets}: {names[:3]}")
+                continue
+            count.add(ran[:3] == (2, b"", f"{file.name}:{wanted}\n".encode()), f"flatten, Latin-1: {octets}: {ran[:3]}")
+            ran = run(program, ["module", "--module", file.name])
+            count.add(ran[:3] == (2, b"", f"{file.name}:{wanted}\n".encode()), f"module, Latin-1: {octets}: {ran[:3]}")
 
 
 def main(words):
@@ -429,6 +555,8 @@ def main(words):
     told(count, program)
     hostile(count, program)
     too_large(count, program)
+    one_large_type(count, program)
+    left_out(count, program)
     small_of_large(count, program)
     one_type(count, program)
     not_utf8(count, program)

@@ -57,7 +57,7 @@ TIME = "meters.asn:9: Reading.[[ ]].at: wider: the time is not looked at"
 BITS = "common.asn:2: Flags: owed: last zeros of named bits: the writer trims them"
 OCTETS = "common.asn:3: Id: wider: the OBJECT IDENTIFIER is not looked at"
 ITEMS = "common.asn:4: Level: per only: OER writes other numbers for additional items"
-LEVEL = "meters.asn:13: Chain.next: wider: recursion ends in NULL"
+LEVEL = "meters.asn:13: Chain.next: wider: recursion ends after the levels that are asked for"
 NO_FLAGS = "meters.asn:5: Reading.flags: refused: a type that is refused"
 NO_ID = "meters.asn:6: Reading.id: refused: a type that is refused"
 NO_BITS = "common.asn:2: Flags: refused: named bits without a fixed size: PER trims zeros"
@@ -69,9 +69,9 @@ NO_SET = "meters.asn:15: Bag.all: refused: elements of SET OF have an order of t
 TYPES = (
     ("Reading", ["--plain-bits", "--octets"], [{"flags": "101", "value": 150}, {"ext1": {"at": "9"}, "flags": "1", "id": "2a03", "level": "z", "value": 0}], [VALUE, GROUP, TIME, BITS, OCTETS, ITEMS]),
     ("Plain", [], [{"a": True, "b": 50}, {"a": False, "b": 0}], []),
-    ("Chain", ["--levels", "1"], [{"v": True}, {"next": None, "v": False}], [LEVEL]),
+    ("Chain", ["--levels", "1"], [{"v": True}, {"v": False}], [LEVEL]),
     # the levels above the last are none that end in NULL themselves, and hold one that does
-    ("Chain", ["--levels", "2"], [{"v": True}, {"next": {"v": False}, "v": True}, {"next": {"next": None, "v": True}, "v": False}], [LEVEL]),
+    ("Chain", ["--levels", "2"], [{"v": True}, {"next": {"v": False}, "v": True}], [LEVEL]),
     ("Level", [], ["a", "z"], [ITEMS]),
     ("Flags", ["--plain-bits"], ["101", "1"], [BITS]),
     ("Id", ["--octets"], ["2a03"], [OCTETS]),
@@ -141,7 +141,7 @@ def orders(count, program):
         for order in ORDERS:
             for rules in RULES:
                 given, wanted = messages(types, name, values, order, rules)
-                both_ways(count, program, [order, "--type", name, "--rules", rules, *words], given, (0, wanted), told)
+                both_ways(count, program, [order, "--type", name, "--rules", rules, "--accept-wider", *words], given, (0, wanted), told)
     for name, words, told in REFUSED:
         for order in ORDERS:
             for rules in RULES:
@@ -176,7 +176,9 @@ def reports(count, program):
             for note in it["notes"]
         ]
         statuses = [it["status"] for it in told]
-        counts = [f"{it}: {statuses.count(it)}" for it in ("same", "wider", "owed", "per only", "refused")]
+        others = ("narrower", "wider", "owed", "per only")
+        counts = [f"{it}: {statuses.count(it)}" for it in ("same", *others, "refused")]
+        counts.insert(1, f"not the same: {sum(map(statuses.count, others))}")
         count.add(text[2].decode().splitlines() == said, f"flatten {words}: text {text[2]}")
         count.add(summary[2].decode().splitlines() == counts, f"flatten {words}: summary {summary[2]}")
         count.add({it[:2] for it in (text, whole, summary)} == {(1, text[1])}, f"flatten {words}: status {text[0]}")

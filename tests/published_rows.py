@@ -3,7 +3,7 @@
 
 usage: tests/published_rows.py
 
-1. ROWS.md: what it names by a piece of a text is one case and no other, of which the report says what stands there; a type
+1. ROWS.txt: what it names by a piece of a text is one case and no other, of which the report says what stands there; a type
    that is not refused has octets in both rules, or in PER alone where OER has others; no case of the files that it is
    about is left out.
 2. The octets of all rows are those that the second implementation, examples/reference.py, works out of the type of the
@@ -19,7 +19,7 @@ sys.dont_write_bytecode = True
 from published import Count, REFERENCE, TOP, agree
 
 FOLDER = f"{TOP}/tests/programs/published"
-# the files of which ROWS.md names each case
+# the files of which ROWS.txt names each case
 LISTED = ("stdin", "stdin.subjects")
 
 
@@ -70,8 +70,8 @@ def cases_of(file):
 
 
 def listed():
-    """What ROWS.md has: the encodings, and the piece of a case."""
-    with open(f"{FOLDER}/ROWS.md", encoding="utf-8") as it:
+    """What ROWS.txt has: the encodings, and the piece of a case."""
+    with open(f"{FOLDER}/ROWS.txt", encoding="utf-8") as it:
         for line in it:
             cells = [cell.strip() for cell in re.split(r"(?<!\\)\|", line)[1:-1]]
             if len(cells) == 4 and cells[3].startswith("`"):
@@ -79,21 +79,21 @@ def listed():
 
 
 def check_list(count, cases):
-    """That ROWS.md names a case with what it says, and leaves none out."""
+    """That ROWS.txt names a case with what it says, and leaves none out."""
     named = set()
     for status, piece in listed():
         found = [it for it in cases if piece in it.text() or piece.replace("\n", "\\n") in it.text()]
-        count.add(len(found) == 1, f"ROWS.md: {piece!r} is a piece of {len(found)} cases")
+        count.add(len(found) == 1, f"ROWS.txt: {piece!r} is a piece of {len(found)} cases")
         if len(found) != 1:
             continue
         case, = found
         named.add(id(case))
-        count.add(status in case.statuses(), f"ROWS.md: {piece!r}: {status}, and the case has {case.statuses()}")
+        count.add(status in case.statuses(), f"ROWS.txt: {piece!r}: {status}, and the case has {case.statuses()}")
         whole = any("-" not in it[1:] for it in case.octets())
         in_per = status == "per only" and bool(case.octets())
-        count.add(status in ("refused", "fault") or whole or in_per, f"ROWS.md: {piece!r}: no octets in both rules")
+        count.add(status in ("refused", "fault") or whole or in_per, f"ROWS.txt: {piece!r}: no octets in both rules")
     for case in cases:
-        count.add(id(case) in named, f"ROWS.md does not name the case {case.lines[:2]}")
+        count.add(id(case) in named, f"ROWS.txt does not name the case {case.lines[:2]}")
 
 
 def check_octets(count, cases):
@@ -111,7 +111,7 @@ def main():
     cases = [it for file in sorted(glob.glob(f"{FOLDER}/stdin*")) for it in cases_of(file)]
     check_list(count, [it for file in LISTED for it in cases_of(f"{FOLDER}/{file}")])
     check_octets(count, cases)
-    print(f"{len(cases)} cases, {sum(len(it.octets()) for it in cases)} rows of octets, {len([*listed()])} lines of ROWS.md")
+    print(f"{len(cases)} cases, {sum(len(it.octets()) for it in cases)} rows of octets, {len([*listed()])} lines of ROWS.txt")
     print(f"{count.passed} passed, {count.failed} failed")
     return 1 if count.failed else 0
 

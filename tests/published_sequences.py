@@ -17,7 +17,7 @@ import tempfile
 sys.dont_write_bytecode = True
 from published import Count, REFERENCE, run
 
-STATUSES = ("same", "wider", "owed", "per only", "refused")
+STATUSES = ("same", "narrower", "wider", "owed", "per only", "refused")
 # a simple type: as it is published, as it is in the profile, its status, and a DEFAULT with what becomes of it
 SIMPLE = (
     ("BOOLEAN", "BOOLEAN", "same", "yes", "TRUE"),
@@ -26,7 +26,7 @@ SIMPLE = (
     ("INTEGER { a(3), b(5) } (a..b)", "INTEGER (3..5)", "same", "b", "5"),
     ("INTEGER (0..7, ...)", "INTEGER (0..7, ...)", "same", "3", None),
     ("INTEGER (1 | 9)", "INTEGER (1..9)", "wider", "9", "9"),
-    ("INTEGER", "INTEGER", "same", "-7", "-7"),
+    ("INTEGER", "INTEGER", "narrower", "-7", "-7"),
     ("OCTET STRING (SIZE (2))", "OCTET STRING (SIZE (2..2))", "same", "'ABCD'H", None),
     ("OCTET STRING (CONTAINING NULL)", "OCTET STRING", "wider", "'00'H", None),
     ("BIT STRING { f(0), g(1) } (SIZE (4))", "BIT STRING (SIZE (4..4))", "same", "{ f, g }", None),
@@ -122,7 +122,8 @@ class Maker:
         return texts, parts
 
     def group(self, one, number):
-        """A group: its text and its line in the profile; where each component may be absent it is owed."""
+        """A group: its text, its line in the profile, and whether it has to be there; where each component may be absent it is
+        owed."""
         other = self.included(one, set())
         parts = other.root if other else [self.part(one) for _ in range(self.chance.randint(1, 3))]
         said = f"COMPONENTS OF {other.reference(one.module)}" if other else ", ".join(it.text for it in parts)
@@ -132,17 +133,18 @@ class Maker:
         if all(it.need for it in parts):
             one.status = worse(one.status, "owed")
         inner = ", ".join(it.flat + it.suffix for it in parts)
-        return f"[[ {version}{said} ]]", f"ext{number} SEQUENCE {{ {inner} }} OPTIONAL"
+        return f"[[ {version}{said} ]]", f"ext{number} SEQUENCE {{ {inner} }} OPTIONAL", not all(it.need for it in parts)
 
     def additions(self, one, used):
         """Additions, groups and COMPONENTS OF others among them: their texts, and their lines in the profile."""
-        texts, flats, groups = [], [], 0
+        texts, flats, groups, needed = [], [], 0, []
         for _ in range(self.chance.randint(0, 3)):
             if self.chance.random() < 0.5:
                 groups += 1
-                text, flat = self.group(one, groups)
+                text, flat, is_needed = self.group(one, groups)
                 texts.append(text)
                 flats.append(flat)
+                needed.append(is_needed)
                 continue
             other = self.included(one, used)
             parts = other.root if other else [self.part(one)]
@@ -150,6 +152,10 @@ class Maker:
             for it in parts:
                 one.status = worse(one.status, it.addition_status)
                 flats.append(it.flat + " OPTIONAL")
+                needed.append(not it.need)
+        # one that has to be there before another may be left out
+        if any(needed[:-1]):
+            one.status = worse(one.status, "owed")
         return texts, flats
 
     def type(self):

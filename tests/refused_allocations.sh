@@ -78,6 +78,8 @@ told_of 'unknown name' sequence item
 refuse_each "$room/test_checks" tests/programs/memory_texts calls memory_texts
 told_of value to_json from_json
 told_of shape from_json
+told_of text json_in
+told_of 'key twice' json_in
 told_of module read print print_type run
 told_of 'wrong text' read read_explained explain
 told_of cycle read
@@ -140,6 +142,9 @@ answered_to 'M DEFINITIONS ::= BEGIN T ::= { END\n' module
 example=$PWD/examples/published
 answered_to '' flatten --report json --plain-bits "$example/report.asn" "$example/common.asn"
 answered_to "$(cat examples/published/report.per)\n" show --type Report --rules per --module "$example/report.asn" "$example/common.asn"
+answered_to "$(cat examples/published/report.per)\n" check --type Report --rules per --module "$example/report.asn" "$example/common.asn"
+levels='M DEFINITIONS AUTOMATIC TAGS ::= BEGIN n INTEGER ::= 3 T ::= SEQUENCE { v INTEGER (0..n), next T OPTIONAL } END\n'
+answered_to "$levels====\na8\nb8\nb980\n" check --type T --rules per --levels 2 --explain
 answered_to '' module --module "$example/flattened.asn"
 answered_to '' flatten "$example/report.asn" "$example/report.asn"
 answered_to '' newest

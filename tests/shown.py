@@ -377,7 +377,8 @@ def published(count, program):
     files = ["--module", f"{room}/report.asn", f"{room}/common.asn"]
     flat = names_of(octets_of(f"{room}/flattened.asn").decode())
     ran = run([program, "types", *files])
-    count.add(ran[:2] == (0, lines(it.encode() for it in flat)), f"published: names {ran}")
+    left_out = f"{room}/common.asn:21: Faults: refused: named bits without a fixed size: PER trims zeros\n"
+    count.add(ran == (1, lines(it.encode() for it in flat), left_out.encode()), f"published: names {ran}")
     for rules in ("per", "oer"):
         given = octets_of(f"{room}/report.{rules}")
         ran = run([program, "fields", "--type", "Report", "--rules", rules, *files], given)

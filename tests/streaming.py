@@ -11,6 +11,7 @@ With --stats a terminal is told how many messages are answered so far, and nothi
 """
 import os
 import pty
+import resource
 import subprocess
 import sys
 import tempfile
@@ -124,6 +125,41 @@ def over_budget(count, program):
                 count.add(used.ru_maxrss < 30_000, f"{order} over the budget: {used.ru_maxrss} KB")
             enough = run([program, "check", "--type", "T", "--rules", "per", "--module", file.name, "--budget", "4194241"], b"ffff" + b"00" * 8192 + b"\n")
             count.add(enough == (0, b"ok 8194\n", b""), f"within the budget: {enough}")
+
+
+def lines_within_a_budget(count, program):
+    """Each line within a budget is answered: of a BIT STRING of one length with a mark too, outside its root."""
+    with tempfile.NamedTemporaryFile(suffix=".asn") as file:
+        file.write(b"M DEFINITIONS AUTOMATIC TAGS ::= BEGIN T ::= SEQUENCE { a BIT STRING (SIZE (3, ...)) } END\n")
+        file.flush()
+        for rules, outside, within in (("per", b"8140", b"50"), ("oer", b"020680", b"0205a0")):
+            words = [program, "check", "--type", "T", "--rules", rules, "--module", file.name]
+            lines = b"\n".join((outside, within, outside)) + b"\n"
+            ok, over = b"ok %d\n" % (len(outside) // 2), b"! over budget: 2 entries, 3 octets\n"
+            for most, status, wanted in (("100", 0, ok + b"ok %d\n" % (len(within) // 2) + ok), ("2", 1, ok + over + ok)):
+                ran = run([*words, "--budget", most], lines)
+                count.add(ran == (status, wanted, b""), f"{rules} within {most}: {ran}")
+
+
+def refused_in_little_memory(count, program):
+    """Octets that are no message are refused in as much memory as they have, with a budget and without one, however many
+    entries the value has that stands before the fault: here 5,200,000, of 10,003 octets."""
+    additions = ", ".join(f"x{it} NULL OPTIONAL" for it in range(64))
+    elements = b"c4" + b"00" * 8192 + b"b880" + b"00" * 1808
+    fault = 8 * 10_002
+    with tempfile.NamedTemporaryFile(suffix=".asn") as file:
+        file.write(f"M DEFINITIONS AUTOMATIC TAGS ::= BEGIN T ::= SEQUENCE OF SEQUENCE {{ ..., {additions} }} END\n".encode())
+        file.flush()
+        for way in (["check"], *([it, "--budget", "1000"] for it in ("check", "show", "convert"))):
+            for octets, wanted in ((elements + b"00", b"! octets left after 10003\n"), (elements[:-2], b"! cut short after %d bits\n" % fault)):
+                words = [program, *way, "--type", "T", "--rules", "per", "--module", file.name]
+                ran = subprocess.run(words, input=octets + b"\n", capture_output=True, preexec_fn=in_little_memory)
+                count.add((ran.returncode, ran.stdout, ran.stderr) == (1, wanted, b""), f"{way} {len(octets) // 2} octets: {ran.returncode}, {ran.stdout[:100]}, {ran.stderr[:100]}")
+
+
+def in_little_memory():
+    """Lets a program have 64 MB at most."""
+    resource.setrlimit(resource.RLIMIT_AS, (64_000_000, 64_000_000))
 
 
 def memory(count, program, file):
@@ -248,6 +284,8 @@ def main(words):
         messages(count, program)
         explained(count, program)
         over_budget(count, program)
+        lines_within_a_budget(count, program)
+        refused_in_little_memory(count, program)
         as_they_come(count, program, file)
         octets_as_they_come(count, program, file)
         fields_as_they_come(count, program, file)

@@ -88,7 +88,7 @@ static int modules(void) {
 }
 
 /* octets that are an encoding, or are none */
-static int messages(tulvorn_handle *type) {
+static int messages(const tulvorn_handle *type) {
     const uint8_t good[2] = {0x6b, 0x04}, bad[1] = {0xac}, more[2] = {0x28, 0x00};
     tulvorn_handle value = TULVORN_NONE, octets = TULVORN_NONE;
     tulvorn_fault fault;
@@ -133,7 +133,7 @@ static int messages(tulvorn_handle *type) {
 }
 
 /* a message of a newer sender: an addition that the type has not, and an item */
-static int newer(tulvorn_handle *module) {
+static int newer(const tulvorn_handle *module) {
     tulvorn_handle old = TULVORN_NONE, value = TULVORN_NONE, skipped = TULVORN_NONE, words = TULVORN_NONE;
     tulvorn_fault fault;
     uint8_t into[4] = {9};
@@ -165,7 +165,7 @@ static int newer(tulvorn_handle *module) {
     return 0;
 }
 
-static int name_is(tulvorn_handle *value, const char *path, const char *wanted) {
+static int name_is(const tulvorn_handle *value, const char *path, const char *wanted) {
     uint8_t into[32];
     size_t size = 0;
     CHECK(tulvorn_name(value, TEXT(path), into, sizeof into, &size) == TULVORN_DONE);
@@ -174,7 +174,7 @@ static int name_is(tulvorn_handle *value, const char *path, const char *wanted) 
 }
 
 /* a value of each kind */
-static int parts(tulvorn_handle *type) {
+static int parts(const tulvorn_handle *type) {
     tulvorn_handle value = TULVORN_NONE;
     tulvorn_fault fault;
     uint8_t into[16] = {9};
@@ -183,24 +183,25 @@ static int parts(tulvorn_handle *type) {
     size_t size;
     CHECK(tulvorn_from_json(type, TEXT("{"), &value, &fault) == TULVORN_NO_JSON && value.at == NULL);
     CHECK(tulvorn_from_json(type, TEXT("{}"), &value, &fault) == TULVORN_SHAPE);
+    CHECK(tulvorn_from_json(type, TEXT("{\"a\":1,\"a\":1}"), &value, &fault) == TULVORN_SHAPE && value.at == NULL);
     CHECK(tulvorn_from_json(type, TEXT(ALL), &value, &fault) == TULVORN_DONE);
     CHECK(tulvorn_integer(&value, TEXT("far"), &number) == TULVORN_DONE && number == -70000000000);
     CHECK(tulvorn_integer(&value, TEXT("one.number"), &number) == TULVORN_DONE && number == 200);
     CHECK(tulvorn_integer(&value, TEXT("list[0].id"), &number) == TULVORN_DONE && number == 5);
     CHECK(tulvorn_integer(&value, TEXT("$.list[1].id"), &number) == TULVORN_DONE && number == 0);
-    CHECK(tulvorn_integer(&value, TEXT("list[2].id"), &number) == TULVORN_NO_PATH && number == 0);
+    CHECK(tulvorn_integer(&value, TEXT("list[2].id"), &number) == TULVORN_ABSENT && number == 0);
     CHECK(tulvorn_integer(&value, TEXT("key"), &number) == TULVORN_OTHER_KIND && number == 0);
     uint64_t without_sign = 7;
     CHECK(tulvorn_unsigned(&value, TEXT("one.number"), &without_sign) == TULVORN_DONE && without_sign == 200);
     CHECK(tulvorn_unsigned(&value, TEXT("far"), &without_sign) == TULVORN_OTHER_KIND && without_sign == 200);
-    CHECK(tulvorn_unsigned(&value, TEXT("list[2].id"), &without_sign) == TULVORN_NO_PATH && without_sign == 200);
+    CHECK(tulvorn_unsigned(&value, TEXT("list[2].id"), &without_sign) == TULVORN_ABSENT && without_sign == 200);
     CHECK(tulvorn_unsigned(&value, TEXT("key"), &without_sign) == TULVORN_OTHER_KIND && without_sign == 200);
     CHECK(tulvorn_integer(&value, TEXT("\xff"), &number) == TULVORN_NOT_TEXT);
     CHECK(tulvorn_boolean(&value, TEXT("list[0].ok"), &word) == TULVORN_DONE && word == 1);
     CHECK(tulvorn_boolean(&value, TEXT("far"), &word) == TULVORN_OTHER_KIND && word == 1);
     CHECK(tulvorn_text(&value, TEXT("list[0].note"), into, sizeof into, &size) == TULVORN_DONE && size == 1);
     CHECK(into[0] == 'A');
-    CHECK(tulvorn_text(&value, TEXT("list[1].note"), into, sizeof into, &size) == TULVORN_NO_PATH);
+    CHECK(tulvorn_text(&value, TEXT("list[1].note"), into, sizeof into, &size) == TULVORN_ABSENT);
     CHECK(tulvorn_text(&value, TEXT("word"), into, sizeof into, &size) == TULVORN_DONE && size == 2);
     CHECK(tulvorn_text(&value, TEXT("key"), into, sizeof into, &size) == TULVORN_OTHER_KIND);
     CHECK(tulvorn_octets(&value, TEXT("key"), into, 2, &size) == TULVORN_TOO_SHORT && size == 3 && into[0] == 0xc3);
@@ -220,12 +221,60 @@ static int parts(tulvorn_handle *type) {
         if (kind == TULVORN_NULL) continue;
         CHECK(tulvorn_kind(&value, TEXT(paths[kind - 1]), &word) == TULVORN_DONE && word == kind);
     }
+    /* no value of the type has such a part, or this one has none */
+    static const char *const misspelt[] = {"fra",      "list.id", "list[0].nota", "list[9].nota", "one.nobody",
+                                           "far.deep", "far[0]",  "one[0]",       "bits[1]",      "list[1.5]",
+                                           "0",        "one none", "$$.far"};
+    static const char *const absent[] = {"list[2]", "list[1].note", "list[999999999].id", "$.one.none", ".list[2].ok"};
+    for (size_t at = 0; at < sizeof misspelt / sizeof *misspelt; at++) {
+        CHECK(tulvorn_kind(&value, TEXT(misspelt[at]), &word) == TULVORN_NO_PATH);
+    }
+    for (size_t at = 0; at < sizeof absent / sizeof *absent; at++) {
+        CHECK(tulvorn_kind(&value, TEXT(absent[at]), &word) == TULVORN_ABSENT);
+    }
     tulvorn_close(&value);
     return 0;
 }
 
+/* a value that takes more than the budget: of a list of 3, 4 entries, and an octet for each of a string */
+static int budgets(void) {
+    static const char text[] =
+        "M DEFINITIONS AUTOMATIC TAGS ::= BEGIN L ::= SEQUENCE OF BOOLEAN S ::= SEQUENCE { a OCTET STRING, b NULL OPTIONAL }\n"
+        "Many ::= SEQUENCE OF SEQUENCE { ok BOOLEAN, a NULL, b NULL, c NULL, d NULL, e NULL, f NULL } END";
+    const uint8_t list[5] = {1, 3, 0, 0, 0}, string[5] = {0, 3, 1, 2, 3}, cut[3] = {1, 3, 0};
+    tulvorn_handle module = TULVORN_NONE, type = TULVORN_NONE, value = TULVORN_NONE;
+    tulvorn_budget four = {4, 0}, three = {3, 0}, strings = {3, 3}, fewer = {3, 2};
+    tulvorn_fault fault;
+    CHECK(tulvorn_module(TEXT(text), &module, &fault) == TULVORN_DONE);
+    CHECK(tulvorn_type(&module, TEXT("L"), &type, &fault) == TULVORN_DONE);
+    CHECK(tulvorn_check_within(&value, TULVORN_OER, list, 5, &four, &fault) == TULVORN_MISUSE);
+    CHECK(tulvorn_check_within(&type, 2, list, 5, &four, &fault) == TULVORN_MISUSE);
+    CHECK(tulvorn_decode_within(&type, 2, list, 5, &four, &value, &fault) == TULVORN_MISUSE && value.at == NULL);
+    CHECK(tulvorn_check_within(&type, TULVORN_OER, list, 5, &four, &fault) == TULVORN_DONE);
+    CHECK(tulvorn_check_within(&type, TULVORN_OER, list, 5, &three, &fault) == TULVORN_OVER_BUDGET);
+    CHECK(fault.code == TULVORN_OVER_BUDGET && fault.at == 0 && says(&fault, TULVORN_OER, "over budget") == 0);
+    CHECK(tulvorn_check_within(&type, TULVORN_OER, cut, 3, &four, &fault) == TULVORN_TRUNCATED && fault.at == 3);
+    CHECK(tulvorn_decode_within(&type, TULVORN_OER, list, 5, &three, &value, &fault) == TULVORN_OVER_BUDGET);
+    CHECK(value.at == NULL);
+    CHECK(tulvorn_decode_within(&type, TULVORN_OER, list, 5, &four, &value, &fault) == TULVORN_DONE);
+    size_t size = 0;
+    CHECK(tulvorn_count(&value, NULL, 0, &size) == TULVORN_DONE && size == 3);
+    CHECK(tulvorn_type(&module, TEXT("S"), &type, &fault) == TULVORN_DONE);
+    CHECK(tulvorn_check_within(&type, TULVORN_OER, string, 5, &strings, &fault) == TULVORN_DONE);
+    CHECK(tulvorn_check_within(&type, TULVORN_OER, string, 5, &fewer, &fault) == TULVORN_OVER_BUDGET);
+    /* an octet an element, and six NULLs in each: what is over the budget takes no more memory than the plan of the type */
+    uint8_t many[102] = {1, 100};
+    CHECK(tulvorn_type(&module, TEXT("Many"), &type, &fault) == TULVORN_DONE);
+    asked = 0;
+    CHECK(tulvorn_check_within(&type, TULVORN_OER, many, 102, &four, &fault) == TULVORN_OVER_BUDGET && asked < 100);
+    tulvorn_close(&value);
+    tulvorn_close(&type);
+    tulvorn_close(&module);
+    return 0;
+}
+
 /* integers up to 2^64 - 1: those above 2^63 - 1 are told without a sign alone, and others as far as they are not negative */
-static int wide_integers(tulvorn_handle *module) {
+static int wide_integers(const tulvorn_handle *module) {
     static const struct {
         const char *json;
         uint64_t number;
@@ -264,7 +313,7 @@ static int wide_integers(tulvorn_handle *module) {
     return 0;
 }
 
-static int memory(tulvorn_handle *module, tulvorn_handle *msg, tulvorn_handle *all, long *count) {
+static int memory(const tulvorn_handle *module, const tulvorn_handle *msg, const tulvorn_handle *all, long *count) {
     const uint8_t good[2] = {0x6b, 0x04};
     tulvorn_handle value = TULVORN_NONE;
     tulvorn_fault fault;
@@ -279,6 +328,9 @@ static int memory(tulvorn_handle *module, tulvorn_handle *msg, tulvorn_handle *a
     EACH_FAILS(it, tulvorn_type(module, TEXT("All"), &it, &fault));
     EACH_FAILS(it, tulvorn_share(all, &it));
     EACH_FAILS(it, tulvorn_decode(msg, TULVORN_PER, good, 2, &it, &fault));
+    const tulvorn_budget most = {100, 100};
+    EACH_FAILS(it, tulvorn_decode_within(msg, TULVORN_PER, good, 2, &most, &it, &fault));
+    EACH_FAILS(it, tulvorn_check_within(msg, TULVORN_PER, good, 2, &most, &fault));
     EACH_FAILS(it, tulvorn_encode(&value, TULVORN_OER, &it, &fault));
     EACH_FAILS(it, tulvorn_convert(msg, TULVORN_PER, good, 2, &it, &fault));
     EACH_FAILS(it, tulvorn_from_json(all, TEXT(ALL), &it, &fault));
@@ -316,7 +368,7 @@ static int calls(long *refused) {
     CHECK(tulvorn_type(&module, TEXT("Msg"), &msg, &fault) == TULVORN_DONE);
     CHECK(tulvorn_type(&module, TEXT("All"), &all, &fault) == TULVORN_DONE);
     CHECK(memory(&module, &msg, &all, refused) == 0);
-    CHECK(newer(&module) == 0 && wide_integers(&module) == 0);
+    CHECK(newer(&module) == 0 && wide_integers(&module) == 0 && budgets() == 0);
     /* a type outlives its module and its first handle */
     CHECK(tulvorn_share(&module, &other) == TULVORN_MISUSE && tulvorn_share(&msg, &other) == TULVORN_DONE);
     tulvorn_close(&module);

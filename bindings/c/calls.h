@@ -62,12 +62,12 @@ void *__wrap_realloc(void *block, size_t size) { return fails() ? NULL : __real_
     } while (0)
 
 /* the handle holds these octets */
-static int holds_text(tulvorn_handle *octets, const char *wanted) {
+static int holds_text(const tulvorn_handle *octets, const char *wanted) {
     uint8_t into[128];
     size_t size = 0;
     CHECK(tulvorn_copy(octets, into, sizeof into, &size) == TULVORN_DONE);
     if (size != strlen(wanted) || memcmp(into, wanted, size) != 0) {
-        printf("%.*s in the place of %s\n", (int)size, (const char *)into, wanted);
+        printf("%.*s instead of %s\n", (int)size, (const char *)into, wanted);
         return 1;
     }
     return 0;

@@ -127,6 +127,8 @@ static int misfits(tulvorn_handle *module, tulvorn_handle *msg) {
     CHECK(holds_text(&words, "not of the type's shape at $.ok") == 0);
     CHECK(tulvorn_explain_json(msg, TEXT("{"), &words) == TULVORN_NO_JSON);
     CHECK(holds_text(&words, "not of the type's shape at $.ok") == 0);
+    CHECK(tulvorn_explain_json(msg, TEXT("{\"id\":5,\"id\":5}"), &words) == TULVORN_DONE);
+    CHECK(holds_text(&words, "$.id: the object has this key twice") == 0);
     tulvorn_close(&low);
     tulvorn_close(&value);
     tulvorn_close(&words);

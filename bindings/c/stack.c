@@ -100,7 +100,7 @@ static int call_part(void) {
     static const char path[] = "a[0].a[0].a[0].a[0].a[0].a[0].a[0].a[0].a[0].a[0].a[0].a[0].a[0].a[0].a[0].a[0].a";
     uint32_t kind;
     uint32_t code = tulvorn_kind(&value, (const uint8_t *)path, sizeof path - 1, &kind);
-    return code == TULVORN_DONE || code == TULVORN_NO_PATH || code == TULVORN_OTHER_KIND;
+    return code == TULVORN_DONE || code == TULVORN_NO_PATH || code == TULVORN_ABSENT || code == TULVORN_OTHER_KIND;
 }
 
 static int call_explain_module(void) { return tulvorn_explain_module(text, text_size, &out) == TULVORN_DONE; }

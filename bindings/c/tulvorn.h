@@ -1,27 +1,28 @@
 /* Tulvorn for C and C++: values of ASN.1 types by CANONICAL-PER UNALIGNED and Canonical OER.
  *
- * A handle holds one object of the library: a module, a type, a value beside its type, a session, octets, or the
- * fields that were skipped in a message. A call that gives an object takes the handle that it is to be put into, and
- * lets go of what that handle held. Each call but tulvorn_close and tulvorn_interface answers a code, TULVORN_DONE
- * where it did what it was asked for. On every other answer each handle is as it was, but for a session that takes a
- * piece or is ended, and so are the octets that were to be written; the text of a function says what else is written.
- * Nothing is kept between calls but what handles hold: there is no state of the library's own.
+ * A handle holds one object of the library: a module, a type, a value with its type, a session, octets, or the
+ * fields that were skipped in a message. A call that returns an object takes the handle to put it into, and frees what
+ * that handle held. Each call except tulvorn_close and tulvorn_interface returns a code, TULVORN_DONE on success. On
+ * every other code the handles, and the octets to be written, are unchanged, except a session that takes a piece or is
+ * ended. The comment of a function says what else is written. The library has no state of its own between calls.
  *
- * WHAT THE CALLER OWES. Nothing checks it, and a call for which it does not hold may do anything.
+ * WHAT THE CALLER OWES. Nothing checks it. If it does not hold, the behaviour of a call is undefined.
  *   - A handle begins as TULVORN_NONE, is changed by calls of the library alone, and is never copied. Two copies of the
  *     library in one program are two libraries: a handle stays with one.
- *   - A call is given no handle twice, and no two of the places that it writes overlap one another or what it reads.
- *   - What a call is given, handles too, is used by nothing else until the call returns.
- *   - Pointers lead to memory of their type, aligned for it, and are not null, but that to data of which the length is
- *     0. Lengths are those of the memory, below 2^63. What a call reads, octets or a fault, was written before.
+ *   - The places that a call writes, handles too, overlap neither one another nor what it reads.
+ *   - Until a call returns, nothing else uses what it may write, and nothing writes what it only reads: `const` in its
+ *     declaration. So no call closes or fills a handle that another call reads.
+ *   - Pointers lead to memory of their type, aligned for it. Only the pointer to data of length 0 may be null. Lengths
+ *     are those of the memory, below 2^63. What a call reads, octets or a fault, was written before.
  *   - malloc, realloc and free are those of one allocator, and align a block to each power of two up to 16 that divides
  *     its size. No call is made from a signal handler, or from the child that a program with threads has forked.
- *   - The processor is an x86-64 of level v2 or above. A call has stack enough: 256 KiB are, of a library that LLVM
- *     compiled, and 512 KiB of one that Rattle's own compiler did, as was measured (bindings/README.md).
- * THREADS. A handle may go to another thread, as by a lock, or by starting or joining that thread. Two threads use one
- * type at once by a handle each: tulvorn_share makes the second. A handle is never used by two threads at once.
+ *   - The processor is an x86-64 of level v2 or above. A call has enough stack: 256 KiB for a library that LLVM
+ *     compiled, 512 KiB for one that Rattle's own compiler did (measured: bindings/README.md).
+ * THREADS. Calls that take a handle as `const` write neither the handle nor its object: threads may pass one handle to
+ * them at once, without a lock. Any other use of a handle is by one thread at a time. It may go to another thread, as
+ * by a lock, or by starting or joining that thread. tulvorn_share is for threads that each close a handle of their own.
  * TEXT is UTF-8, by pointer and length, with no NUL at its end.
- * WHO FREES. A handle owns what it holds: tulvorn_close lets it go, and so does a call that puts another object there.
+ * WHO FREES. A handle owns what it holds: tulvorn_close frees it, and so does a call that puts another object there.
  * Whatever else is passed stays the caller's, and the library keeps no pointer to it.
  */
 #ifndef TULVORN_H
@@ -35,9 +36,9 @@ extern "C" {
 #endif
 
 /* The number of this header. It grows with each change after which a program has to be compiled anew. */
-#define TULVORN_INTERFACE 1
+#define TULVORN_INTERFACE 2
 
-/* What holds an object, or nothing. It is never copied: the copy would be let go too. */
+/* Holds an object, or nothing. It is never copied: the copy would be freed too. */
 typedef struct tulvorn_handle {
     void *at; /* not for the caller */
 } tulvorn_handle;
@@ -45,8 +46,8 @@ typedef struct tulvorn_handle {
 #define TULVORN_NONE \
     { NULL }
 
-/* The octets of a string literal without the NUL at its end, as the two arguments of a call: their pointer and their
-   number, as in tulvorn_type(&module, TULVORN_TEXT("Msg"), &type, &fault). */
+/* The octets of a string literal without the NUL at its end, as two arguments of a call: pointer and length, as in
+   tulvorn_type(&module, TULVORN_TEXT("Msg"), &type, &fault). */
 #define TULVORN_TEXT(literal) (const uint8_t *)("" literal), (sizeof(literal) - 1)
 
 /* ---- encoding rules: a call that is given another number answers TULVORN_MISUSE */
@@ -73,8 +74,8 @@ enum {
     TULVORN_NOT_OF_TYPE = 11,       /* the value is none of the type */
     TULVORN_NO_JSON = 12,           /* the text is no JSON in UTF-8, or has a number past what is read, as 1e400, half
                                        of a surrogate pair, or more than 127 levels */
-    TULVORN_SHAPE = 13,             /* the JSON is not of the shape of the type */
-    TULVORN_NO_PATH = 14,           /* the value has no part there, or it is absent and has no DEFAULT */
+    TULVORN_SHAPE = 13,             /* the JSON is not of the shape of the type, or an object has a key twice */
+    TULVORN_NO_PATH = 14,           /* no value of the type has a part there, as with a misspelt name */
     TULVORN_OTHER_KIND = 15,        /* the part there is of another kind */
     /* of tulvorn_read_newer alone: */
     TULVORN_NO_MESSAGE = 16,        /* no message of any version begins so, or more octets follow one */
@@ -83,7 +84,12 @@ enum {
                                         item, past those of the profile */
     /* of tulvorn_feed alone: */
     TULVORN_MORE = 19,              /* the octets so far are no whole encoding, and one may still follow */
-    TULVORN_SPENT = 20              /* the session has given its value, or answered NO_MEMORY, before */
+    TULVORN_SPENT = 20,             /* the session has returned its value, or answered NO_MEMORY, before */
+    /* of the parts of a value alone: */
+    TULVORN_ABSENT = 21,            /* the value has no part there, and others of its type have: it is absent without a
+                                       DEFAULT, another alternative is chosen, or the list has fewer elements */
+    /* of tulvorn_check_within and tulvorn_decode_within alone: */
+    TULVORN_OVER_BUDGET = 22        /* the octets are the encoding of a value that takes more than the budget */
 };
 
 /* ---- why, where octets are TULVORN_REFUSED: what was being read */
@@ -123,56 +129,78 @@ typedef struct tulvorn_fault {
 
 /* ---- modules and types */
 
-/* Reads the text of a module (X.680, in the notation of the profile), and puts the module into `module`.
-   Answers NOT_TEXT, NO_MODULE, NO_MEMORY. */
+/* Reads the text of a module (X.680, in the notation of the profile), and puts the module into `module`. Its types are
+   as the text says, and their encodings are those of the text. A module that `asn_tool flatten` wrote of published ones
+   can have types that differ from the published types: flatten's report names them, and `flatten --strict` leaves
+   them out. Answers NOT_TEXT, NO_MODULE, NO_MEMORY. */
 uint32_t tulvorn_module(const uint8_t *text, size_t len, tulvorn_handle *module, tulvorn_fault *fault);
 
-/* Puts into `words`, as octets, why the text is no module: the line and the column, what could stand there, and the
-   line itself with a mark, in some lines of text. What stands in the line stands there as it is, also what a terminal
-   would obey. No octets where it is a module. Answers NOT_TEXT, NO_MEMORY. */
+/* Puts into `words`, as octets, why the text is no module, in some lines of text: the line and the column, what is
+   expected there, and the line itself with a mark. Control characters of the line are not replaced. No octets if the
+   text is a module. Answers NOT_TEXT, NO_MEMORY. */
 uint32_t tulvorn_explain_module(const uint8_t *text, size_t len, tulvorn_handle *words);
 
 /* Puts the type that the module assigns to the name into `type`. It outlives the module, which is as it was.
    Answers MISUSE where `module` holds no module, NOT_TEXT, NO_NAME, NO_MEMORY. */
-uint32_t tulvorn_type(tulvorn_handle *module, const uint8_t *name, size_t len, tulvorn_handle *type,
+uint32_t tulvorn_type(const tulvorn_handle *module, const uint8_t *name, size_t len, tulvorn_handle *type,
                       tulvorn_fault *fault);
 
 /* Puts another handle of the same type into `other`, for another thread, say. Both share one tree.
    Answers MISUSE where `type` holds no type, NO_MEMORY. */
-uint32_t tulvorn_share(tulvorn_handle *type, tulvorn_handle *other);
+uint32_t tulvorn_share(const tulvorn_handle *type, tulvorn_handle *other);
 
 /* ---- messages. Each answers MISUSE where its first handle holds no type, or no value, or the rules are none. */
 
 /* Whether the octets are the encoding of a value of the type.
    Answers REFUSED, TRUNCATED, REST, TOO_LONG, NO_MEMORY. */
-uint32_t tulvorn_check(tulvorn_handle *type, uint32_t rules, const uint8_t *octets, size_t len, tulvorn_fault *fault);
+uint32_t tulvorn_check(const tulvorn_handle *type, uint32_t rules, const uint8_t *octets, size_t len,
+                       tulvorn_fault *fault);
 
-/* Puts the value whose encoding the octets are into `value`, beside its type. Answers as tulvorn_check does. */
-uint32_t tulvorn_decode(tulvorn_handle *type, uint32_t rules, const uint8_t *octets, size_t len, tulvorn_handle *value,
-                        tulvorn_fault *fault);
+/* Puts the value whose encoding the octets are into `value`, with its type. Answers as tulvorn_check does. */
+uint32_t tulvorn_decode(const tulvorn_handle *type, uint32_t rules, const uint8_t *octets, size_t len,
+                        tulvorn_handle *value, tulvorn_fault *fault);
+
+/* The most that a value may take. An entry is the value itself, and each of its components, absent ones too, of its
+   elements and of its alternatives. A string takes an octet for each octet, character or bit (a UTF8String for each
+   octet). A few octets can be the encoding of many entries, as of a list of SEQUENCEs of NULLs. Decoded without a
+   budget, 1,000 octets from a hostile sender take a gigabyte. */
+typedef struct tulvorn_budget {
+    uint64_t entries;
+    uint64_t octets;
+} tulvorn_budget;
+
+/* As tulvorn_check, of a value that takes no more than the budget. No value is built: what it takes is counted, by a
+   plan of the type that each call works out. Answers as tulvorn_check does, and OVER_BUDGET. */
+uint32_t tulvorn_check_within(const tulvorn_handle *type, uint32_t rules, const uint8_t *octets, size_t len,
+                              const tulvorn_budget *budget, tulvorn_fault *fault);
+
+/* As tulvorn_decode, of a value that takes no more than the budget. What it takes is counted first, so no value that
+   takes more is built. Answers as tulvorn_check_within does. */
+uint32_t tulvorn_decode_within(const tulvorn_handle *type, uint32_t rules, const uint8_t *octets, size_t len,
+                               const tulvorn_budget *budget, tulvorn_handle *value, tulvorn_fault *fault);
 
 /* Puts the encoding of the value into `octets`. Answers NOT_OF_TYPE, TOO_LONG, NO_MEMORY. */
-uint32_t tulvorn_encode(tulvorn_handle *value, uint32_t rules, tulvorn_handle *octets, tulvorn_fault *fault);
+uint32_t tulvorn_encode(const tulvorn_handle *value, uint32_t rules, tulvorn_handle *octets, tulvorn_fault *fault);
 
-/* Tells in `encoded` how many octets the encoding of the value has. Takes no memory. Answers NOT_OF_TYPE, TOO_LONG, and
-   `encoded` is as it was then. */
-uint32_t tulvorn_encoded_len(tulvorn_handle *value, uint32_t rules, size_t *encoded, tulvorn_fault *fault);
+/* Writes to `encoded` how many octets the encoding of the value has. Does not allocate. Answers NOT_OF_TYPE, TOO_LONG;
+   then `encoded` is unchanged. */
+uint32_t tulvorn_encoded_len(const tulvorn_handle *value, uint32_t rules, size_t *encoded, tulvorn_fault *fault);
 
-/* Puts the encoding of the value into the first of the `len` octets at `into`, and tells in `encoded` how many it has;
-   the others are as they were. Takes no memory. Answers NOT_OF_TYPE, TOO_LONG, and TOO_SHORT, where `at` of the fault
-   is how many octets are wanted; then all octets, and `encoded`, are as they were. */
-uint32_t tulvorn_encode_into(tulvorn_handle *value, uint32_t rules, uint8_t *into, size_t len, size_t *encoded,
+/* Writes the encoding of the value to the front of the `len` octets at `into`, and its length to `encoded`. The other
+   octets are unchanged. Does not allocate. Answers NOT_OF_TYPE, TOO_LONG, and TOO_SHORT, where `at` of the fault is how
+   many octets are needed; then all octets, and `encoded`, are unchanged. */
+uint32_t tulvorn_encode_into(const tulvorn_handle *value, uint32_t rules, uint8_t *into, size_t len, size_t *encoded,
                              tulvorn_fault *fault);
 
-/* Puts into `other` the octets by the other rules of the value whose encoding by `rules` the octets are.
-   Answers as tulvorn_check does; TOO_LONG also where the value has no encoding by the other rules of so few octets. */
-uint32_t tulvorn_convert(tulvorn_handle *type, uint32_t rules, const uint8_t *octets, size_t len, tulvorn_handle *other,
-                         tulvorn_fault *fault);
+/* Reads the octets by `rules`, and puts the octets of the same value by the other rules into `other`.
+   Answers as tulvorn_check does; TOO_LONG also if the encoding by the other rules has more than 268,435,455 octets. */
+uint32_t tulvorn_convert(const tulvorn_handle *type, uint32_t rules, const uint8_t *octets, size_t len,
+                         tulvorn_handle *other, tulvorn_fault *fault);
 
-/* Puts into `words`, as octets, why the octets are no encoding of a value of the type, and the component in which that
-   shows, its places counted in the unit of the rules: `refused at bit 6 in $.ok: default`. No octets where they are the
-   encoding of one. Answers NO_MEMORY. */
-uint32_t tulvorn_explain(tulvorn_handle *type, uint32_t rules, const uint8_t *octets, size_t len,
+/* Puts into `words`, as octets, why the octets are no encoding of a value of the type, and in which component:
+   `refused at bit 6 in $.ok: default`. Places are counted in the unit of the rules. No octets if they are an encoding.
+   Answers NO_MEMORY. */
+uint32_t tulvorn_explain(const tulvorn_handle *type, uint32_t rules, const uint8_t *octets, size_t len,
                          tulvorn_handle *words);
 
 /* ---- sessions: a message whose octets come in pieces. What a session answers depends on all octets that it took, and
@@ -181,77 +209,79 @@ uint32_t tulvorn_explain(tulvorn_handle *type, uint32_t rules, const uint8_t *oc
 
 /* Puts into `session` a session for a value of the type, which has taken no octet. It outlives what `type` holds, which
    is as it was. Answers MISUSE where `type` holds no type or the rules are none, NO_MEMORY. */
-uint32_t tulvorn_open(tulvorn_handle *type, uint32_t rules, tulvorn_handle *session);
+uint32_t tulvorn_open(const tulvorn_handle *type, uint32_t rules, tulvorn_handle *session);
 
-/* Takes the next piece of the message. DONE where the octets so far begin with an encoding: its value is put into
-   `value`, beside its type, and `used` is how many octets of this piece belong to it. MORE where they do not, and an
-   encoding may still follow. REFUSED where none can: `at` is the first unit of the message, over all its pieces, after
+/* Takes the next piece of the message. DONE if the octets so far begin with an encoding: its value is put into
+   `value`, with its type, and `used` is how many octets of this piece belong to it. MORE if they do not, and an
+   encoding may still follow. REFUSED if none can: `at` is the first unit of the message, over all its pieces, after
    which none can follow. A session that answered REFUSED or TOO_LONG answers the same to each further piece, and one
-   that answered DONE or NO_MEMORY answers SPENT. `value` and `used` are as they were on every answer but DONE.
+   that answered DONE or NO_MEMORY answers SPENT. `value` and `used` are unchanged on every code except DONE.
    Answers MISUSE where `session` holds no session, MORE, REFUSED, TOO_LONG, SPENT, NO_MEMORY. */
 uint32_t tulvorn_feed(tulvorn_handle *session, const uint8_t *piece, size_t len, tulvorn_handle *value, size_t *used,
                       tulvorn_fault *fault);
 
-/* Ends the session, and lets go of it: `session` holds nothing then. DONE where the octets that it took are a whole
-   encoding, as after DONE of tulvorn_feed; TRUNCATED where they are none: `at` is how many units were taken while an
-   encoding could still follow, also of a session that answered REFUSED or TOO_LONG.
-   DONE does not say that a value was given: DONE of tulvorn_feed alone says that. After NO_MEMORY of tulvorn_feed no
-   value comes any more, since each further piece is answered SPENT, and this call is DONE all the same where the octets
-   taken are a whole encoding: those up to the end of the value where only putting it into `value` wanted memory, else
-   those before that piece. A session that took no octet is DONE where the encoding of a value has none, as that of
-   NULL in OER. Takes no memory. Answers MISUSE where `session` holds no session, and then it is as it was. */
+/* Ends the session and frees it: `session` holds nothing then. DONE if the octets that it took are a whole encoding, as
+   after DONE of tulvorn_feed. TRUNCATED if they are none: `at` is how many units were taken while an encoding could
+   still follow, also of a session that answered REFUSED or TOO_LONG.
+   DONE does not say that a value was returned: only DONE of tulvorn_feed says that. After NO_MEMORY of tulvorn_feed no
+   value comes any more, since each further piece is answered SPENT. This call still answers DONE if the octets taken
+   are a whole encoding: those up to the end of the value if only putting it into `value` failed, else those before
+   that piece.
+   A session that took no octet is DONE if a value has an encoding without octets, as NULL in OER.
+   Does not allocate. Answers MISUSE if `session` holds no session; then it is unchanged. */
 uint32_t tulvorn_finish(tulvorn_handle *session, tulvorn_fault *fault);
 
 /* ---- messages of newer and older senders, whose version of the type has more or fewer extension additions */
 
-/* Puts into `value` what a receiver of this type reads of the message, and into `skipped` the fields that the type has
-   not. An item or alternative that the type has not stands in the value as such. Such a value has no encoding, and
-   tulvorn_name answers OTHER_KIND there; its JSON tells the number, as `"?2"` of an item, by PER its index among the
-   additions, from 0, and by OER its number, and as `{"?1":null}` of an alternative its index, root before additions,
-   from 0. Answers NO_MESSAGE, CUT_MESSAGE, TOO_MANY_ADDITIONS, TOO_LONG, NO_MEMORY. */
-uint32_t tulvorn_read_newer(tulvorn_handle *type, uint32_t rules, const uint8_t *octets, size_t len,
+/* Puts into `value` what a receiver of this type reads of the message, and into `skipped` the fields that the type does
+   not have. A value with an item or alternative that the type does not have has no encoding, and tulvorn_name answers
+   OTHER_KIND there. Its JSON shows the number: of an item `"?2"`, by PER its index among the additions, from 0, by OER
+   its number; of an alternative `{"?1":null}`, its index, root before additions, from 0.
+   Answers NO_MESSAGE, CUT_MESSAGE, TOO_MANY_ADDITIONS, TOO_LONG, NO_MEMORY. */
+uint32_t tulvorn_read_newer(const tulvorn_handle *type, uint32_t rules, const uint8_t *octets, size_t len,
                             tulvorn_handle *value, tulvorn_handle *skipped, tulvorn_fault *fault);
 
 /* How many fields were skipped, in `count`. Answers MISUSE where `skipped` holds none. */
-uint32_t tulvorn_skipped_count(tulvorn_handle *skipped, size_t *count);
+uint32_t tulvorn_skipped_count(const tulvorn_handle *skipped, size_t *count);
 
-/* The skipped field at `index`, counted from 0 in the order of the message: in `place` its index among the extension
-   additions of its type, from 0, and its octets to the front of `into`, which has `room`, as tulvorn_copy does; `place`
-   is told with TOO_SHORT too. Answers MISUSE, NO_PATH where there are not so many, TOO_SHORT. */
-uint32_t tulvorn_skipped(tulvorn_handle *skipped, size_t index, uint32_t *place, uint8_t *into, size_t room,
+/* The skipped field at `index`, counted from 0 in the order of the message. Writes to `place` its index among the
+   extension additions of its type, from 0, and its octets to the front of `into`, which has `room`, as tulvorn_copy
+   does. `place` is written with TOO_SHORT too. Answers MISUSE, NO_PATH if there are not so many, TOO_SHORT. */
+uint32_t tulvorn_skipped(const tulvorn_handle *skipped, size_t index, uint32_t *place, uint8_t *into, size_t room,
                          size_t *needed);
 
 /* ---- JSON */
 
 /* Puts the text of the JSON of the value into `json`, as octets. Answers MISUSE where `value` holds no value,
    NOT_OF_TYPE, NO_MEMORY. */
-uint32_t tulvorn_to_json(tulvorn_handle *value, tulvorn_handle *json, tulvorn_fault *fault);
+uint32_t tulvorn_to_json(const tulvorn_handle *value, tulvorn_handle *json, tulvorn_fault *fault);
 
-/* Puts the value of the type that the JSON shows into `value`. An INTEGER is shown by a number without fraction and
-   exponent, from -2^63 to 2^64 - 1; any other number, `-0` too, is not of its SHAPE. Of members with one name the last
-   counts. Answers MISUSE where `type` holds no type, NO_JSON, SHAPE, NOT_OF_TYPE, NO_MEMORY. */
-uint32_t tulvorn_from_json(tulvorn_handle *type, const uint8_t *json, size_t len, tulvorn_handle *value,
+/* Puts the value of the type that the JSON shows into `value`. An INTEGER is a number without fraction and exponent,
+   from -2^63 to 2^64 - 1; any other number, `-0` too, is not of its SHAPE. An object with a key twice is not of its
+   SHAPE. Answers MISUSE where `type` holds no type, NO_JSON, SHAPE, NOT_OF_TYPE, NO_MEMORY. */
+uint32_t tulvorn_from_json(const tulvorn_handle *type, const uint8_t *json, size_t len, tulvorn_handle *value,
                            tulvorn_fault *fault);
 
 /* ---- where a value or JSON is none of a type */
 
 /* Puts into `words`, as octets, the first part of the value that does not fit the type, and why:
-   `$.coreData.speed: 9000 is not in 0..8191`. No octets where the value fits. It may be a value of another type, as of
-   another version of it, or one that tulvorn_read_newer gave.
+   `$.coreData.speed: 9000 is not in 0..8191`. No octets if the value fits. It may be a value of another type, as of
+   another version of it, or one that tulvorn_read_newer returned.
    Answers MISUSE where `type` holds no type or `value` no value, NO_MEMORY. */
-uint32_t tulvorn_misfit(tulvorn_handle *type, tulvorn_handle *value, tulvorn_handle *words);
+uint32_t tulvorn_misfit(const tulvorn_handle *type, const tulvorn_handle *value, tulvorn_handle *words);
 
 /* Puts into `words`, as octets, why the JSON shows no value of the type: `not of the type's shape at $.coreData.speed`,
-   with the first place where it is not, or `not of the type`, where the shape is right. No octets where it shows one.
+   with the first place where it is not, or `not of the type`, where the shape is right. Of a key that an object has
+   twice `$.coreData.speed: the object has this key twice`. No octets where it shows one.
    Answers MISUSE where `type` holds no type, NO_JSON, NO_MEMORY. */
-uint32_t tulvorn_explain_json(tulvorn_handle *type, const uint8_t *json, size_t len, tulvorn_handle *words);
+uint32_t tulvorn_explain_json(const tulvorn_handle *type, const uint8_t *json, size_t len, tulvorn_handle *words);
 
-/* ---- the parts of a value, by a path such as coreData.speed or path[3].x. A `$` at the very front is passed over. The
-   path is cut at each `.`, `[` and `]`; an empty piece is passed over, one of digits, of which there are at most nine,
-   is the index of an element, counted from 0, and any other the name of a component or of the chosen alternative; an
-   absent component is its DEFAULT. The empty path is the value itself. No call here takes memory. Each answers MISUSE
-   where `value` holds no value, NOT_TEXT, NO_PATH, and OTHER_KIND where the part is of another kind than the call is
-   for; the part is not told then. */
+/* ---- the parts of a value, by a path such as coreData.speed or path[3].x. A `$` at the very front is ignored. The
+   path is cut at each `.`, `[` and `]`. An empty piece is ignored. A piece of one to nine digits is the index of an
+   element, counted from 0. Any other is the name of a component or of the chosen alternative. An absent component is
+   its DEFAULT. The empty path is the value itself. No call here allocates. Each answers MISUSE if `value` holds no
+   value, NOT_TEXT, NO_PATH if no value of the type has such a part, and ABSENT if this one does not have it. It answers
+   OTHER_KIND if the part is of another kind than the call is for. */
 
 /* ---- kinds */
 enum {
@@ -268,48 +298,48 @@ enum {
 };
 
 /* The kind of the part's type, in `kind`. Never OTHER_KIND. */
-uint32_t tulvorn_kind(tulvorn_handle *value, const uint8_t *path, size_t len, uint32_t *kind);
+uint32_t tulvorn_kind(const tulvorn_handle *value, const uint8_t *path, size_t len, uint32_t *kind);
 
 /* The value of a BOOLEAN, 0 or 1, in `truth`. */
-uint32_t tulvorn_boolean(tulvorn_handle *value, const uint8_t *path, size_t len, uint32_t *truth);
+uint32_t tulvorn_boolean(const tulvorn_handle *value, const uint8_t *path, size_t len, uint32_t *truth);
 
-/* The value of an INTEGER, in `number`: of one that is no more than INT64_MAX. OTHER_KIND too where it is greater,
-   which tulvorn_unsigned tells. */
-uint32_t tulvorn_integer(tulvorn_handle *value, const uint8_t *path, size_t len, int64_t *number);
+/* The value of an INTEGER that is at most INT64_MAX, in `number`. OTHER_KIND too if it is greater: use
+   tulvorn_unsigned. */
+uint32_t tulvorn_integer(const tulvorn_handle *value, const uint8_t *path, size_t len, int64_t *number);
 
-/* The value of an INTEGER, in `number`: of one that is not below 0. OTHER_KIND too where it is, which tulvorn_integer
-   tells. Each integer of the profile is told by one of both. */
-uint32_t tulvorn_unsigned(tulvorn_handle *value, const uint8_t *path, size_t len, uint64_t *number);
+/* The value of an INTEGER that is not below 0, in `number`. OTHER_KIND too if it is: use tulvorn_integer. Each INTEGER
+   of the profile is read by one of both. */
+uint32_t tulvorn_unsigned(const tulvorn_handle *value, const uint8_t *path, size_t len, uint64_t *number);
 
 /* How many elements a SEQUENCE OF has, or bits, octets or characters a string (a UTF8String octets), in `count`; 0 of a
    value of another kind. Never OTHER_KIND. */
-uint32_t tulvorn_count(tulvorn_handle *value, const uint8_t *path, size_t len, size_t *count);
+uint32_t tulvorn_count(const tulvorn_handle *value, const uint8_t *path, size_t len, size_t *count);
 
 /* The bit of a BIT STRING at `index`, counted from 0, 0 or 1, in `bit`. OTHER_KIND too where there are not so many. */
-uint32_t tulvorn_bit(tulvorn_handle *value, const uint8_t *path, size_t len, size_t index, uint32_t *bit);
+uint32_t tulvorn_bit(const tulvorn_handle *value, const uint8_t *path, size_t len, size_t index, uint32_t *bit);
 
-/* Each of these writes octets to the front of `into`, which has `room` of them, and tells in `needed` how many they
-   are, also where it answers TOO_SHORT since `room` is less; then `into` is as it was, and may be null where `room` is
+/* Each of these writes octets to the front of `into`, which has `room` of them, and their number to `needed`. It
+   answers TOO_SHORT if `room` is less; then `needed` is written and `into` unchanged. `into` may be null if `room` is
    0. */
 
 /* The octets of an OCTET STRING. */
-uint32_t tulvorn_octets(tulvorn_handle *value, const uint8_t *path, size_t len, uint8_t *into, size_t room,
+uint32_t tulvorn_octets(const tulvorn_handle *value, const uint8_t *path, size_t len, uint8_t *into, size_t room,
                         size_t *needed);
 
 /* The characters of a character string, in UTF-8. */
-uint32_t tulvorn_text(tulvorn_handle *value, const uint8_t *path, size_t len, uint8_t *into, size_t room,
+uint32_t tulvorn_text(const tulvorn_handle *value, const uint8_t *path, size_t len, uint8_t *into, size_t room,
                       size_t *needed);
 
-/* The name of the item of an ENUMERATED, or of the chosen alternative of a CHOICE. OTHER_KIND too of an item or
-   alternative that the type has not (in a value of tulvorn_read_newer): it has no name here, and JSON tells its number,
-   as `"?2"` and `{"?1":null}`. */
-uint32_t tulvorn_name(tulvorn_handle *value, const uint8_t *path, size_t len, uint8_t *into, size_t room,
+/* The name of the item of an ENUMERATED, or of the chosen alternative of a CHOICE. OTHER_KIND too for an item or
+   alternative that the type does not have (in a value of tulvorn_read_newer): it has no name here, and JSON shows its
+   number, as `"?2"` and `{"?1":null}`. */
+uint32_t tulvorn_name(const tulvorn_handle *value, const uint8_t *path, size_t len, uint8_t *into, size_t room,
                       size_t *needed);
 
 /* ---- octets and words */
 
 /* Writes the octets that the handle holds likewise. Answers MISUSE where it holds none, TOO_SHORT. */
-uint32_t tulvorn_copy(tulvorn_handle *octets, uint8_t *into, size_t room, size_t *needed);
+uint32_t tulvorn_copy(const tulvorn_handle *octets, uint8_t *into, size_t room, size_t *needed);
 
 /* Puts the words of a fault into `words`, as octets, its places counted in the unit of the rules: `refused at bit 6:
    default`. Answers MISUSE where the rules are none, NO_MEMORY. */
@@ -322,7 +352,7 @@ uint32_t tulvorn_version(uint8_t *into, size_t room, size_t *needed);
 /* TULVORN_INTERFACE of the header that the library was built with. */
 uint32_t tulvorn_interface(void);
 
-/* Lets go of what the handle holds. It holds nothing then, and may be closed or filled again. */
+/* Frees what the handle holds. It holds nothing then, and may be closed or filled again. */
 void tulvorn_close(tulvorn_handle *held);
 
 #ifdef __cplusplus

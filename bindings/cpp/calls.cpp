@@ -39,7 +39,7 @@ template <class Call> static uint32_t code_of(Call call) {
 }
 
 // messages in pieces, and where a value or JSON is none of a type
-static void pieces(Module &module, Type &type) {
+static void pieces(const Module &module, const Type &type) {
     Session session = type.open(Rules::Per);
     CHECK(!session.feed(Octets{}) && !session.feed(Octets{0x44}));
     std::optional<Fed> fed = session.feed(Octets{0x60, 0x80, 0xff});
@@ -58,6 +58,37 @@ static void pieces(Module &module, Type &type) {
     CHECK(code_of([&] { type.explain_json("{"); }) == TULVORN_NO_JSON);
 }
 
+// one type and one value in threads
+static void shared_by_threads(const Type &type) {
+    const Value value = type.from_json(R"({"id":5})");
+    std::vector<int> wrong(4);
+    std::vector<std::thread> threads;
+    for (int &mine : wrong) {
+        threads.emplace_back([&] {
+            for (int at = 0; at < 20000; at++) {
+                mine += type.fault_if(Rules::Per, Octets{0x05}).has_value() || value.integer("id") != 5;
+            }
+        });
+    }
+    for (std::thread &thread : threads) thread.join();
+    CHECK(wrong == std::vector<int>(4));
+}
+
+// values within a budget, and what exceptions say
+static void budgets(const Type &type) {
+    const Octets octets{0x40, 0x05, 0x01, 0x41};
+    CHECK(!type.fault_if(Rules::Oer, octets, {7, 1}) && type.decode(Rules::Oer, octets, {7, 1}).text("note") == "A");
+    CHECK(type.fault_if(Rules::Oer, octets, {6, 1})->code == TULVORN_OVER_BUDGET);
+    CHECK(code_of([&] { type.decode(Rules::Oer, octets, {7, 0}); }) == TULVORN_OVER_BUDGET);
+    std::string words;
+    try {
+        type.from_json(R"({"idd":9})");
+    } catch (const Fault &fault) {
+        words = fault.what();
+    }
+    CHECK(words.find("not of the type's shape at $") == 0);
+}
+
 int main() {
     Module module(MODULE);
     Type type = module.type("Msg");
@@ -73,7 +104,8 @@ int main() {
     CHECK(value.name("colour") == "green");
     CHECK(value.octets("key") == (Octets{0, 255}) && value.count("bits") == 2);
     CHECK(value.bit("bits", 0) && !value.bit("bits", 1));
-    CHECK(value.has("note") && !value.has("other") && value.kind("") == TULVORN_SEQUENCE);
+    CHECK(value.has("note") && value.kind("") == TULVORN_SEQUENCE);
+    CHECK(!type.from_json(R"({"id":5})").has("note") && code_of([&] { value.has("nota"); }) == TULVORN_NO_PATH);
     for (Rules rules : {Rules::Per, Rules::Oer}) {
         Octets octets = value.encode(rules), into(octets.size());
         CHECK(value.encoded_len(rules) == octets.size());
@@ -91,6 +123,8 @@ int main() {
     CHECK(newer.skipped[0].octets == Octets{0x2a});
     CHECK(type.explain(Rules::Per, Octets{0xac, 0}).find("cut short after 16 bits in $") == 0);
     pieces(module, type);
+    shared_by_threads(type);
+    budgets(type);
     // a type in another thread, and a value that is moved
     std::thread thread([shared = type.share()] { CHECK(shared.from_json(R"({"id":7})").integer("id") == 7); });
     thread.join();

@@ -1,9 +1,9 @@
 // Tulvorn for C++17: handles that close themselves, and faults as exceptions. Header only, over tulvorn.h and its
 // library.
 //
-// A Module, Type, Value or Session is moved and not copied; Type::share makes another of a type, for another thread. No
-// object is used by two threads at once. A call that does not do what it was asked for throws tulvorn::Fault, or
-// std::bad_alloc where an allocation failed; the functions that end in _if answer instead.
+// A Module, Type, Value or Session is moved and not copied; Type::share makes another of a type. Threads may call the
+// const functions of one object at once. A call that does not do what it was asked for throws tulvorn::Fault, or
+// std::bad_alloc where an allocation failed; the functions that end in _if return the fault instead.
 #ifndef TULVORN_HPP
 #define TULVORN_HPP
 
@@ -24,7 +24,7 @@ enum class Rules : uint32_t { Per = TULVORN_PER, Oer = TULVORN_OER };
 
 using Octets = std::vector<uint8_t>;
 
-// Octets that stand one after the other: of a vector, an array, a std::span.
+// Octets in one piece of memory: of a vector, an array, a std::span.
 class OctetsView {
   public:
     OctetsView(const uint8_t *data, size_t size) : data_(data), size_(size) {}
@@ -54,13 +54,16 @@ class Handle {
         return *this;
     }
     ~Handle() { tulvorn_close(&held_); }
-    tulvorn_handle *get() const { return &held_; }
+    // for the calls that only read
+    const tulvorn_handle *get() const { return &held_; }
+    // for the calls that fill the handle, or take a piece into its session
+    tulvorn_handle *fill() { return &held_; }
 
   private:
-    mutable tulvorn_handle held_ = TULVORN_NONE;
+    tulvorn_handle held_ = TULVORN_NONE;
 };
 
-inline std::string text_of(Handle &held) {
+inline std::string text_of(const Handle &held) {
     size_t size = 0;
     tulvorn_copy(held.get(), nullptr, 0, &size);
     std::string text(size, '\0');
@@ -68,7 +71,7 @@ inline std::string text_of(Handle &held) {
     return text;
 }
 
-inline Octets octets_of(Handle &held) {
+inline Octets octets_of(const Handle &held) {
     size_t size = 0;
     tulvorn_copy(held.get(), nullptr, 0, &size);
     Octets octets(size);
@@ -78,7 +81,7 @@ inline Octets octets_of(Handle &held) {
 
 inline std::string words_of(const tulvorn_fault &fault, Rules rules) {
     Handle words;
-    if (tulvorn_words(&fault, static_cast<uint32_t>(rules), words.get()) != TULVORN_DONE) throw std::bad_alloc();
+    if (tulvorn_words(&fault, static_cast<uint32_t>(rules), words.fill()) != TULVORN_DONE) throw std::bad_alloc();
     return text_of(words);
 }
 
@@ -110,13 +113,13 @@ inline void look(uint32_t code) { look(code, tulvorn_fault{code, 0, 0}); }
 
 }  // namespace detail
 
-// A value beside its type. Its parts are told by paths, as coreData.speed or path[3].x: see tulvorn.h.
+// A value with its type. Its parts are read by paths, as coreData.speed or path[3].x: see tulvorn.h.
 class Value {
   public:
     Octets encode(Rules rules) const {
         detail::Handle octets;
         tulvorn_fault fault;
-        detail::look(tulvorn_encode(held_.get(), static_cast<uint32_t>(rules), octets.get(), &fault), fault, rules);
+        detail::look(tulvorn_encode(held_.get(), static_cast<uint32_t>(rules), octets.fill(), &fault), fault, rules);
         return detail::octets_of(octets);
     }
     size_t encoded_len(Rules rules) const {
@@ -136,14 +139,15 @@ class Value {
     std::string to_json() const {
         detail::Handle json;
         tulvorn_fault fault;
-        detail::look(tulvorn_to_json(held_.get(), json.get(), &fault), fault);
+        detail::look(tulvorn_to_json(held_.get(), json.fill(), &fault), fault);
         return detail::text_of(json);
     }
-    // Whether there is a part at the path: false where a component is absent and has no DEFAULT.
+    // Whether the value has the part: false for an absent component without a DEFAULT, an alternative that is not
+    // chosen, and an element past the end. Throws TULVORN_NO_PATH if no value of the type has such a part.
     bool has(std::string_view path) const {
         uint32_t kind;
         uint32_t code = tulvorn_kind(held_.get(), detail::octets_of(path), path.size(), &kind);
-        if (code == TULVORN_NO_PATH) return false;
+        if (code == TULVORN_ABSENT) return false;
         detail::look(code);
         return true;
     }
@@ -180,13 +184,13 @@ class Value {
     Octets octets(std::string_view path) const { return string_at<Octets>(tulvorn_octets, path); }
     std::string text(std::string_view path) const { return string_at<std::string>(tulvorn_text, path); }
     // The name of the item of an ENUMERATED, or of the chosen alternative of a CHOICE. Of one that the type has not, in
-    // a value of Type::read_newer, it throws TULVORN_OTHER_KIND: JSON tells its number, as "?2" and {"?1":null}.
+    // a value of Type::read_newer, it throws TULVORN_OTHER_KIND: JSON shows its number, as "?2" and {"?1":null}.
     std::string name(std::string_view path) const { return string_at<std::string>(tulvorn_name, path); }
 
   private:
     friend class Type;
     friend class Session;
-    using Call = uint32_t (*)(tulvorn_handle *, const uint8_t *, size_t, uint8_t *, size_t, size_t *);
+    using Call = uint32_t (*)(const tulvorn_handle *, const uint8_t *, size_t, uint8_t *, size_t, size_t *);
     template <class String> String string_at(Call call, std::string_view path) const {
         String string;
         size_t size = 0;
@@ -231,8 +235,8 @@ class Session {
     std::optional<Fed> feed(OctetsView piece) {
         Fed fed{{}, 0};
         tulvorn_fault fault;
-        auto value = fed.value.held_.get();
-        auto code = tulvorn_feed(held_.get(), piece.data(), piece.size(), value, &fed.used, &fault);
+        auto value = fed.value.held_.fill();
+        auto code = tulvorn_feed(held_.fill(), piece.data(), piece.size(), value, &fed.used, &fault);
         if (code == TULVORN_MORE) return std::nullopt;
         detail::look(code, fault, rules_);
         return fed;
@@ -241,7 +245,7 @@ class Session {
     // that a value was given, which feed alone says: see tulvorn_finish.
     void finish() {
         tulvorn_fault fault;
-        uint32_t code = tulvorn_finish(held_.get(), &fault);
+        uint32_t code = tulvorn_finish(held_.fill(), &fault);
         detail::look(code, fault, rules_);
     }
 
@@ -255,10 +259,10 @@ class Session {
 // A type of a module. It outlives the module.
 class Type {
   public:
-    // Another handle of the same type, for another thread.
+    // Another handle of the same type.
     Type share() const {
         Type other;
-        detail::look(tulvorn_share(held_.get(), other.held_.get()));
+        detail::look(tulvorn_share(held_.get(), other.held_.fill()));
         return other;
     }
     // The fault where the octets are no encoding of a value of the type.
@@ -273,7 +277,26 @@ class Type {
         Value value;
         tulvorn_fault fault;
         auto by = static_cast<uint32_t>(rules);
-        auto code = tulvorn_decode(held_.get(), by, octets.data(), octets.size(), value.held_.get(), &fault);
+        auto code = tulvorn_decode(held_.get(), by, octets.data(), octets.size(), value.held_.fill(), &fault);
+        detail::look(code, fault, rules);
+        return value;
+    }
+    // The fault if the octets are no encoding of a value of the type within the budget: see tulvorn_check_within.
+    std::optional<tulvorn_fault> fault_if(Rules rules, OctetsView octets, const tulvorn_budget &budget) const {
+        tulvorn_fault fault;
+        auto by = static_cast<uint32_t>(rules);
+        auto code = tulvorn_check_within(held_.get(), by, octets.data(), octets.size(), &budget, &fault);
+        if (code == TULVORN_NO_MEMORY) throw std::bad_alloc();
+        if (code == TULVORN_DONE) return std::nullopt;
+        return fault;
+    }
+    // The value, if it takes no more than the budget: see tulvorn_decode_within.
+    Value decode(Rules rules, OctetsView octets, const tulvorn_budget &budget) const {
+        Value value;
+        tulvorn_fault fault;
+        auto by = static_cast<uint32_t>(rules);
+        auto code = tulvorn_decode_within(held_.get(), by, octets.data(), octets.size(), &budget, value.held_.fill(),
+                                          &fault);
         detail::look(code, fault, rules);
         return value;
     }
@@ -281,25 +304,25 @@ class Type {
     std::string explain(Rules rules, OctetsView octets) const {
         detail::Handle words;
         auto by = static_cast<uint32_t>(rules);
-        detail::look(tulvorn_explain(held_.get(), by, octets.data(), octets.size(), words.get()));
+        detail::look(tulvorn_explain(held_.get(), by, octets.data(), octets.size(), words.fill()));
         return detail::text_of(words);
     }
     // A session for a value of the type, which has taken no octet.
     Session open(Rules rules) const {
         Session session(rules);
-        detail::look(tulvorn_open(held_.get(), static_cast<uint32_t>(rules), session.held_.get()));
+        detail::look(tulvorn_open(held_.get(), static_cast<uint32_t>(rules), session.held_.fill()));
         return session;
     }
     // The first part of a value, also of another type, that does not fit this type, and why; empty where it fits.
     std::string misfit(const Value &value) const {
         detail::Handle words;
-        detail::look(tulvorn_misfit(held_.get(), value.held_.get(), words.get()));
+        detail::look(tulvorn_misfit(held_.get(), value.held_.get(), words.fill()));
         return detail::text_of(words);
     }
     // Why the JSON shows no value of the type, with the first place where that shows; empty where it shows one.
     std::string explain_json(std::string_view json) const {
         detail::Handle words;
-        detail::look(tulvorn_explain_json(held_.get(), detail::octets_of(json), json.size(), words.get()));
+        detail::look(tulvorn_explain_json(held_.get(), detail::octets_of(json), json.size(), words.fill()));
         return detail::text_of(words);
     }
     // What a receiver of this type reads of a message whose sender's type has more or fewer extension additions.
@@ -309,8 +332,8 @@ class Type {
         tulvorn_fault fault;
         size_t count = 0;
         auto by = static_cast<uint32_t>(rules);
-        auto code = tulvorn_read_newer(held_.get(), by, octets.data(), octets.size(), newer.value.held_.get(),
-                                       fields.get(), &fault);
+        auto code = tulvorn_read_newer(held_.get(), by, octets.data(), octets.size(), newer.value.held_.fill(),
+                                       fields.fill(), &fault);
         detail::look(code, fault, rules);
         detail::look(tulvorn_skipped_count(fields.get(), &count));
         for (size_t index = 0; index < count; index++) {
@@ -328,14 +351,15 @@ class Type {
         detail::Handle other;
         tulvorn_fault fault;
         auto by = static_cast<uint32_t>(rules);
-        auto code = tulvorn_convert(held_.get(), by, octets.data(), octets.size(), other.get(), &fault);
+        auto code = tulvorn_convert(held_.get(), by, octets.data(), octets.size(), other.fill(), &fault);
         detail::look(code, fault, rules);
         return detail::octets_of(other);
     }
     Value from_json(std::string_view json) const {
         Value value;
         tulvorn_fault fault;
-        auto code = tulvorn_from_json(held_.get(), detail::octets_of(json), json.size(), value.held_.get(), &fault);
+        auto code = tulvorn_from_json(held_.get(), detail::octets_of(json), json.size(), value.held_.fill(), &fault);
+        if (code == TULVORN_SHAPE) throw Fault(fault, explain_json(json));
         detail::look(code, fault);
         return value;
     }
@@ -350,20 +374,20 @@ class Module {
   public:
     explicit Module(std::string_view text) {
         tulvorn_fault fault;
-        auto code = tulvorn_module(detail::octets_of(text), text.size(), held_.get(), &fault);
+        auto code = tulvorn_module(detail::octets_of(text), text.size(), held_.fill(), &fault);
         if (code == TULVORN_NO_MODULE) throw Fault(fault, explain(text));
         detail::look(code, fault);
     }
     // Why the text is no module, with the line and a mark where that shows; empty where it is one.
     static std::string explain(std::string_view text) {
         detail::Handle words;
-        detail::look(tulvorn_explain_module(detail::octets_of(text), text.size(), words.get()));
+        detail::look(tulvorn_explain_module(detail::octets_of(text), text.size(), words.fill()));
         return detail::text_of(words);
     }
     Type type(std::string_view name) const {
         Type type;
         tulvorn_fault fault;
-        auto code = tulvorn_type(held_.get(), detail::octets_of(name), name.size(), type.held_.get(), &fault);
+        auto code = tulvorn_type(held_.get(), detail::octets_of(name), name.size(), type.held_.fill(), &fault);
         detail::look(code, fault);
         return type;
     }

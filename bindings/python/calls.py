@@ -192,6 +192,10 @@ def bits_and_paths(spec):
     assert value.count("word") == 2 and value.count("list") == 2 and value.count("one") == 0
     for path in ("[\u00b2]", "list[\u00b2]", "list[2]", "list[0000000000]", "far.x", "other", "$$far"):
         assert raised(KeyError, lambda: value[path])
+    for path in ("list[2].id", "one.none", "list[1].note"):
+        assert raised(tulvorn.Absent, lambda: value.kind(path))
+    for path in ("list[2].idd", "one.nobody", "list.note", "fra"):
+        assert type(raised(KeyError, lambda: value.kind(path))) is KeyError
     for path in ("$.list[1].id", "list.1.id", "..list[000000001]..id."):
         assert value[path] == 0 == value.integer(path)
 
@@ -301,8 +305,20 @@ def versions(spec):
     assert spec.type("Msg").explain(b"\xac") == "refused at bit 6 in $.ok: default"
 
 
+def budgets(spec):
+    """A value that takes more than the budget: the SEQUENCE, its three components, and the octets of a string."""
+    msg, octets = spec.type("Msg"), bytes.fromhex("40050141")
+    msg.check_within(octets, 4, 1, "oer")
+    assert msg.decode_within(octets, 4, 1, "oer").text("note") == "A"
+    for entries, strings in ((3, 1), (4, 0)):
+        for call in (msg.check_within, msg.decode_within):
+            fault = raised(tulvorn.DecodeError, lambda: call(octets, entries, strings, "oer"))
+            assert fault.code == tulvorn.OVER_BUDGET and str(fault) == "over budget"
+    assert raised(tulvorn.DecodeError, lambda: msg.check_within(octets[:3], 4, 1, "oer")).code == tulvorn.TRUNCATED
+
+
 def threads(spec):
-    """Four threads use one type by handles of their own, and one value together."""
+    """Four threads use one type and one value together."""
     value, wrong = spec.type("Msg").of({"id": 3}), []
 
     def work(mine):
@@ -310,7 +326,7 @@ def threads(spec):
             if mine.decode(bytes([at % 8 << 3])).integer("id") != at % 8 or value.integer("id") != 3:
                 wrong.append(at)
 
-    running = [threading.Thread(target=work, args=(spec.type("Msg").share(),)) for _ in range(4)]
+    running = [threading.Thread(target=work, args=(spec.type("Msg"),)) for _ in range(4)]
     for it in running:
         it.start()
     for it in running:
@@ -333,5 +349,6 @@ if __name__ == "__main__":
     sessions(spec)
     misfits(spec)
     versions(spec)
+    budgets(spec)
     threads(spec)
     print(f"Python: passed, with {examples()} messages of the examples; version {tulvorn.version()}")

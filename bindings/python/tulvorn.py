@@ -7,27 +7,27 @@
     >>> spec.decode("T", b"\\xa0")
     {'id': 5}
 
-Only the standard library is needed, and the library: the file that TULVORN_LIBRARY names, or libtulvorn.so beside this
-file, or libtulvorn.so.1 where the system's linker finds it. `compile_string`, `compile_files`, `encode`, `decode` and
-`decode_with_length` have the names that asn1tools gives them; bindings/README.md tells what else is not as there.
+Only the standard library is needed, and the library: the file that TULVORN_LIBRARY names, or libtulvorn.so in this
+file's folder, or libtulvorn.so.1 where the system's linker finds it. `compile_string`, `compile_files`, `encode`,
+`decode` and `decode_with_length` have the names that asn1tools gives them; bindings/README.md lists the differences.
 
 Values are as in JSON, with the kinds of Python where it has them: BOOLEAN is a bool, NULL None, INTEGER an int,
 ENUMERATED the name of the item, BIT STRING a pair of bytes and the number of bits, OCTET STRING bytes, a character
 string a str, SEQUENCE a dict, SEQUENCE OF a list, CHOICE a pair of the name and the value. A dict that is given may
-lack the components with OPTIONAL or DEFAULT; one that is told lacks those that are absent and have no DEFAULT, and is
-in alphabetical order. In the place of bytes a bytearray or memoryview may be given, and a value in the form of JSON
-too: a str of hexadecimal digits for an OCTET STRING, of 0 and 1 for a BIT STRING, and a dict of one name for a CHOICE.
-An item or alternative of a newer sender that the type has not is told by its number: '?2', or the pair ('?1', None); by
+lack the components with OPTIONAL or DEFAULT. One that is returned lacks those that are absent and have no DEFAULT, and
+is in alphabetical order. Instead of bytes a bytearray or memoryview may be given, and a value in the form of JSON too:
+a str of hexadecimal digits for an OCTET STRING, of 0 and 1 for a BIT STRING, and a dict of one name for a CHOICE.
+An item or alternative of a newer sender that the type does not have is its number: '?2', or the pair ('?1', None); by
 PER the number of an item is its index among the additions, from 0.
 
 Rules are "per" or "uper", "oer", PER or OER; a call that is given others raises ValueError. Octets may be bytes or what
 else has a buffer, as bytearray, memoryview and array do. What has none raises TypeError, and so does a text, a name or
 a path that is no str; one with half of a surrogate pair raises UnicodeEncodeError. Where an allocation failed, a call
 raises MemoryError. What is made by hand, as Value(), holds nothing, and nor does a session that has ended: a call on it
-raises TulvornError, with the code MISUSE. What else a call raises stands with it.
+raises TulvornError, with the code MISUSE. What else a call raises is in its docstring.
 
-One object may be used by several threads: each has a lock of its own. `Type.share` makes another of a type, which two
-threads then use at once. No object is copied or pickled.
+Several threads may use one object. Calls that only read it, all but those of a Session, run at once. No object is
+copied or pickled.
 """
 
 import ctypes
@@ -38,7 +38,7 @@ import threading
 
 __all__ = [
     "compile_string", "compile_files", "version", "Specification", "Type", "Value", "Session", "TulvornError",
-    "ModuleError", "DecodeError", "EncodeError", "PER", "OER",
+    "ModuleError", "DecodeError", "EncodeError", "Absent", "PER", "OER",
 ]
 
 PER, OER = 0, 1
@@ -48,7 +48,8 @@ RULES = {"per": PER, "uper": PER, "oer": OER, PER: PER, OER: OER}
 (
     DONE, NO_MEMORY, MISUSE, REFUSED, TRUNCATED, REST, TOO_LONG, TOO_SHORT, NOT_TEXT, NO_MODULE, NO_NAME, NOT_OF_TYPE,
     NO_JSON, SHAPE, NO_PATH, OTHER_KIND, NO_MESSAGE, CUT_MESSAGE, TOO_MANY_ADDITIONS, MORE, SPENT,
-) = range(21)
+    ABSENT, OVER_BUDGET,
+) = range(23)
 
 # the kinds of types, of which `Value.kind` gives one
 (
@@ -69,6 +70,10 @@ class Fault(ctypes.Structure):
     _fields_ = [("code", ctypes.c_uint32), ("why", ctypes.c_uint32), ("at", ctypes.c_uint64)]
 
 
+class Budget(ctypes.Structure):
+    _fields_ = [("entries", ctypes.c_uint64), ("octets", ctypes.c_uint64)]
+
+
 # the parameters of each function and what it gives, by the letters below; bindings/compare.py compares them with the
 # exports
 FUNCTIONS = {
@@ -78,6 +83,8 @@ FUNCTIONS = {
     "tulvorn_share": "hh:u",
     "tulvorn_check": "huosf:u",
     "tulvorn_decode": "huoshf:u",
+    "tulvorn_check_within": "huosbf:u",
+    "tulvorn_decode_within": "huosbhf:u",
     "tulvorn_encode": "huhf:u",
     "tulvorn_encoded_len": "huSf:u",
     "tulvorn_encode_into": "huwsSf:u",
@@ -111,6 +118,7 @@ FUNCTIONS = {
 LETTERS = {
     "h": ctypes.POINTER(Handle),
     "f": ctypes.POINTER(Fault),
+    "b": ctypes.POINTER(Budget),
     "o": ctypes.c_char_p,
     "w": ctypes.c_void_p,
     "s": ctypes.c_size_t,
@@ -120,7 +128,7 @@ LETTERS = {
     "I": ctypes.POINTER(ctypes.c_int64),
     "N": ctypes.POINTER(ctypes.c_uint64),
 }
-INTERFACE = 1
+INTERFACE = 2
 
 
 def _loaded():
@@ -167,6 +175,11 @@ class EncodeError(TulvornError):
     """A value has no encoding, or what was given is no value of the type, or no JSON."""
 
 
+class Absent(KeyError):
+    """A value does not have a part that other values of its type have: it is absent without a DEFAULT, another
+    alternative is chosen, or the list has fewer elements."""
+
+
 def _words(fault, rules):
     words = _Held()
     if _library.tulvorn_words(fault, rules, words.handle) != DONE:
@@ -182,6 +195,8 @@ def _look(kind, code, fault, rules=PER):
 
 
 def _look_part(code, path):
+    if code == ABSENT:
+        raise Absent(path)
     if code == NO_PATH:
         raise KeyError(path)
     if code == OTHER_KIND:
@@ -208,7 +223,7 @@ def _octets(given):
 
 
 class _Held:
-    """A handle that closes itself, and the lock that is held while a call uses it."""
+    """A handle that closes itself, and the lock that is held while a call changes what it holds."""
 
     def __init__(self):
         self.handle = Handle()
@@ -221,65 +236,60 @@ class _Held:
         raise TypeError(f"a {type(self).__name__} is held by the library, and is neither copied nor pickled")
 
     def copied(self):
-        with self.lock:
-            needed = ctypes.c_size_t()
-            if _library.tulvorn_copy(self.handle, None, 0, needed) == MISUSE:
-                raise ValueError("no octets")
-            room = ctypes.create_string_buffer(max(1, needed.value))
-            _library.tulvorn_copy(self.handle, room, needed.value, needed)
-            return room.raw[: needed.value]
+        needed = ctypes.c_size_t()
+        if _library.tulvorn_copy(self.handle, None, 0, needed) == MISUSE:
+            raise ValueError("no octets")
+        room = ctypes.create_string_buffer(max(1, needed.value))
+        _library.tulvorn_copy(self.handle, room, needed.value, needed)
+        return room.raw[: needed.value]
 
 
 class Value(_Held):
-    """A value beside its type, which `Type` and `Session` give.
+    """A value with its type, which `Type` and `Session` return.
 
-    Its parts are told by paths, as `coreData.speed` or `path[3].x`. A `$` at the very front is passed over. The path is
-    cut at each `.`, `[` and `]`; an empty piece is passed over, one of at most nine digits is the index of an element,
-    counted from 0, and any other the name of a component or of the chosen alternative. An absent component is its
-    DEFAULT. The empty path is the value itself. A call on a part raises KeyError where the value has none there, or it
-    is absent and has no DEFAULT, and TypeError where it is of another kind than the call is for.
+    Its parts are read by paths, as `coreData.speed` or `path[3].x`. A `$` at the very front is ignored. The path is cut
+    at each `.`, `[` and `]`. An empty piece is ignored. One of at most nine digits is the index of an element, counted
+    from 0. Any other is the name of a component or of the chosen alternative. An absent component is its
+    DEFAULT. The empty path is the value itself. A call on a part raises Absent if the value does not have it, and
+    KeyError if no value of the type has it, as with a misspelt name. Absent is a KeyError too. It raises TypeError if
+    the part is of another kind than the call is for.
     """
 
     def encode(self, rules="per"):
         """The encoding, as bytes. Raises EncodeError where there is none: of a value of `Type.read_newer` with an item
         or an alternative that the type has not, or where it would have more than 268,435,455 octets."""
         octets, fault, rules = _Held(), Fault(), _rules(rules)
-        with self.lock:
-            code = _library.tulvorn_encode(self.handle, rules, octets.handle, fault)
+        code = _library.tulvorn_encode(self.handle, rules, octets.handle, fault)
         _look(EncodeError, code, fault, rules)
         return octets.copied()
 
     def encoded_len(self, rules="per"):
         """How many octets the encoding has, which is not made. Raises as `encode` does."""
         size, fault, rules = ctypes.c_size_t(), Fault(), _rules(rules)
-        with self.lock:
-            code = _library.tulvorn_encoded_len(self.handle, rules, size, fault)
+        code = _library.tulvorn_encoded_len(self.handle, rules, size, fault)
         _look(EncodeError, code, fault, rules)
         return size.value
 
     def to_json(self):
         """The JSON of the value, as a str without blanks, its members in alphabetical order."""
         text, fault = _Held(), Fault()
-        with self.lock:
-            code = _library.tulvorn_to_json(self.handle, text.handle, fault)
+        code = _library.tulvorn_to_json(self.handle, text.handle, fault)
         _look(EncodeError, code, fault)
         return text.copied().decode()
 
     def _part(self, function, path, out, *between):
         octets = _text(path)
-        with self.lock:
-            code = function(self.handle, octets, len(octets), *between, out)
+        code = function(self.handle, octets, len(octets), *between, out)
         _look_part(code, path)
         return out.value
 
     def _string(self, function, path):
         needed = ctypes.c_size_t()
         octets = _text(path)
-        with self.lock:
-            code = function(self.handle, octets, len(octets), None, 0, needed)
-            room = ctypes.create_string_buffer(max(1, needed.value))
-            if code == TOO_SHORT:
-                code = function(self.handle, octets, len(octets), room, needed.value, needed)
+        code = function(self.handle, octets, len(octets), None, 0, needed)
+        room = ctypes.create_string_buffer(max(1, needed.value))
+        if code == TOO_SHORT:
+            code = function(self.handle, octets, len(octets), room, needed.value, needed)
         _look_part(code, path)
         return room.raw[: needed.value]
 
@@ -328,7 +338,7 @@ class Value(_Held):
 
     def name(self, path):
         """The name of the item of an ENUMERATED, or of the chosen alternative of a CHOICE. TypeError too of one that
-        the type has not, in a value of `Type.read_newer`: `value` tells its number."""
+        the type has not, in a value of `Type.read_newer`: `value` has its number."""
         return self._string(_library.tulvorn_name, path).decode()
 
     def bits(self, path):
@@ -349,7 +359,7 @@ class Value(_Held):
             try:
                 return read(self, path)
             except TypeError:
-                pass  # an item that the type has not, which JSON alone tells
+                pass  # an item that the type does not have: JSON alone shows it
         shown, at = json.loads(self.to_json()), ""
         for piece in [it for it in path.replace("[", ".").replace("]", ".").lstrip("$").split(".") if it]:
             at = f"{at}.{piece}"
@@ -377,13 +387,13 @@ class Value(_Held):
         return shown
 
 
-# how a part of each kind is told that has no parts itself
+# how a part of each kind is read that has no parts itself
 READ = {
     BOOLEAN: Value.boolean, NULL: lambda value, path: None, INTEGER: Value.integer, ENUMERATED: Value.name,
     BIT_STRING: Value.bits, OCTET_STRING: Value.octets, CHARACTER_STRING: Value.text,
 }
 
-# the kinds of values, in words; and what is given for those whose kind their JSON does not tell
+# the kinds of values, in words; and what is given for those whose kind their JSON does not show
 KINDS = (
     "", "a BOOLEAN", "a NULL", "an INTEGER", "an ENUMERATED", "a BIT STRING", "an OCTET STRING", "a character string",
     "a SEQUENCE", "a SEQUENCE OF", "a CHOICE",
@@ -394,8 +404,8 @@ NO_JSON_OF = "a value that goes too deep, an int of too many digits, or a str wi
 
 
 def _json_of(value, path, given):
-    """The JSON of a value that is told by the kinds of Python; `given` takes the path and the kind of each part whose
-    kind the JSON does not tell."""
+    """The JSON of a value in the kinds of Python; `given` takes the path and the kind of each part whose kind the JSON
+    does not show."""
     if isinstance(value, BYTES):
         given.append((path, OCTET_STRING))
         return bytes(value).hex()
@@ -472,10 +482,9 @@ class Type(_Held):
     """A type of a module, from `Specification.type`. It outlives the module."""
 
     def share(self):
-        """Another object of the same type, for another thread."""
+        """Another object of the same type."""
         other = Type()
-        with self.lock:
-            code = _library.tulvorn_share(self.handle, other.handle)
+        code = _library.tulvorn_share(self.handle, other.handle)
         _look(TulvornError, code, Fault(code))
         return other
 
@@ -483,15 +492,29 @@ class Type(_Held):
         """Raises DecodeError where the octets are no encoding of a value of the type: REFUSED, TRUNCATED, REST,
         TOO_LONG."""
         fault, rules, octets = Fault(), _rules(rules), _octets(octets)
-        with self.lock:
-            code = _library.tulvorn_check(self.handle, rules, octets, len(octets), fault)
+        code = _library.tulvorn_check(self.handle, rules, octets, len(octets), fault)
         _look(DecodeError, code, fault, rules)
 
     def decode(self, octets, rules="per"):
         """The Value whose encoding the octets are. Raises as `check` does."""
         value, fault, rules, octets = Value(), Fault(), _rules(rules), _octets(octets)
-        with self.lock:
-            code = _library.tulvorn_decode(self.handle, rules, octets, len(octets), value.handle, fault)
+        code = _library.tulvorn_decode(self.handle, rules, octets, len(octets), value.handle, fault)
+        _look(DecodeError, code, fault, rules)
+        return value
+
+    def check_within(self, octets, entries, strings, rules="per"):
+        """As `check`, of a value that has at most so many entries and octets of its strings. An entry is the value
+        itself, and each of its components, absent ones too, of its elements and of its alternatives. A string takes an
+        octet for each octet, character or bit, a UTF8String for each octet. Raises DecodeError with OVER_BUDGET too."""
+        fault, rules, octets, budget = Fault(), _rules(rules), _octets(octets), Budget(entries, strings)
+        code = _library.tulvorn_check_within(self.handle, rules, octets, len(octets), budget, fault)
+        _look(DecodeError, code, fault, rules)
+
+    def decode_within(self, octets, entries, strings, rules="per"):
+        """As `decode`, of a value that has at most so many entries and octets of its strings: see `check_within`."""
+        value, fault, rules, octets = Value(), Fault(), _rules(rules), _octets(octets)
+        budget = Budget(entries, strings)
+        code = _library.tulvorn_decode_within(self.handle, rules, octets, len(octets), budget, value.handle, fault)
         _look(DecodeError, code, fault, rules)
         return value
 
@@ -499,8 +522,7 @@ class Type(_Held):
         """Why the octets are no encoding of a value of the type, and the component in which that shows, as a str:
         `refused at bit 6 in $.ok: default`; None where they are one."""
         words, rules, octets = _Held(), _rules(rules), _octets(octets)
-        with self.lock:
-            code = _library.tulvorn_explain(self.handle, rules, octets, len(octets), words.handle)
+        code = _library.tulvorn_explain(self.handle, rules, octets, len(octets), words.handle)
         _look(TulvornError, code, Fault(code))
         return words.copied().decode() or None
 
@@ -510,10 +532,9 @@ class Type(_Held):
         additions, from 0, and its octets, as bytes. Where the value has an item or an alternative that the type has
         not, it has JSON and no encoding. Raises DecodeError: NO_MESSAGE, CUT_MESSAGE, TOO_MANY_ADDITIONS, TOO_LONG."""
         value, fields, fault, rules, octets = Value(), _Held(), Fault(), _rules(rules), _octets(octets)
-        with self.lock:
-            code = _library.tulvorn_read_newer(
-                self.handle, rules, octets, len(octets), value.handle, fields.handle, fault
-            )
+        code = _library.tulvorn_read_newer(
+            self.handle, rules, octets, len(octets), value.handle, fields.handle, fault
+        )
         _look(DecodeError, code, fault, rules)
         count = ctypes.c_size_t()
         _library.tulvorn_skipped_count(fields.handle, count)
@@ -523,8 +544,7 @@ class Type(_Held):
         """The octets, as bytes, by the other rules of the value whose encoding by these rules the octets are. Raises as
         `check` does; TOO_LONG also where those by the other rules would be too many."""
         other, fault, rules, octets = _Held(), Fault(), _rules(rules), _octets(octets)
-        with self.lock:
-            code = _library.tulvorn_convert(self.handle, rules, octets, len(octets), other.handle, fault)
+        code = _library.tulvorn_convert(self.handle, rules, octets, len(octets), other.handle, fault)
         _look(DecodeError, code, fault, rules)
         return other.copied()
 
@@ -533,8 +553,7 @@ class Type(_Held):
         place where it is not of the shape of the type, NOT_OF_TYPE where the shape is right, and a number, a length or
         a character is out of bounds."""
         value, fault, octets = Value(), Fault(), _text(text)
-        with self.lock:
-            code = _library.tulvorn_from_json(self.handle, octets, len(octets), value.handle, fault)
+        code = _library.tulvorn_from_json(self.handle, octets, len(octets), value.handle, fault)
         if code == SHAPE:
             raise EncodeError(self.explain_json(text), fault)
         _look(EncodeError, code, fault)
@@ -545,8 +564,7 @@ class Type(_Held):
         the first place where it is not, or `not of the type`, where the shape is right; None where it shows one. Raises
         EncodeError where it is no JSON."""
         words, octets = _Held(), _text(text)
-        with self.lock:
-            code = _library.tulvorn_explain_json(self.handle, octets, len(octets), words.handle)
+        code = _library.tulvorn_explain_json(self.handle, octets, len(octets), words.handle)
         _look(EncodeError, code, Fault(code))
         return words.copied().decode() or None
 
@@ -556,23 +574,21 @@ class Type(_Held):
         if not isinstance(value, Value):
             raise TypeError(f"a Value is wanted, and this is a {type(value).__name__}")
         words = _Held()
-        with self.lock, value.lock:
-            code = _library.tulvorn_misfit(self.handle, value.handle, words.handle)
+        code = _library.tulvorn_misfit(self.handle, value.handle, words.handle)
         _look(TulvornError, code, Fault(code))
         return words.copied().decode() or None
 
     def open(self, rules="per"):
         """A Session for a value of the type, which has taken no octet."""
         session = Session(_rules(rules))
-        with self.lock:
-            code = _library.tulvorn_open(self.handle, session.rules, session.handle)
+        code = _library.tulvorn_open(self.handle, session.rules, session.handle)
         _look(TulvornError, code, Fault(code))
         return session
 
     def of(self, value):
         """The Value of the type that is given by the kinds of Python. Raises EncodeError where it is none: the words
         have the first path where it is of another kind or shape; where a number, a length or a character is out of
-        bounds the code is NOT_OF_TYPE, and no place is told."""
+        bounds the code is NOT_OF_TYPE, without a place."""
         given = []
         try:
             made = self.from_json(json.dumps(_json_of(value, "$", given)))
@@ -598,7 +614,7 @@ def _explained(text):
 
 class Specification(_Held):
     """A module that was read, from `compile_string` or `compile_files`, and the encoding rules that its calls take
-    where they are told no others."""
+    if no others are given."""
 
     def __init__(self, text, rules="per"):
         super().__init__()
@@ -614,8 +630,7 @@ class Specification(_Held):
         it assigns none."""
         if name not in self._types:
             made, fault, octets = Type(), Fault(), _text(name)
-            with self.lock:
-                code = _library.tulvorn_type(self.handle, octets, len(octets), made.handle, fault)
+            code = _library.tulvorn_type(self.handle, octets, len(octets), made.handle, fault)
             if code == NO_NAME:
                 raise KeyError(name)
             _look(ModuleError, code, fault)
@@ -645,8 +660,8 @@ class Specification(_Held):
 
 
 def compile_string(text, rules="per"):
-    """The Specification of the module that the text is, a str; `rules` are the encoding rules that its calls take where
-    they are told no others. Raises ModuleError where the text is no module of the profile."""
+    """The Specification of the module that the text is, a str; `rules` are the encoding rules that its calls take if
+    no others are given. Raises ModuleError where the text is no module of the profile."""
     return Specification(text, rules)
 
 

@@ -209,7 +209,7 @@ impl<'a> BitCursor<'a> {
     }
 
     /// Takes the next `count` octets, at any bit of the octets below, and adds them to `into`, whole octets
-    /// at once. They have to be left; `octets_left` tells how many are. An `Err` is out of memory, and
+    /// at once. They have to be left; `octets_left` returns how many are. An `Err` is out of memory, and
     /// then nothing has changed.
     pub fn take_octets(&mut self, count: usize, into: &mut Vec<u8>) -> Result<(), AllocError>
         requires { 8 * count ≤ length self.old }

@@ -7,7 +7,7 @@ ghost use Rattle.asn_bits.specs.Numbers.{bits, least, least_signed, octet_count,
 /// One more than the highest number of 64 bits.
 const WORD: u128 = 1 << 64;
 
-/// How many bits tell `values` values apart: the least k with `values <= 2 ^ k`
+/// How many bits distinguish `values` values: the least k with `values <= 2 ^ k`
 /// (X.691, "constrained whole number"). No values need no bits.
 pub fn width(values: u128) -> u32
     ensures width { result ≡ width values }
@@ -17,7 +17,7 @@ pub fn width(values: u128) -> u32
     128 - values.saturating_sub(1).leading_zeros()
 }
 
-/// How many bits tell the numbers from 0 to `highest` apart (X.691, "constrained whole number").
+/// How many bits distinguish the numbers from 0 to `highest` (X.691, "constrained whole number").
 pub fn width_up_to(highest: u64) -> u32
     ensures width { result ≡ width (highest + 1) }
     ensures few { result ≤ 64 }
@@ -96,8 +96,8 @@ pub fn least_parts(n: u128) -> (u32, u64, u32, u64)
     (8, u64::from(count), 8 * count, n as u64)
 }
 
-/// The fewest octets of two's complement of `z`, an integer of the profile, after their count in an octet, as two numbers
-/// and how many bits each has.
+/// The fewest octets of two's complement of `z`, an integer of the profile, after their count in an octet, as two
+/// numbers and how many bits each has.
 pub fn least_signed_parts(z: i128) -> (u32, u64, u32, u64)
     requires low { lowest_integer ≤ℤ z }
     requires high { z ≤ℤ highest_integer }

@@ -21,7 +21,7 @@ const LONG: usize = 32768;
 
 /// Bits that wait to become octets. Contracts see the list of the bits pushed, each 0 or 1.
 ///
-/// Whole octets stand in a vector, and the fewer than 64 bits after them in a word. While bits are pending, 8
+/// Whole octets are in a vector, and the fewer than 64 bits after them in a word. While bits are pending, 8
 /// octets of spare capacity are kept, so flushing cannot fail.
 #[derive(Drop)]
 pub struct BitSink {
@@ -123,7 +123,7 @@ impl BitSink {
         self.append(k, n)
     }
 
-    /// Adds the last `count` octets of `n`, whatever stands before them. An `Err` is out of memory, and then nothing
+    /// Adds the low `count` octets of `n`, and ignores the others. An `Err` is out of memory, and then nothing
     /// has changed.
     #[inline(always)]
     pub fn push_low_octets(&mut self, count: u32, n: u64) -> Result<(), AllocError>

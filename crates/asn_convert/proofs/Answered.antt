@@ -32,10 +32,11 @@ use Rattle.asn_newer.specs.Skipped.{Skipped}
 use Rattle.asn_json.specs.Written.{json_of}
 use Rattle.asn_json.specs.Shown.{value_of}
 use Rattle.asn_json.specs.Errors.{bad, Shown}
+use Rattle.asn_json.specs.Texts.{ReadsAs, HasKeysOnce}
 use Rattle.asn_jobs.specs.declared.job.Order.{Order}
 use Rattle.asn_jobs.specs.declared.job.Order.TheVariants as order
 use Rattle.asn_jobs.specs.declared.job.RuleName.{RuleName}
-use Rattle.asn_convert.specs.Answers.{Terms, AnswersBy, AnswersShow, AnswersCheck, AnswersConvert, AnswersNewer, AnswersOctets, AnswersHex, AnswersValue, AnswersJson, IsJson, newer_text, unit_of}
+use Rattle.asn_convert.specs.Answers.{Terms, AnswersBy, AnswersShow, AnswersCheck, AnswersConvert, AnswersNewer, AnswersOctets, AnswersHex, AnswersValue, AnswersJson, newer_text, unit_of}
 use Rattle.asn_convert.specs.Converted.{IsTooLong}
 use Rattle.asn_convert.specs.Text.{HasAnswer}
 
@@ -180,9 +181,14 @@ value_answered r t j laws tell good none = by_errors (bad t j) refl
 
 json_answered : (r : Ruling) (t : Shape) (line : List ℕ) → RulesLaws r → RulesTell r → InProfile t → SomeAnswer (λ text good. AnswersJson r t line text good)
 json_answered r t line laws tell good none =
-    decided ((j : Data) × IsJson line j)
-    (λ h. ⊎_elim (λ j. value_answered r t j.0 laws tell good (λ text good_ a. none text good_ (inr (j.0, j.1, a))))
-    (λ never. none (codes "! json") false (inl ((λ j is. never (j, is)), refl, refl))) h)
+    decided ((j : Data) × ReadsAs line j)
+    (λ h. ⊎_elim (λ j. decided (HasKeysOnce line) (λ k. ⊎_elim (λ once. of_value j.0 j.1 once)
+    (λ twice. none (codes "! shape " ++ codes "$") false (inl (inr (codes "$", twice, refl, refl), refl))) k))
+    (λ never. none (codes "! json") false (inl (inl ((λ j is. never (j, is)), refl), refl))) h)
+  where
+    of_value : (j : Data) → ReadsAs line j → HasKeysOnce line → ⊥
+    of_value j is once =
+        value_answered r t j laws tell good (λ text good_ a. none text good_ (inr (j, record { reads = is; once = once }, a)))
 
 -- ---- a line
 

@@ -9,7 +9,10 @@ use Rattle.asn_values.specs.declared.types.AsnType.{AsnType}
 use Rattle.asn_rules.specs.Answer.{Ruling}
 use Rattle.asn_newer.specs.Loose.{LooseCoding}
 use Rattle.asn_rules.specs.Faults.{State}
-use Rattle.asn_convert.specs.Answers.{Terms, Answers}
+use Rattle.asn_json.specs.Texts.{RefusesText}
+use Rattle.asn_json.specs.declared.fault.TextFault.{TextFault}
+use Rattle.asn_json.specs.declared.fault.TextFault.TheVariants as text_fault
+use Rattle.asn_convert.specs.Answers.{Terms, Answers, IsRefusedText, TellsTextFault}
 use Rattle.asn_convert.specs.Parts.{LineAnswer}
 use Rattle.asn_convert.specs.Put.{OctetsBegun}
 use Rattle.asn_convert.specs.Replies.{LineReply, OctetsAnswer, RepliesConvert, RepliesJson}
@@ -20,6 +23,12 @@ use Rattle.asn_jobs.specs.declared.job.Order.TheVariants as order
 use Rattle.asn_jobs.specs.declared.job.RuleName.{RuleName}
 use Rattle.asn_convert.specs.declared.texts.Reply.{Reply}
 use Rattle.asn_convert.specs.declared.texts.Reply.TheVariants as reply
+
+-- the words of the fault for which a line is refused are a refusal of it
+pub refused_text : (line : List ℕ) (why : TextFault) (text : List ℕ) → RefusesText line why → TellsTextFault why text → IsRefusedText line text
+refused_text line text_fault.NotJson text r e = inl (r.told, e)
+refused_text line (text_fault.KeyTwice path) text r e = inr (string_bytes path, r.told.0, r.told.1, e)
+refused_text line text_fault.Memory text r e = absurd e
 
 module _ (a b : Ruling) (l : LooseCoding) (name : RuleName) (t : AsnType) (line : List ℕ) where
   pub convert_reply : (octets : List ℕ) (r : Reply) → decode_of line ≡ Ok octets → RepliesConvert a name (shape_of t) octets r → LineReply a b l name order.Convert t line r
@@ -34,7 +43,7 @@ module _ (a b : Ruling) (l : LooseCoding) (name : RuleName) (t : AsnType) (line 
 
   pub json_reply : (r : Reply) → RepliesJson (shape_of t) line r → LineReply a b l name order.Encode t line r
   json_reply (reply.Text answer) (inl none, bad) =
-      subst (λ good. LineAnswer a b l name order.Encode t line good (string_bytes answer.text)) (sym bad) (inl (none.0, none.1, refl))
+      subst (λ good. LineAnswer a b l name order.Encode t line good (string_bytes answer.text)) (sym bad) (inl (none, refl))
   json_reply (reply.Text answer) (inr (j, is, not_shown), bad) =
       subst (λ good. LineAnswer a b l name order.Encode t line good (string_bytes answer.text)) (sym bad) (inr (j, is, inl not_shown))
   json_reply (reply.Encoded v) (j, is, shown, fits) = record {

@@ -1,9 +1,8 @@
 -- What is answered to one line.
-use Rattle.std.specs.Prelude.{◌≡◌, ◌≢◌, ◌≤◌, ◌⊎◌, ℕ, Bool, true, false, List, [], ◌∷◌, ◌++◌, length, codes, string_bytes, slice_get, Some, Ok, Err, IsUtf8}
+use Rattle.std.specs.Prelude.{◌≡◌, ◌≢◌, ◌≤◌, ◌⊎◌, ℕ, Bool, true, false, List, [], ◌∷◌, ◌++◌, length, codes, string_bytes, slice_get, Some, Ok, Err}
 use Rattle.std.specs.Fmt.{decimal}
 use Rattle.hex.specs.Hex.{decode_of, encode_lower}
 use Rattle.serde_json.specs.Data.{Data}
-use Rattle.serde_json.specs.Read.{read}
 use Rattle.serde_json.specs.Written.{compact_text}
 use Rattle.asn_values.specs.Datum.{Datum}
 use Rattle.asn_values.specs.Shape.{Shape}
@@ -25,6 +24,9 @@ use Rattle.asn_json.specs.Written.{json_of}
 use Rattle.asn_json.specs.Errors.{bad, Shown}
 use Rattle.asn_json.specs.declared.fault.JsonFault.{JsonFault}
 use Rattle.asn_json.specs.declared.fault.JsonFault.TheVariants as json
+use Rattle.asn_json.specs.declared.fault.TextFault.{TextFault}
+use Rattle.asn_json.specs.declared.fault.TextFault.TheVariants as text_fault
+use Rattle.asn_json.specs.Texts.{IsJson, IsNoJson, IsPlainPath, RepeatsKey}
 use Rattle.asn_jobs.specs.declared.job.RuleName.{RuleName}
 use Rattle.asn_jobs.specs.declared.job.RuleName.TheVariants as rule_name
 use Rattle.asn_jobs.specs.declared.job.Order.{Order}
@@ -63,6 +65,12 @@ abbrev pub TellsJsonFault : JsonFault → List ℕ → Type 0
 TellsJsonFault (json.Shape path) text = text ≡ codes "! shape " ++ string_bytes path
 TellsJsonFault json.NotOfType text = text ≡ codes "! not of type"
 TellsJsonFault json.Memory text = ⊥
+
+-- the words of a fault of reading a text as JSON
+abbrev pub TellsTextFault : TextFault → List ℕ → Type 0
+TellsTextFault text_fault.NotJson text = text ≡ codes "! json"
+TellsTextFault (text_fault.KeyTwice path) text = text ≡ codes "! shape " ++ string_bytes path
+TellsTextFault text_fault.Memory text = ⊥
 
 -- the words of a fault of reading a message of a newer or older sender. One that was cut is told so; which of the first
 -- three faults comes else is open
@@ -151,13 +159,11 @@ AnswersHex w by line text good =
 
 -- ---- JSON
 
--- the line is this JSON
-abbrev pub IsJson : List ℕ → Data → Type 0
-IsJson line j = IsUtf8 line × (read line ≡ Some j)
-
--- the line is no JSON
-abbrev pub IsNoJson : List ℕ → Type 0
-IsNoJson line = (j : Data) → IsJson line j → ⊥
+-- why the line is not read as JSON: it is none, or an object has a key twice
+abbrev pub IsRefusedText : List ℕ → List ℕ → Type 0
+IsRefusedText line text =
+    (IsNoJson line × (text ≡ codes "! json"))
+    ⊎ ((path : List ℕ) × RepeatsKey line × IsPlainPath path × (text ≡ codes "! shape " ++ path))
 
 -- why it shows no value: the first error of its shape, or that it shows none of the type
 abbrev pub IsNotShown : Shape → Data → List ℕ → Type 0
@@ -177,7 +183,7 @@ AnswersValue r t j text false = IsNotShown t j text ⊎ IsNotWritten r t j text
 -- what is answered to a line of JSON
 abbrev pub AnswersJson : Ruling → Shape → List ℕ → List ℕ → Bool → Type 0
 AnswersJson r t line text good =
-    (IsNoJson line × (text ≡ codes "! json") × (good ≡ false))
+    (IsRefusedText line text × (good ≡ false))
     ⊎ ((j : Data) × IsJson line j × AnswersValue r t j text good)
 
 -- ---- a line

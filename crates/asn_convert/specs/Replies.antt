@@ -11,7 +11,8 @@ use Rattle.asn_rules.specs.Answer.{Ruling}
 use Rattle.asn_rules.specs.CodecLaws.{Encoded}
 use Rattle.asn_newer.specs.Loose.{LooseCoding}
 use Rattle.asn_json.specs.Errors.{Shown}
-use Rattle.asn_convert.specs.Answers.{IsNotDecoded, IsNotShown, IsJson, IsNoJson}
+use Rattle.asn_json.specs.Texts.{IsJson}
+use Rattle.asn_convert.specs.Answers.{IsNotDecoded, IsNotShown, IsRefusedText}
 use Rattle.asn_convert.specs.Converted.{IsTooLong}
 use Rattle.asn_convert.specs.Parts.{LineAnswer}
 use Rattle.asn_jobs.specs.declared.job.Order.{Order}
@@ -45,10 +46,10 @@ RepliesValue t j (reply.Text answer) = IsNotShown t j (string_bytes answer.text)
 RepliesValue t j (reply.Encoded v) = Shown t j (datum_of v) × Fits t (datum_of v)
 RepliesValue t j (reply.Converted v) = ⊥
 
--- the same of a line, which may be no JSON
+-- a refusal of a line of JSON, or the value that it shows
 abbrev pub RepliesJson : Shape → List ℕ → Reply → Type 0
 RepliesJson t line (reply.Text answer) =
-    ((IsNoJson line × (string_bytes answer.text ≡ codes "! json"))
+    (IsRefusedText line (string_bytes answer.text)
     ⊎ ((j : Data) × IsJson line j × IsNotShown t j (string_bytes answer.text))) × (answer.is_good ≡ false)
 RepliesJson t line (reply.Encoded v) = (j : Data) × IsJson line j × Shown t j (datum_of v) × Fits t (datum_of v)
 RepliesJson t line (reply.Converted v) = ⊥

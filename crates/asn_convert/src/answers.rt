@@ -1,23 +1,22 @@
 //! The answer to one line.
-ghost use Rattle.std.specs.Prelude.{◌≡◌, IfOk, IfSome, None, Ok, List, ℕ, string_bytes};
-ghost use Rattle.serde_json.specs.Data.{Data};
+ghost use Rattle.std.specs.Prelude.{◌≡◌, IfOk, string_bytes};
 ghost use Rattle.serde_json.specs.View.{view};
 ghost use Rattle.serde_json.specs.Written.{compact_text};
 ghost use Rattle.asn_values.specs.Received.{FitsReceived};
 ghost use Rattle.asn_values.specs.View.{shape_of, datum_of};
 ghost use Rattle.asn_json.specs.Written.{json_of};
-ghost use Rattle.asn_convert.specs.Answers.{AnswersShow, AnswersCheck, IsJson};
+ghost use Rattle.asn_convert.specs.Answers.{AnswersShow, AnswersCheck};
 ghost use Rattle.asn_convert.specs.Replies.{LineReply, RepliesConvert, RepliesJson, RepliesValue};
 
 use crate::digits::octets_in;
 use crate::newer::newer_octets;
-use crate::texts::{Answer, Reply, decode_refusal, json_refusal, refusal};
+use crate::texts::{Answer, Reply, decode_refusal, json_refusal, refusal, text_refusal};
 use asn_jobs::{Order, RuleName};
-use asn_json::{from_json, to_json};
+use asn_json::{from_json, json_in, to_json};
 use asn_newer::ReadNewer;
 use asn_plan::{PlanRules, Planned};
+use asn_rules::Rules;
 use asn_rules::laws::are_octets;
-use asn_rules::{Rules, decode};
 use asn_values::{Checked, Value};
 use itoa::Buffer;
 use serde_json::Value as Json;
@@ -46,28 +45,31 @@ pub(crate) fn answer_to<A: ReadNewer + PlanRules, B: Rules>(
     };
     let octets = octets.as_slice();
     match order {
-        Order::Show => Ok(Reply::Text(show_octets::<A>(alloc, ty, rules, octets)?)),
+        Order::Show => Ok(Reply::Text(show_octets::<A>(alloc, planned, rules, octets)?)),
         Order::Check => Ok(Reply::Text(check_octets::<A>(alloc, planned, rules, octets)?)),
-        Order::Convert => convert_octets::<A>(alloc, ty, rules, octets),
+        Order::Convert => convert_octets::<A>(alloc, planned, rules, octets),
         Order::Newer => Ok(Reply::Text(newer_octets::<A>(alloc, ty, octets)?)),
         Order::Encode => unreachable!(),
     }
 }
 
-/// The JSON of the value that the octets encode.
-fn show_octets<A: Rules>(
+/// The JSON of the value that the octets encode. It is built once they are known to be an encoding.
+fn show_octets<A: PlanRules>(
     alloc: Global,
-    ty: &Checked,
+    planned: &Planned,
     rules: RuleName,
     octets: &[u8],
 ) -> Result<Answer, AllocError>
-    ensures { IfOk result (λ a. AnswersShow A.ruling rules (shape_of ty.now) octets.now
+    ensures { IfOk result (λ a. AnswersShow A.ruling rules (shape_of planned.now) octets.now
         (string_bytes a.text) a.is_good) }
 {
     are_octets(octets);
-    match decode::<A>(alloc, ty, octets) {
+    if let Err(fault) = planned.check::<A>(alloc, octets) {
+        return decode_refusal(alloc, rules, fault);
+    }
+    match planned.decode::<A>(alloc, octets) {
         Ok(value) => {
-            let text = json_text(alloc, ty, &value)?;
+            let text = json_text(alloc, planned.get(), &value)?;
             Ok(Answer {
                 text,
                 is_good: true,
@@ -115,45 +117,34 @@ fn check_octets<A: PlanRules>(
     }
 }
 
-/// The value that the octets encode, whose octets by the other rules are the answer.
-fn convert_octets<A: Rules>(
+/// The value that the octets encode, whose octets by the other rules are the answer. It is built once they are known to be
+/// an encoding.
+fn convert_octets<A: PlanRules>(
     alloc: Global,
-    ty: &Checked,
+    planned: &Planned,
     rules: RuleName,
     octets: &[u8],
 ) -> Result<Reply, AllocError>
-    ensures { IfOk result (RepliesConvert A.ruling rules (shape_of ty.now) octets.now) }
+    ensures { IfOk result (RepliesConvert A.ruling rules (shape_of planned.now) octets.now) }
 {
     are_octets(octets);
-    match decode::<A>(alloc, ty, octets) {
+    if let Err(fault) = planned.check::<A>(alloc, octets) {
+        return Ok(Reply::Text(decode_refusal(alloc, rules, fault)?));
+    }
+    match planned.decode::<A>(alloc, octets) {
         Ok(value) => Ok(Reply::Converted(value)),
         Err(fault) => Ok(Reply::Text(decode_refusal(alloc, rules, fault)?)),
     }
 }
 
 /// The value that a line of JSON shows, whose octets are the answer.
+#[tactic(auto, using(crate::proofs::Replying::refused_text))]
 fn answer_json(alloc: Global, ty: &Checked, line: &[u8]) -> Result<Reply, AllocError>
     ensures { IfOk result (RepliesJson (shape_of ty.now) line.now) }
 {
-    match json_in(alloc, line)? {
-        Some(json) => encode_json(alloc, ty, &json),
-        None => Ok(Reply::Text(refusal(alloc, "! json")?)),
-    }
-}
-
-/// The JSON that a line is; None where it is none.
-fn json_in(alloc: Global, line: &[u8]) -> Result<Option<Json>, AllocError>
-    ensures some { IfOk result (λ o. IfSome o (λ j. IsJson line.now (view j))) }
-    ensures none { IfOk result (λ o. o ≡ None → (j : Data) → IsJson line.now j → ⊥) }
-{
-    match Json::from_slice(alloc, line) {
-        Ok(json) => Ok(Some(json)),
-        Err(fault) => {
-            if fault.is_memory() {
-                return Err(AllocError);
-            }
-            Ok(None)
-        }
+    match json_in(alloc, line) {
+        Ok(json) => encode_json(alloc, ty, &json),
+        Err(fault) => Ok(Reply::Text(text_refusal(alloc, &fault)?)),
     }
 }
 

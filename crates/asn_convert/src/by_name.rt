@@ -17,7 +17,7 @@ use std::io::{Read, Write};
 /// Reads all of the input, and writes the text of the job: the module printed, or an answer for each line.
 ///
 /// The input is cut at LF. The module text is all before the first line that is exactly `====`, and the lines after
-/// it are the job's; without such a line all is module text. Each line is answered, written and let go before the
+/// it are the job's; without such a line all is module text. Each line is answered, written and freed before the
 /// next. The writer is flushed at the end. Nothing is tried again after a fault.
 ///
 /// # Errors
@@ -41,11 +41,11 @@ pub fn run<R: Read, W: Write>(
 /// Writes the text of the job for a module that is there from the first and lines that come: the module printed, or an
 /// answer for each line.
 ///
-/// The module text is all of `head` before the first line that is exactly `====`, or all of it where there is none; what
-/// follows that line in `head` is not looked at. The lines are those of the input alone, each ended by LF but the last,
-/// which may lack it. As soon as a piece of the input has come, the lines that it ends are answered and the writer is
-/// flushed; no more of the input is kept than a piece and the line that has begun. Where the module is refused, is to be
-/// printed or has no type of the name, nothing is read. Nothing is tried again after a fault.
+/// The module text is all of `head` before the first line that is exactly `====`, or all of it where there is none;
+/// what follows that line in `head` is not looked at. The lines are those of the input alone, each ended by LF but the
+/// last, which may lack it. As soon as a piece of the input has come, the lines that it ends are answered and the
+/// writer is flushed; no more of the input is kept than a piece and the line that has begun. Where the module is
+/// refused, is to be printed or has no type of the name, nothing is read. Nothing is tried again after a fault.
 ///
 /// # Errors
 /// `Read` only where the reader answered a fault, `Write` only where the writer answered one, and `Memory` where an
@@ -67,7 +67,7 @@ pub fn run_on_lines<R: Read, W: Write>(
     }
 }
 
-/// Answers one line, without its LF, for the type, and tells whether the answer is no refusal. The writer is not flushed.
+/// Answers one line, without its LF, for the type. Returns whether the answer is no refusal. The writer is not flushed.
 ///
 /// # Errors
 /// `Write` only where the writer answered a fault, and `Memory` where an allocation failed: what was written is a

@@ -1,9 +1,9 @@
 //! What is written for a line that is refused.
 ghost use Rattle.std.specs.Prelude.{◌≡◌, false, IfOk, string_bytes};
-ghost use Rattle.asn_convert.specs.Answers.{unit_of, TellsDecodeFault, TellsJsonFault, TellsNewerFault};
+ghost use Rattle.asn_convert.specs.Answers.{unit_of, TellsDecodeFault, TellsJsonFault, TellsNewerFault, TellsTextFault};
 
 use asn_jobs::RuleName;
-use asn_json::JsonFault;
+use asn_json::{JsonFault, TextFault};
 use asn_newer::NewerFault;
 use asn_rules::{DecodeFault, Unit};
 use asn_values::Value;
@@ -92,6 +92,27 @@ pub(crate) fn json_refusal(alloc: Global, fault: &JsonFault) -> Result<Answer, A
         }
         JsonFault::NotOfType => refusal(alloc, "! not of type"),
         JsonFault::Memory => Err(AllocError),
+    }
+}
+
+/// The refusal of a line that is not read as JSON.
+///
+/// # Errors
+/// `AllocError` if an allocation failed, here or while it was read.
+pub(crate) fn text_refusal(alloc: Global, fault: &TextFault) -> Result<Answer, AllocError>
+    ensures text { IfOk result (λ a. TellsTextFault fault.now (string_bytes a.text)) }
+    ensures refused { IfOk result (λ a. a.is_good ≡ false) }
+{
+    match fault {
+        TextFault::NotJson => refusal(alloc, "! json"),
+        TextFault::KeyTwice { path } => {
+            let text = format!(in alloc; "! shape {path}")?;
+            Ok(Answer {
+                text,
+                is_good: false,
+            })
+        }
+        TextFault::Memory => Err(AllocError),
     }
 }
 

@@ -3,6 +3,7 @@ ghost use Rattle.std.specs.Prelude.{◌≤◌, ◌<◌};
 
 use asn_values::profile::{HIGHEST_INTEGER, INTEGER_COUNT, LOWEST_INTEGER};
 use asn_values::{Bounds, Size};
+use std::alloc::AllocError;
 
 /// How many items strings and lists may have beyond the least number of each, all together.
 const ROOM: usize = 2_000;
@@ -27,6 +28,8 @@ pub(crate) struct Choices {
     state: u64,
     // how many items strings and lists may still have beyond the least number of each
     room: usize,
+    // how many parts and items of strings the value may still have
+    left: u64,
 }
 
 impl Choices {
@@ -36,6 +39,7 @@ impl Choices {
             way: Way::Least,
             state: 0,
             room: 0,
+            left: u64::MAX,
         }
     }
 
@@ -50,7 +54,31 @@ impl Choices {
             way,
             state: seed,
             room: ROOM,
+            left: u64::MAX,
         }
+    }
+
+    /// The same choices, for a value of at most so many parts and items of strings.
+    pub(crate) fn within(mut self, most: u64) -> Choices {
+        self.left = most.saturating_add(1);
+        self
+    }
+
+    /// Whether a value was given up since it has too many parts.
+    pub(crate) fn are_over(&self) -> bool {
+        self.left == 0
+    }
+
+    /// Counts parts of the value, or items of a string.
+    ///
+    /// # Errors
+    /// `AllocError` if the value may not have as many.
+    pub(crate) fn spend(&mut self, count: usize) -> Result<(), AllocError> {
+        self.left = self.left.saturating_sub(count as u64);
+        if self.left == 0 {
+            return Err(AllocError);
+        }
+        Ok(())
     }
 
     /// Whether the least of each is taken.

@@ -30,14 +30,17 @@ pub(crate) fn leaf(alloc: Global, ty: &AsnType, choices: &mut Choices) -> Result
         AsnType::Enum { root, ext } => Ok(Value::Enum(item_of(root, ext, choices))),
         AsnType::Bits(size) => {
             let count = length_of(size, choices);
+            choices.spend(count)?;
             Ok(Value::Bits(some_bits(alloc, count, choices)?))
         }
         AsnType::Octets(size) => {
             let count = length_of(size, choices);
+            choices.spend(count)?;
             Ok(Value::Octets(some_octets(alloc, count, choices)?))
         }
         AsnType::Text(kind, size) => {
             let count = length_of(size, choices);
+            choices.spend(count)?;
             Ok(Value::Text(some_codes(alloc, *kind, count, choices)?))
         }
         AsnType::Utf8 => Ok(Value::Utf8(some_text(alloc, choices)?)),

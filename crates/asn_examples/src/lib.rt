@@ -6,4 +6,4 @@ mod examples;
 mod leaves;
 mod parts;
 
-pub use examples::{least_value, seeded_value};
+pub use examples::{least_value, seeded_value, value_within};

@@ -75,6 +75,7 @@ fn push_entries(
         (AddsFitting (fields_seen fields.now) (entries_seen entries.old.items) (entries_seen entries.new.items)) }
 {
     for field in fields {
+        choices.spend(1)?;
         let made = entry(alloc, field, choices)?;
         entries.push(made)?;
     }
@@ -113,6 +114,7 @@ fn elements(
 {
     let mut values = Vec::new(alloc);
     for i in 0..count {
+        choices.spend(1)?;
         let made = some_value(alloc, element, choices)?;
         values.push(made)?;
     }

@@ -17,20 +17,20 @@ use std::fmt;
 pub struct Explanation {
     /// What `decode` answers.
     pub fault: DecodeFault,
-    /// `$`, and then `.name` for each component or alternative and `[i]`, counted from 0, for each element on the way to
-    /// the part in which the refused unit lies, or the first that is missing.
+    /// `$`, and then `.name` for each component or alternative and `[i]`, counted from 0, for each element on the way
+    /// to the part in which the refused unit lies, or the first that is missing.
     pub path: String,
 }
 
-/// An explanation beside the unit of its rules, displayed as `refused at bit 41 in $.coreData.speed: number`.
+/// An explanation with the unit of its rules, displayed as `refused at bit 41 in $.coreData.speed: number`.
 #[derive(Clone, Copy, Debug)]
 pub struct Counted<'a> {
     pub explanation: &'a Explanation,
     pub unit: Unit,
 }
 
-/// Why the octets are not the complete encoding of a value of the type by the rules R, and where; None exactly where they
-/// are. Reads the octets once more for each level of types inside one another.
+/// Why the octets are not the complete encoding of a value of the type by the rules R, and where; None exactly where
+/// they are. Reads the octets once more for each level of types inside one another.
 ///
 /// # Errors
 /// `AllocError` where an allocation failed.

@@ -3,7 +3,7 @@
 use asn_values::profile::{HIGHEST_INTEGER, LOWEST_INTEGER};
 use std::fmt;
 
-/// A least and a greatest number of units. A least number past 2^64 is told as 2^64 - 1.
+/// A least and a greatest number of units. A least number past 2^64 is reported as 2^64 - 1.
 #[derive(Clone, Copy, Debug, PartialEq, Eq)]
 pub struct Extent {
     pub least: u64,

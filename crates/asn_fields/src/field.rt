@@ -82,13 +82,13 @@ impl fmt::Display for FieldKind {
 /// A field of a message.
 #[derive(Debug, Drop)]
 pub struct MessageField {
-    /// How many units, bits of PER or octets of OER, stand before it.
+    /// How many units, bits of PER or octets of OER, precede it.
     pub start: u64,
-    /// How many units stand before the one after it: its last unit, counted from 1. As many as `start` where it has none.
+    /// How many units precede the one after it: its last unit, counted from 1. As many as `start` where it has none.
     pub end: u64,
     pub kind: FieldKind,
-    /// `$`, and then `.name` for each component or alternative and `[i]`, counted from 0, for each element on the way to
-    /// the part of the value that it is of.
+    /// `$`, and then `.name` for each component or alternative and `[i]`, counted from 0, for each element on the way
+    /// to the part of the value that it is of.
     pub path: String,
     /// The type of that part, without those inside it; of the length determinant of an open type field these words.
     pub ty: String,

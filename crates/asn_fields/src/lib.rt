@@ -24,6 +24,6 @@ mod widths;
 
 pub use extent::Extent;
 pub use field::{FieldKind, MessageField};
-pub use message::{MessageFields, fields};
+pub use message::{MessageFields, fields, fields_within};
 pub use page::{PAGE_END, page_head, page_note};
 pub use widths::{TypeSizes, outline, sizes};

@@ -13,13 +13,13 @@ use std::fmt::Write;
 const WIDTHS: [usize; 4] = [11, 24, 28, 28];
 
 impl MessageFields {
-    /// The fields as text, a line each: the first and the last unit, or a hyphen where the field
-    /// has none; the octets in which it lies, in hexadecimal, and, where these are one or two in
-    /// PER, its bits; the path; the type; and what it is, with what it says; in columns. Where the
-    /// octets are no message, a last line says why.
+    /// The fields as text, a line each, in columns. A line has the first and the last unit, or a hyphen where the
+    /// field has none. Then come the octets in which it lies, in hexadecimal, and its bits where these are one or two
+    /// octets in PER. Then come the path, the type, and what the field is and says. Where the octets are no message, a
+    /// last line says why.
     ///
-    /// `octets` are those that `fields` was given; of other octets the column shows what stands
-    /// there, and nothing past the end.
+    /// `octets` are those that `fields` was given; of other octets the column shows what is there, and nothing past
+    /// the end.
     ///
     /// # Errors
     /// `AllocError` where an allocation failed.

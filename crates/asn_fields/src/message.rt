@@ -1,5 +1,5 @@
 //! The fields of a message, beside what a decoder answers to it.
-ghost use Rattle.std.specs.Prelude.{◌≡◌, IfOk, length, map, take};
+ghost use Rattle.std.specs.Prelude.{◌≡◌, IfOk, IfSome, length, map, take};
 ghost use Rattle.asn_values.specs.View.{shape_of, datum_of};
 ghost use Rattle.asn_rules.specs.Answer.{max_octets};
 ghost use Rattle.asn_fields.specs.Tells.{AreContents, Tells, last_told};
@@ -21,7 +21,7 @@ pub struct MessageFields {
     /// The unit in which they are counted: the bit in PER, the octet in OER.
     pub unit: Unit,
     /// From the first unit to the last of the octets that are read; of octets that are refused, to the refused unit. A
-    /// field without a unit stands where its value would begin. Of a message, those that have a value have, in order, the
+    /// field without a unit is where its value would begin. Of a message, those that have a value have, in order, the
     /// parts of its value that have no parts themselves.
     pub fields: Vec<MessageField>,
     /// What `decode` answers: the value whose encoding the octets are, or why they are none.
@@ -40,30 +40,53 @@ pub fn fields<R: Reads + ReadLeaves>(
 ) -> Result<MessageFields, AllocError>
     ensures { IfOk result (Tells R.Reads.ruling (shape_of ty.now) octets.now) }
 {
-    let answer = decode_at_once::<R>(alloc, ty, octets);
-    if matches!(&answer, Err(DecodeFault::Memory)) {
-        return Err(AllocError);
+    match fields_within::<R>(alloc, ty, octets, usize::MAX)? {
+        Some(told) => Ok(told),
+        None => Err(AllocError),
     }
-    let end = end_of::<R>(&answer, octets);
+}
+
+/// The fields of octets, as `fields` gives them, if they are at most `most`. `None` if there are more; then the octets
+/// are not decoded.
+///
+/// # Errors
+/// `AllocError` if an allocation failed.
+pub fn fields_within<R: Reads + ReadLeaves>(
+    alloc: Global,
+    ty: &Checked,
+    octets: &[u8],
+    most: usize,
+) -> Result<Option<MessageFields>, AllocError>
+    ensures { IfOk result (λ o. IfSome o (Tells R.Reads.ruling (shape_of ty.now) octets.now)) }
+{
     let unit = if R::units_of(1) == 1 {
         Unit::Octet
     } else {
         Unit::Bit
     };
-    let mut walk = Walk::new(alloc, unit);
-    walk_message::<R>(&mut walk, ty, octets)?;
+    let mut walk = Walk::new(alloc, unit, most);
+    let walked = walk_message::<R>(&mut walk, ty, octets);
+    if walk.is_over {
+        return Ok(None);
+    }
+    walked?;
+    let answer = decode_at_once::<R>(alloc, ty, octets);
+    if matches!(&answer, Err(DecodeFault::Memory)) {
+        return Err(AllocError);
+    }
+    let end = end_of::<R>(&answer, octets);
     let closing = walk.closing(closing_kind(&answer), end)?;
     let values = values_of(alloc, &answer, walk.values)?;
     let fields = laid(alloc, walk.told, values.as_slice(), closing, end)?;
-    Ok(MessageFields {
+    Ok(Some(MessageFields {
         unit,
         fields,
         answer,
-    })
+    }))
 }
 
-/// The values of the fields, in order: the parts of the value of a message that have no parts, and of octets that are no
-/// message those that were read.
+/// The values of the fields, in order: the parts of the value of a message that have no parts, and of octets that are
+/// no message those that were read.
 fn values_of(
     alloc: Global,
     answer: &Result<Value, DecodeFault>,

@@ -40,7 +40,7 @@ const ROW_BITS: u64 = 64;
 
 const ROW_OCTETS: u64 = 16;
 
-/// The beginning of a page with this title: what stands before its sections.
+/// The beginning of a page with this title, up to its sections.
 ///
 /// # Errors
 /// `AllocError` where an allocation failed.
@@ -77,7 +77,7 @@ impl MessageFields {
     /// with the number of the first in front, and a line for each field, in the colour of its
     /// units.
     ///
-    /// `octets` are those that `fields` was given; of other octets the rows show what stands there,
+    /// `octets` are those that `fields` was given; of other octets the rows show what is there,
     /// and 0 past the end, and the lines nothing there.
     ///
     /// # Errors

@@ -11,7 +11,7 @@ const LONGEST_LENGTH: u64 = 16;
 /// What stands in front of the contents of a value.
 #[derive(Clone, Copy)]
 pub(crate) struct Split {
-    /// Whether an extension bit stands first, in PER.
+    /// Whether an extension bit comes first, in PER.
     pub has_mark: bool,
     /// Whether it is set.
     pub is_extended: bool,
@@ -135,7 +135,8 @@ fn items_of(value: &Value) -> Option<u64> {
     }
 }
 
-/// Whether an integer of the type stands after the count of its octets in PER: it has not two bounds, or is outside them.
+/// Whether an integer of the type stands after the count of its octets in PER: it has not two bounds, or is outside
+/// them.
 fn is_counted(ty: &AsnType, value: &Value) -> bool {
     match (ty, value) {
         (AsnType::Int(bounds), Value::Int(number)) => {

@@ -33,18 +33,22 @@ pub(crate) struct Walk<'t> {
     pub unit: Unit,
     /// The last unit of the octets that are read: of the message, or of the open type field.
     pub end: u64,
-    /// How many units are told.
+    /// How many units have a field so far.
     pub told_to: u64,
     pub steps: Vec<Step<'t>>,
     /// The fields so far, each with its last unit, and without its value.
     pub told: Vec<MessageField>,
     /// The values of those that have one, in order.
     pub values: Vec<Value>,
+    /// The most fields that are listed.
+    pub most: usize,
+    /// Whether there are more.
+    pub is_over: bool,
 }
 
 impl<'t> Walk<'t> {
     /// A walk that has told nothing.
-    pub(crate) fn new(alloc: Global, unit: Unit) -> Walk<'t> {
+    pub(crate) fn new(alloc: Global, unit: Unit, most: usize) -> Walk<'t> {
         Walk {
             alloc,
             unit,
@@ -53,13 +57,16 @@ impl<'t> Walk<'t> {
             steps: Vec::new(alloc),
             told: Vec::new(alloc),
             values: Vec::new(alloc),
+            most,
+            is_over: false,
         }
     }
 
     /// Tells a field that ends at the unit `to`.
     ///
     /// # Errors
-    /// `AllocError` where an allocation failed; and so in each of the following.
+    /// `AllocError` where an allocation failed, or there are more fields than are told; and so in each of the
+    /// following.
     pub(crate) fn tell(
         &mut self,
         kind: FieldKind,
@@ -67,6 +74,10 @@ impl<'t> Walk<'t> {
         ty: &str,
         text: &str,
     ) -> Result<(), AllocError> {
+        if self.told.len() >= self.most {
+            self.is_over = true;
+            return Err(AllocError);
+        }
         let field = MessageField {
             start: 0,
             end: to,
@@ -273,8 +284,8 @@ impl<'t> Walk<'t> {
         }
     }
 
-    /// Tells a length determinant of a SEQUENCE OF of this size, which ends at the unit `to`, where one was read: so many
-    /// elements follow, and `before` of them stand in front of it.
+    /// Tells a length determinant of a SEQUENCE OF of this size, which ends at the unit `to`, where one was read: so
+    /// many elements follow, and `before` of them stand in front of it.
     pub(crate) fn tell_count(
         &mut self,
         size: &Size,
@@ -300,8 +311,8 @@ impl<'t> Walk<'t> {
         Ok(())
     }
 
-    /// Tells the length determinant of an open type field of this many octets, which ends at the unit `to`. Where the octets
-    /// are in fragments, it tells the whole field, and gives false.
+    /// Tells the length determinant of an open type field of this many octets, which ends at the unit `to`. Where the
+    /// octets are in fragments, it tells the whole field, and gives false.
     pub(crate) fn tell_open_length(
         &mut self,
         ty: &AsnType,

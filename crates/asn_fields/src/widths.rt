@@ -32,9 +32,9 @@ pub fn sizes(ty: &Checked) -> TypeSizes {
     sizes_of(ty.get())
 }
 
-/// The type as an outline, a line for each part, with the bits that its values have in PER and the octets in OER, both
-/// from the least to the greatest number, which a `..` without a number after it leaves open. The first line is the type
-/// itself, by this name.
+/// The type as an outline, a line for each part, with the sizes of its values: bits in PER, octets in OER. A size is
+/// from the least to the greatest; a `..` without a number after it leaves the greatest open. The first line is the
+/// type itself, by this name.
 ///
 /// # Errors
 /// `AllocError` where an allocation failed.

@@ -9,12 +9,13 @@ use crate::texts::{OctetForm, is_blank, uncommented};
 use std::io;
 use std::io::{BufRead, ErrorKind};
 
-/// Puts the next text of the input in place of the one before, and tells the number of the line, counted from 1, at
+/// Puts the next text of the input in place of the one before, and returns the number of the line, counted from 1, at
 /// which it begins; `None` where there is none. `lines` is how many lines were read: 0 at first.
 ///
-/// A text is a line, without its LF; of `Base64` without a CARRIAGE RETURN in front of that, too; of `Hex` a line that
-/// has no more than blanks and a comment is passed over; a text of `HexBlock` goes from the first line that has more up
-/// to a blank one, or to the end; one of `Binary` is all of the input.
+/// - A text is a line, without its LF. In `Base64` a CARRIAGE RETURN before the LF is left out, too.
+/// - In `Hex` a line that has no more than blanks and a comment is passed over.
+/// - A text of `HexBlock` goes from the first line that has more up to a blank one, or to the end.
+/// - A text of `Binary` is all of the input.
 ///
 /// # Errors
 /// `Read` where the reader answered a fault, `Memory` where an allocation failed.

@@ -7,9 +7,9 @@ use crate::job::{RunFault, Status};
 /// The exit status, and the line for standard error, which is empty where there is none.
 ///
 /// 0 where every line was answered well, 1 where at least one was refused, 2 where the module was refused or has no
-/// type of the name, and 3 where reading, writing or memory failed, which the line tells. Where a write failed and the
-/// reader of the output has gone, which `is_closed` says, 141, as where the signal for it ends a program, and no line. No
-/// memory is taken.
+/// type of the name, and 3 where reading, writing or memory failed, which the line says. Where a write failed and the
+/// reader of the output has gone, which `is_closed` says, 141, as where the signal for it ends a program, and no line.
+/// No memory is taken.
 pub fn ending(answer: &Result<Status, RunFault>, is_closed: bool) -> (u8, &'static str)
     ensures status { result.0 ≡ (end_of answer.now is_closed).0 }
     ensures line { result.1.now ≡ (end_of answer.now is_closed).1 }
@@ -31,10 +31,10 @@ pub fn ending(answer: &Result<Status, RunFault>, is_closed: bool) -> (u8, &'stat
 }
 
 /// The exit status, and the line for standard error, where nothing is done: the words are refused, which standard
-/// error tells, or help or the version is asked for, which standard output tells. `is_written` says whether that was
+/// error says, or help or the version is asked for, which standard output shows. `is_written` says whether that was
 /// written.
 ///
-/// 2 where the words are refused, whether or not that could be told; 0 after help or the version, and 3 where these
+/// 2 where the words are refused, whether or not that could be written; 0 after help or the version, and 3 where these
 /// could not be written.
 pub fn refusal_ending(is_refused: bool, is_written: bool) -> (u8, &'static str)
     ensures status { result.0 ≡ (refusal_end_of is_refused is_written).0 }

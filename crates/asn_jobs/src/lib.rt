@@ -4,6 +4,7 @@
 
 mod cut;
 mod cutting;
+mod dumps;
 mod endings;
 mod fault;
 mod job;
@@ -16,6 +17,7 @@ mod texts;
 
 pub use cut::{cut_input, next_line};
 pub use cutting::next_text;
+pub use dumps::{OFFSETS, is_dump};
 pub use endings::{ending, refusal_ending};
 pub use fault::CountFault;
 pub use job::{Job, Order, RuleName, RunFault, Status};

@@ -1,7 +1,7 @@
 //! Where messages stand.
 use std::alloc::{AllocError, Global};
 
-/// Where a message stands.
+/// Where a message is.
 #[derive(Clone, Copy)]
 pub struct Place<'a> {
     /// The name of the file; empty for standard input.
@@ -12,7 +12,7 @@ pub struct Place<'a> {
     pub message: u64,
 }
 
-/// Where a message stands, in words.
+/// Where a message is, in words.
 pub fn place_text(alloc: Global, place: Place<'_>) -> Result<String, AllocError> {
     let Place {
         file,

@@ -5,8 +5,8 @@ use std::time::{Duration, Instant};
 /// How many milliseconds pass before the line is written anew.
 const PAUSE: u128 = 200;
 
-/// How far a job is, told on standard error where that is a terminal, and nowhere else: how many messages are answered so
-/// far, and how many that is a second.
+/// How far a job is, shown on standard error where that is a terminal, and nowhere else: how many messages are
+/// answered so far, and how many that is a second.
 #[derive(Drop)]
 pub struct Progress {
     /// How many messages are answered.
@@ -18,7 +18,7 @@ pub struct Progress {
 }
 
 impl Progress {
-    /// Of a job that begins, if it is to be told at all.
+    /// Of a job that begins, if it is to be shown at all.
     pub fn new(rt: &HostRuntime, is_told: bool) -> Progress {
         let times = if is_told && rt.stderr().is_terminal() {
             match Instant::now(rt) {

@@ -12,7 +12,7 @@ use base64::engine::general_purpose::STANDARD;
 use hex::FromHexError;
 use std::alloc::{AllocError, Global};
 
-/// How the octets of a message stand in a text.
+/// How the octets of a message are written in a text.
 #[derive(Clone, Copy, PartialEq, Eq, Drop)]
 pub enum OctetForm {
     /// Hexadecimal digits on one line, two an octet: words between blanks, with or without 0x in front of each, and
@@ -26,7 +26,7 @@ pub enum OctetForm {
     Binary,
 }
 
-/// The octets that stand in a text of this form; `None` where it is none.
+/// The octets that are written in a text of this form; `None` where it is none.
 ///
 /// # Errors
 /// `AllocError` where an allocation failed.
@@ -93,7 +93,7 @@ pub(crate) fn is_blank(octet: u8) -> bool
 }
 
 /// The word without the 0x in front of it.
-fn unprefixed(word: &[u8]) -> &[u8]
+pub(crate) fn unprefixed(word: &[u8]) -> &[u8]
     ensures { result.now ≡ unprefixed word.now }
 {
     match word {

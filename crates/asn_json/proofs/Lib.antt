@@ -12,3 +12,5 @@ pub mod NameIndexes
 pub mod WrittenParts
 pub mod Wider
 pub mod Older
+pub mod KeysOnce
+pub mod TextFaults

@@ -6,4 +6,5 @@ pub mod Parts
 pub mod Paths
 pub mod Readers
 pub mod Shown
+pub mod Texts
 pub mod Written

@@ -8,8 +8,11 @@ mod leaves;
 mod names;
 mod paths;
 mod read;
+mod repeated;
+mod text;
 mod write;
 
-pub use fault::JsonFault;
+pub use fault::{JsonFault, TextFault};
 pub use read::{from_json, value_shown};
+pub use text::json_in;
 pub use write::{to_json, to_json_from};

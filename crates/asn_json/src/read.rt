@@ -24,16 +24,19 @@ use asn_values::{Alt, AsnType, Checked, Field, Need, Value, fits};
 use serde_json::{Map, Value as Json};
 use std::alloc::Global;
 
-/// The value that the JSON shows, in the form that `to_json` writes. Hexadecimal digits may be capital letters too, and
-/// a component with a DEFAULT that is missing has that value.
+/// The value that the JSON shows, in the form that `to_json` writes. Hexadecimal digits may be capital letters too,
+/// and a component with a DEFAULT that is missing has that value.
 ///
 /// # Errors
-/// `Shape` where the JSON is not of the shape of the type, with the path of the first node where it is not: a node is
-/// looked at before its parts, each part with all in it before the next, in the order of components and elements, and
-/// the unknown keys of an object after its components. Of the shape are the kind of each node, numbers that are
-/// integers of the profile, the names of items, keys and alternatives, one key for a CHOICE, even counts of hexadecimal
-/// digits, and the characters 0 and 1 of bits; a missing or unknown key is told at its object. `NotOfType` where the
-/// shape is right and the value is none of the type. `Memory` where an allocation failed.
+/// `Shape` where the JSON is not of the shape of the type, with the path of the first node where it is not. A node
+/// comes before its parts, and each part with all in it before the next. Components and elements come in their order,
+/// and the unknown keys of an object after its components.
+///
+/// Of the shape are the kind of each node, integers of the profile, and the names of items, keys and alternatives. So
+/// are one key for a CHOICE, even counts of hexadecimal digits, and the characters 0 and 1 of bits. A missing or
+/// unknown key is reported at its object.
+///
+/// `NotOfType` where the shape is right and the value is none of the type. `Memory` where an allocation failed.
 pub fn from_json(alloc: Global, ty: &Checked, json: &Json) -> Result<Value, JsonFault>
     ensures shown { IfOk result (λ v. Shown (shape_of ty.now) (view json.now) (datum_of v)) }
     ensures fits { IfOk result (λ v. Fits (shape_of ty.now) (datum_of v)) }
@@ -53,10 +56,10 @@ pub fn from_json(alloc: Global, ty: &Checked, json: &Json) -> Result<Value, Json
     }
 }
 
-/// The value that the JSON shows, whether or not it fits the type, as `asn_view::misfit` then tells.
+/// The value that the JSON shows, whether or not it fits the type, as `asn_view::misfit` then reports.
 ///
 /// # Errors
-/// `Shape` and `Memory`, as `from_json` tells them.
+/// `Shape` and `Memory`, as `from_json` reports them.
 pub fn value_shown(alloc: Global, ty: &Checked, json: &Json) -> Result<Value, JsonFault>
     ensures shown { IfOk result (λ v. Shown (shape_of ty.now) (view json.now) (datum_of v)) }
     ensures refused { IfErr result (λ fault. Refused (shape_of ty.now) (view json.now) fault) }

@@ -18,16 +18,17 @@ use std::alloc::{AllocError, Global};
 
 /// The JSON of the value.
 ///
-/// BOOLEAN is `true` or `false`, NULL `null`, INTEGER an integer, ENUMERATED the name of the item,
-/// BIT STRING a string of the characters `0` and `1`, OCTET STRING a string of hexadecimal digits in
-/// small letters, a character string a string. SEQUENCE is an object, with no member for an absent
-/// component and one for each other, SEQUENCE OF an array, CHOICE an object with one member, the name of
-/// the alternative and its value. Of what a newer sender sent: an item that the type has not is the string of `?` and
-/// its number in decimal, an alternative that it has not an object whose one member is `?` with the tag in decimal and
-/// `null`; `from_json` reads neither.
+/// - BOOLEAN is `true` or `false`, NULL `null`, INTEGER an integer, ENUMERATED the name of the item.
+/// - BIT STRING is a string of the characters `0` and `1`, OCTET STRING one of hexadecimal digits in small letters, a
+///   character string a string.
+/// - SEQUENCE is an object without a member for an absent component, SEQUENCE OF an array.
+/// - CHOICE is an object with one member, the name of the alternative and its value.
+/// - An item of a newer sender that the type has not is the string of `?` and its number in decimal.
+/// - An alternative that the type has not is an object whose one member is `?` with the tag in decimal and `null`.
+///   `from_json` reads neither.
 ///
 /// # Errors
-/// `NotOfType` exactly where the value is none of the type, nor one that a receiver gives of such a message; `Memory`
+/// `NotOfType` exactly where the value is none of the type, nor one that a receiver gives of such a message. `Memory`
 /// where an allocation failed. Never `Shape`.
 pub fn to_json(alloc: Global, ty: &Checked, value: &Value) -> Result<Json, JsonFault>
     ensures written { IfOk result (λ j. Written (shape_of ty.now) (datum_of value.now) (view j)) }
@@ -49,7 +50,7 @@ pub fn to_json(alloc: Global, ty: &Checked, value: &Value) -> Result<Json, JsonF
 /// The JSON of a value in any form from which it can be written: what [`to_json`] gives of this value as a tree.
 ///
 /// # Errors
-/// `NotOfType` only where the value is none of the type, nor one that a receiver gives of a message of a newer sender;
+/// `NotOfType` only where the value is none of the type, nor one that a receiver gives of a message of a newer sender.
 /// `Memory` where an allocation failed, which may come before it is seen that the value is none. Never `Shape`.
 pub fn to_json_from<V: Source>(alloc: Global, ty: &Checked, value: V) -> Result<Json, JsonFault>
     ensures written { IfOk result (λ j. Written (shape_of ty.now) (V.datum value) (view j)) }

@@ -15,9 +15,9 @@ use std::alloc::{AllocError, Global};
 /// How JSON is laid out.
 #[derive(Clone, Copy, Debug, PartialEq, Eq, Drop)]
 pub struct Layout {
-    /// Whether the members of objects stand in the order of the type's components, and not in that of their names.
+    /// Whether the members of objects are in the order of the type's components, and not in that of their names.
     pub is_declared: bool,
-    /// Whether each member and element has a line of its own, two blanks further in than what it stands in.
+    /// Whether each member and element has a line of its own, two blanks further in than what it is in.
     pub is_pretty: bool,
 }
 

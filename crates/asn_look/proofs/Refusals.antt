@@ -24,3 +24,7 @@ one_line (octet ∷ octets) is =
 pub told_in_one_line : (path refusal : List ℕ) → is_path path ≡ true → refusal ≡ codes "! skipped " ++ (path ++ 10 ∷ []) → IsEndedLine refusal
 told_in_one_line path refusal is told =
     (codes "! skipped " ++ path, told ∙ sym (append_assoc (codes "! skipped ") path (10 ∷ [])), one_line path is)
+
+pub shape_in_one_line : (path refusal : List ℕ) → is_path path ≡ true → refusal ≡ codes "! shape " ++ (path ++ 10 ∷ []) → IsEndedLine refusal
+shape_in_one_line path refusal is told =
+    (codes "! shape " ++ path, told ∙ sym (append_assoc (codes "! shape ") path (10 ∷ [])), one_line path is)

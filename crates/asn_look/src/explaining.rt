@@ -1,9 +1,10 @@
 //! Why a line is refused, in words.
+use crate::newer_json::KEY_TWICE;
 use crate::typed::{type_at, type_words};
 use crate::wanted::wanted_words;
 use asn_explain::{Explanation, explain};
 use asn_jobs::{Order, RuleName};
-use asn_json::{JsonFault, value_shown};
+use asn_json::{JsonFault, TextFault, json_in, value_shown};
 use asn_newer::{NewerFault, ReadNewer};
 use asn_oer::Oer;
 use asn_per::Per;
@@ -17,6 +18,10 @@ use std::alloc::{AllocError, Global};
 
 /// What is said of an encoding that is longer than any.
 const TOO_LONG: &str = "the encoding has more than 268,435,455 octets";
+
+/// Why a message is refused that `newer` reads.
+const READ_BY_NEWER: &str =
+    "the sender has another version of the type; the command newer reads this message";
 
 /// Why a line was refused, in words: of octets the component in which the refused unit lies, with its type, of a value the
 /// first part that does not fit.
@@ -45,7 +50,7 @@ pub fn why_refused(
 pub fn over_words(alloc: Global, taken: &Taken) -> Result<String, AllocError> {
     let Taken { entries, octets } = *taken;
     format!(in alloc;
-        "the value takes {entries} entries and {octets} octets of strings, and --budget allows less"
+        "the value takes {entries} entries and {octets} octets of strings, which is more than --budget allows"
     )
 }
 
@@ -54,7 +59,7 @@ fn why_no_octets(alloc: Global, fault: &FromHexError) -> Result<String, AllocErr
     match fault {
         FromHexError::InvalidHexCharacter { index, .. } => {
             let column = (*index).saturating_add(1);
-            format!(in alloc; "column {column}: no hexadecimal digit")
+            format!(in alloc; "column {column}: not a hexadecimal digit")
         }
         FromHexError::OddLength | FromHexError::InvalidStringLength => {
             String::from_str(alloc, "an odd number of hexadecimal digits")
@@ -77,14 +82,29 @@ fn why_no_message(
             RuleName::Oer => why_not_newer::<Oer>(alloc, ty, octets),
         };
     }
-    let told = match rules {
-        RuleName::Per => explain::<Per>(alloc, ty, octets)?,
-        RuleName::Oer => explain::<Oer>(alloc, ty, octets)?,
+    let (told, is_newer) = match rules {
+        RuleName::Per => (
+            explain::<Per>(alloc, ty, octets)?,
+            reads_newer::<Per>(alloc, ty, octets),
+        ),
+        RuleName::Oer => (
+            explain::<Oer>(alloc, ty, octets)?,
+            reads_newer::<Oer>(alloc, ty, octets),
+        ),
     };
-    match told {
-        Some(explanation) => words_of(alloc, ty, rules, &explanation),
-        None => String::from_str(alloc, TOO_LONG),
+    let Some(explanation) = told else {
+        return String::from_str(alloc, TOO_LONG);
+    };
+    if is_newer {
+        let place = place_words(alloc, ty, explanation.path.as_str())?;
+        return format!(in alloc; "in {place}: {READ_BY_NEWER}");
     }
+    words_of(alloc, ty, rules, &explanation)
+}
+
+/// Whether `newer` reads the octets.
+fn reads_newer<R: ReadNewer>(alloc: Global, ty: &Checked, octets: &[u8]) -> bool {
+    R::read_newer(alloc, ty, octets).is_ok()
 }
 
 /// Why octets are the message of no version of the type.
@@ -95,9 +115,9 @@ fn why_not_newer<R: ReadNewer>(
 ) -> Result<String, AllocError> {
     let words = match R::read_newer(alloc, ty, octets) {
         Ok(_) => "",
-        Err(NewerFault::Refused) => "no message of any version of the type begins so",
-        Err(NewerFault::Truncated) => "more octets are wanted",
-        Err(NewerFault::TooManyAdditions) => "more additions or alternatives than are read",
+        Err(NewerFault::Refused) => "no version of the type has a message that begins like this",
+        Err(NewerFault::Truncated) => "the message ends too early",
+        Err(NewerFault::TooManyAdditions) => "too many extension additions or alternatives",
         Err(NewerFault::TooLong) => TOO_LONG,
         Err(NewerFault::Memory) => return Err(AllocError),
     };
@@ -117,7 +137,7 @@ fn words_of(
     let place = place_words(alloc, ty, explanation.path.as_str())?;
     let reason = match explanation.fault {
         DecodeFault::Refused { why, .. } => reason_words(rules, why),
-        DecodeFault::Truncated { .. } => "more octets are wanted",
+        DecodeFault::Truncated { .. } => "the message ends too early",
         _ => TOO_LONG,
     };
     format!(in alloc; "in {place}: {reason}")
@@ -137,33 +157,43 @@ fn place_words(alloc: Global, ty: &Checked, path: &str) -> Result<String, AllocE
 /// What the word for the reason of a refusal means under these rules.
 fn reason_words(rules: RuleName, why: Why) -> &'static str {
     match why {
-        Why::Sealed => "what is inside the field is no encoding of its type",
-        Why::Default => "the DEFAULT is written out, and the canonical encoding leaves it out",
-        Why::Length => "no length of the type begins so, or it is not written as shortly as can be",
+        Why::Sealed => "the content of the field is not an encoding of its type",
+        Why::Default => "the component has its default value, which must not be encoded",
+        Why::Length => "this length is not allowed, or is not in its shortest form",
         Why::Extension => {
-            "an extension bit, a count of additions, or their presence bits (all 0, say), that no encoding has"
+            "these extension bits are not allowed: an extension bit, a count of additions, or presence bits that are all 0"
         }
-        Why::Character => "no character of the string type",
+        Why::Character => "the string type does not have this character",
         Why::Padding => match rules {
-            RuleName::Per => "the bits that fill up an octet are not all 0",
-            RuleName::Oer => {
-                "the bits that fill up an octet are not all 0, or the octet that says how many are unused is wrong"
-            }
+            RuleName::Per => "padding bits must be 0",
+            RuleName::Oer => { "padding bits must be 0, or the number of unused bits is wrong" }
         },
-        Why::Number => "no number of the type begins so, or it is not written as shortly as can be",
+        Why::Number => "this number or item is not allowed, or is not in its shortest form",
     }
 }
 
 /// Why a text is no JSON of a value of the type that has an encoding.
 fn why_no_value(alloc: Global, ty: &Checked, line: &[u8]) -> Result<String, AllocError> {
-    match Json::from_slice(alloc, line) {
+    match json_in(alloc, line) {
         Ok(json) => why_not_shown(alloc, ty, &json),
+        Err(TextFault::NotJson) => why_no_json(alloc, line),
+        Err(TextFault::KeyTwice { path }) => format!(in alloc; "in {path}: {KEY_TWICE}"),
+        Err(TextFault::Memory) => Err(AllocError),
+    }
+}
+
+/// Why a text is no JSON.
+fn why_no_json(alloc: Global, line: &[u8]) -> Result<String, AllocError> {
+    match Json::from_slice(alloc, line) {
+        Ok(_) => String::from_str(alloc, "the line is not JSON"),
         Err(fault) => {
             let column = fault.column();
             match fault.classify() {
                 Category::Memory => Err(AllocError),
                 Category::Eof => format!(in alloc; "column {column}: the JSON ends too early"),
-                _ => format!(in alloc; "column {column}: no JSON goes on so"),
+                _ => format!(in alloc;
+                    "column {column}: unexpected character, number too large, or too deep"
+                ),
             }
         }
     }

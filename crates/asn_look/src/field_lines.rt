@@ -1,5 +1,5 @@
 //! Messages field by field.
-ghost use Rattle.std.specs.Prelude.{IfOk};
+ghost use Rattle.std.specs.Prelude.{IfOk, IfSome};
 ghost use Rattle.asn_values.specs.View.{shape_of};
 ghost use Rattle.asn_fields.specs.Tells.{Tells};
 ghost use Rattle.asn_look.specs.Named.{ruling_of};
@@ -9,8 +9,10 @@ use crate::fault::ShowFault;
 use crate::fronts::front_len;
 use crate::looking::written;
 use crate::streams::{Next, next_message};
-use asn_fields::{MessageFields, PAGE_END, fields, page_head, page_note};
-use asn_jobs::{OctetForm, Order, Place, RuleName, RunFault, next_text, octets_in, place_text};
+use asn_fields::{MessageFields, PAGE_END, fields, fields_within, page_head, page_note};
+use asn_jobs::{
+    OFFSETS, OctetForm, Order, Place, RuleName, RunFault, is_dump, next_text, octets_in, place_text,
+};
 use asn_oer::Oer;
 use asn_per::Per;
 use asn_request::asking::Forms;
@@ -30,8 +32,10 @@ pub struct Shown<'t> {
     pub forms: Forms,
     /// Whether they are shown as a page of HTML.
     pub is_page: bool,
-    /// Whether standard error tells why a message is refused.
+    /// Whether standard error says why a message is refused.
     pub is_explained: bool,
+    /// The most fields that a message may have.
+    pub most: u32,
 }
 
 /// What was shown so far.
@@ -43,8 +47,8 @@ struct SoFar {
     all_good: bool,
 }
 
-/// Shows the messages of the files, or of these lines where there are none. Gives the exit status: 0, or 1 where one is no
-/// message.
+/// Shows the messages of the files, or of these lines where there are none. Gives the exit status: 0, or 1 where one
+/// is no message.
 pub fn show_messages<'a, R: BufRead>(
     rt: &HostRuntime,
     shown: Shown<'_>,
@@ -118,8 +122,8 @@ fn show_input<'a, R: BufRead>(
     Err(ShowFault::Memory)
 }
 
-/// Shows messages that stand one after the other in an input, each as soon as its last octet is there. After octets that
-/// are refused nothing is read.
+/// Shows messages that stand one after the other in an input, each as soon as its last octet is there. After octets
+/// that are refused nothing is read.
 fn show_stream<'a, R: BufRead>(
     rt: &HostRuntime,
     shown: Shown<'_>,
@@ -166,6 +170,15 @@ fn show_text<'a>(
     text: &[u8],
     so_far: &mut SoFar,
 ) -> Result<(), ShowFault<'a>> {
+    let form = match shown.forms.given {
+        Some(form) => form,
+        None => OctetForm::Hex,
+    };
+    if is_dump(form, text) {
+        let place_words = place_text(rt.alloc(), place)?;
+        let _ = eprintln!(rt; "{place_words}: {OFFSETS}");
+        return show_none(rt, shown, place, so_far);
+    }
     let Some(octets) = octets_of(rt.alloc(), shown.forms, text)? else {
         return show_none(rt, shown, place, so_far);
     };
@@ -248,7 +261,9 @@ fn show_message<'a>(
     octets: &[u8],
     so_far: &mut SoFar,
 ) -> Result<(), ShowFault<'a>> {
-    let (text, is_good) = message_text(rt.alloc(), shown, place, octets)?;
+    let Some((text, is_good)) = message_text(rt.alloc(), shown, place, octets)? else {
+        return show_over(rt, shown, place, so_far);
+    };
     so_far.all_good &= is_good;
     put(rt, shown, text.as_str(), so_far)?;
     if !is_good && shown.is_explained {
@@ -257,20 +272,44 @@ fn show_message<'a>(
     Ok(())
 }
 
-/// What is shown of the message that these octets are to be, and whether they are one.
+/// Refuses a message that has too many fields.
+fn show_over<'a>(
+    rt: &HostRuntime,
+    shown: Shown<'_>,
+    place: Place<'_>,
+    so_far: &mut SoFar,
+) -> Result<(), ShowFault<'a>> {
+    let most = shown.most;
+    let place = place_text(rt.alloc(), place)?;
+    let refusal = format!(in rt.alloc(); "! over budget: more than {most} fields")?;
+    let text = if shown.is_page {
+        page_note(rt.alloc(), place.as_str(), refusal.as_str())?
+    } else {
+        format!(in rt.alloc(); "{refusal}\n")?
+    };
+    let _ = eprintln!(rt; "{place}: the message has more than {most} fields; --budget N allows N");
+    so_far.all_good = false;
+    put(rt, shown, text.as_str(), so_far)
+}
+
+/// What is shown of the message that these octets are to be, and whether they are one; `None` if it has too many
+/// fields.
 fn message_text(
     alloc: Global,
     shown: Shown<'_>,
     place: Place<'_>,
     octets: &[u8],
-) -> Result<(String, bool), AllocError> {
-    let told = fields_by(alloc, shown.ty, shown.rules, octets)?;
+) -> Result<Option<(String, bool)>, AllocError> {
+    let most = shown.most as usize;
+    let Some(told) = fields_within_by(alloc, shown.ty, shown.rules, octets, most)? else {
+        return Ok(None);
+    };
     let text = if shown.is_page {
         told.section(alloc, place_text(alloc, place)?.as_str(), octets)?
     } else {
         told.lines(alloc, octets)?
     };
-    Ok((text, told.answer.is_ok()))
+    Ok(Some((text, told.answer.is_ok())))
 }
 
 /// Tells on standard error why these octets are no message.
@@ -302,8 +341,8 @@ fn put<'a>(
     written(rt, text)
 }
 
-/// The fields of octets by the rules of this name: one after the other they are the units of the octets, up to the last or
-/// to the refused one, and say the value that the octets encode.
+/// The fields of octets by the rules of this name: one after the other they are the units of the octets, up to the
+/// last or to the refused one, and say the value that the octets encode.
 ///
 /// # Errors
 /// `AllocError` where an allocation failed.
@@ -318,5 +357,24 @@ pub fn fields_by(
     match rules {
         RuleName::Per => fields::<Per>(alloc, ty, octets),
         RuleName::Oer => fields::<Oer>(alloc, ty, octets),
+    }
+}
+
+/// The fields of octets, as `fields_by` gives them, if they are at most `most`; `None` if there are more.
+///
+/// # Errors
+/// `AllocError` if an allocation failed.
+pub fn fields_within_by(
+    alloc: Global,
+    ty: &Checked,
+    rules: RuleName,
+    octets: &[u8],
+    most: usize,
+) -> Result<Option<MessageFields>, AllocError>
+    ensures { IfOk result (λ o. IfSome o (Tells (ruling_of rules) (shape_of ty.now) octets.now)) }
+{
+    match rules {
+        RuleName::Per => fields_within::<Per>(alloc, ty, octets, most),
+        RuleName::Oer => fields_within::<Oer>(alloc, ty, octets, most),
     }
 }

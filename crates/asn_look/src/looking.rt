@@ -1,5 +1,5 @@
 //! What is shown of a module: its types, values of a type to begin from, and messages field by field.
-use crate::examples::example_line;
+use crate::examples::example_within;
 use crate::fault::ShowFault;
 use crate::field_lines::{Shown, show_messages};
 use asn_fields::outline;
@@ -8,6 +8,12 @@ use asn_request::asking::Asking;
 use asn_request::look::{Look, Looking};
 use asn_values::Checked;
 use std::io::BufRead;
+
+/// The most parts of an example, and entries of the value of a line of JSON, unless `--budget` says otherwise.
+pub const MOST_ENTRIES: u32 = 1_000_000;
+
+/// The most fields of a message, unless `--budget` says otherwise.
+const MOST_FIELDS: u32 = 100_000;
 
 /// Shows what is asked for of a module, and gives the exit status; `None` where it has no type of the name, and nothing is
 /// shown.
@@ -49,6 +55,7 @@ fn show_type<'a, R: BufRead>(
                 forms: asking.forms,
                 is_page: look.is_page,
                 is_explained: asking.is_explained,
+                most: asking.budget.unwrap_or(MOST_FIELDS),
             };
             show_messages(rt, shown, asking.messages.as_slice(), lines)
         }
@@ -56,7 +63,7 @@ fn show_type<'a, R: BufRead>(
             written(rt, outline(rt.alloc(), name, ty)?.as_str())?;
             Ok(0)
         }
-        Looking::Example => show_examples(rt, look, ty),
+        Looking::Example => show_examples(rt, look, ty, asking.budget.unwrap_or(MOST_ENTRIES)),
     }
 }
 
@@ -72,19 +79,47 @@ fn show_names<'a>(rt: &HostRuntime, module: &Module) -> Result<u8, ShowFault<'a>
 }
 
 /// Writes as many values as are asked for, a line each: those of the seed and of the numbers after it, from 0 where none is
-/// given; where neither a seed nor a count is given, the least value.
-fn show_examples<'a>(rt: &HostRuntime, look: &Look, ty: &Checked) -> Result<u8, ShowFault<'a>> {
+/// given; where neither a seed nor a count is given, the least value. Gives the exit status: 1 where a value takes more
+/// than `most` entries, and none is written after it.
+fn show_examples<'a>(
+    rt: &HostRuntime,
+    look: &Look,
+    ty: &Checked,
+    most: u32,
+) -> Result<u8, ShowFault<'a>> {
     let Look { seed, count, .. } = *look;
     if seed.is_none() && count.is_none() {
-        written(rt, example_line(rt.alloc(), ty, None)?.as_str())?;
-        return Ok(0);
+        return show_example(rt, ty, None, most);
     }
     let first = u64::from(seed.unwrap_or(0));
     for later in 0..u64::from(count.unwrap_or(1)) {
-        let line = example_line(rt.alloc(), ty, Some(first.saturating_add(later)))?;
-        written(rt, line.as_str())?;
+        let status = show_example(rt, ty, Some(first.saturating_add(later)), most)?;
+        if status > 0 {
+            return Ok(status);
+        }
     }
     Ok(0)
+}
+
+/// Writes the value of a seed, or the least one, and gives the exit status.
+fn show_example<'a>(
+    rt: &HostRuntime,
+    ty: &Checked,
+    seed: Option<u64>,
+    most: u32,
+) -> Result<u8, ShowFault<'a>> {
+    match example_within(rt.alloc(), ty, seed, u64::from(most))? {
+        Some(line) => {
+            written(rt, line.as_str())?;
+            Ok(0)
+        }
+        None => {
+            let _ = eprintln!(rt;
+                "the value has more than {most} components, elements and items of strings; --budget N allows N"
+            );
+            Ok(1)
+        }
+    }
 }
 
 /// Writes to standard output.

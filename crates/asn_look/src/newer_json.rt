@@ -7,6 +7,7 @@ ghost use Rattle.asn_look.specs.Refusals.{is_of_path, is_path, RefusesInOneLine}
 use crate::laying::value_text;
 use crate::paths::path_text;
 use asn_jobs::RuleName;
+use asn_json::{TextFault, json_in};
 use asn_json_layout::Layout;
 use asn_newer::{NewerAt, NewerFault, ReadNewer, SkippedAt};
 use asn_oer::Oer;
@@ -18,10 +19,13 @@ use std::alloc::{AllocError, Global};
 
 /// Why a line is refused that is no object as it is written here.
 const NO_OBJECT: &str =
-    "an object with the members value and skipped is wanted, as newer --json writes it";
+    "expected an object with the members value and skipped, as newer --json prints it";
+
+/// Why a line is refused that has a key twice.
+pub(crate) const KEY_TWICE: &str = "the object has this key twice";
 
 /// Why a line is refused of which something was skipped.
-const WOULD_BE_LOST: &str = "the type does not have what was skipped there, and it would be lost";
+const WOULD_BE_LOST: &str = "the type does not have this addition, and encoding would lose it";
 
 /// The JSON of what is read of the message that a line of hexadecimal is: an object with its value, which has the order
 /// of members that is asked for, and with the fields that are skipped. `None` where the line is no such message.
@@ -115,11 +119,31 @@ pub enum TakenBack {
 pub fn taken_back(alloc: Global, line: &[u8]) -> Result<TakenBack, AllocError>
     ensures { IfOk result RefusesInOneLine }
 {
-    match Json::from_slice(alloc, line) {
+    match json_in(alloc, line) {
         Ok(whole) => taken_of(alloc, &whole),
-        Err(fault) if fault.is_memory() => Err(AllocError),
-        Err(_) => refused(alloc, "! json", "the line is no JSON"),
+        Err(TextFault::NotJson) => refused(alloc, "! json", "the line is not JSON"),
+        Err(TextFault::KeyTwice { path }) => refused_key(alloc, path.as_str()),
+        Err(TextFault::Memory) => Err(AllocError),
     }
+}
+
+/// The line that refuses an object with a key twice. The path is shown only if it has the form of one.
+fn refused_key(alloc: Global, path: &str) -> Result<TakenBack, AllocError>
+    ensures { IfOk result RefusesInOneLine }
+{
+    if is_path(path.as_bytes()) {
+        return key_twice_at(alloc, path);
+    }
+    refused(alloc, "! shape $", KEY_TWICE)
+}
+
+/// The line that refuses an object with a key twice, with the path of the key.
+fn key_twice_at(alloc: Global, path: &str) -> Result<TakenBack, AllocError>
+    requires { IsTrue (is_path path.now) }
+    ensures { IfOk result RefusesInOneLine }
+{
+    let refusal = format!(in alloc; "! shape {path}\n")?;
+    Ok(TakenBack::Refused(refusal, KEY_TWICE))
 }
 
 /// The same of the JSON of the line.

@@ -16,7 +16,7 @@ use asn_values::Checked;
 use std::alloc::Global;
 use std::io::{BufRead, ErrorKind};
 
-/// What stands next in an input.
+/// What comes next in an input.
 #[derive(Clone, Copy, PartialEq, Eq, Drop)]
 pub enum Next {
     /// A message.

@@ -2,8 +2,8 @@
 use asn_values::{AsnType, Bounds, Size, TextKind};
 use std::alloc::{AllocError, Global};
 
-/// The type of the part at a path of the names and indexes that `asn_explain`, `asn_view` and `asn_json` tell; `None` where
-/// the path leads to none.
+/// The type of the part at a path of the names and indexes that `asn_explain`, `asn_view` and `asn_json` return;
+/// `None` where the path leads to none.
 pub fn type_at<'t>(ty: &'t AsnType, path: &str) -> Option<&'t AsnType> {
     let mut here = ty;
     for piece in path.split('.') {

@@ -12,8 +12,8 @@ enum WrongKey<'a> {
     Unknown(&'a str),
 }
 
-/// What is wanted in the place of the JSON at a path, where a part of this type stands: the key that is missing or unknown,
-/// if the keys of an object are what is wrong, and the JSON that stands for a value of the type.
+/// What is expected instead of the JSON at a path, where a part of this type belongs. That is the key that is missing
+/// or unknown, if the keys of an object are wrong, and the JSON of a value of the type.
 pub fn wanted_words(
     alloc: Global,
     part: &AsnType,
@@ -28,18 +28,18 @@ pub fn wanted_words(
     };
     match wrong {
         Some(WrongKey::Missing(name)) => {
-            format!(in alloc; "the key {name} is missing; {wanted} is wanted")
+            format!(in alloc; "the key {name} is missing; expected {wanted}")
         }
         Some(WrongKey::Unknown(key)) => {
             let key = Json::try_from_str(alloc, key)?.to_string(alloc)?;
-            format!(in alloc; "the key {key} is unknown; {wanted} is wanted")
+            format!(in alloc; "the key {key} is unknown; expected {wanted}")
         }
-        None => format!(in alloc; "{wanted} is wanted"),
+        None => format!(in alloc; "expected {wanted}"),
     }
 }
 
-/// The JSON Pointer (RFC 6901) of a path from `$`: `/list/3/x` of `$.list[3].x`. No name in a path has a character that a
-/// pointer writes otherwise.
+/// The JSON Pointer (RFC 6901) of a path from `$`: `/list/3/x` of `$.list[3].x`. No name in a path has a character
+/// that a pointer writes otherwise.
 fn pointer_of(alloc: Global, path: &str) -> Result<String, AllocError> {
     let mut pointer = String::new(alloc);
     for character in path.chars() {
@@ -52,8 +52,8 @@ fn pointer_of(alloc: Global, path: &str) -> Result<String, AllocError> {
     Ok(pointer)
 }
 
-/// The first key for which an object shows no value of the type, as `asn_json::from_json` looks at them: the components in
-/// their order, and then the keys. Of an object for a CHOICE it is the only key.
+/// The first key for which an object shows no value of the type, as `asn_json::from_json` looks at them: the
+/// components in their order, and then the keys. Of an object for a CHOICE it is the only key.
 fn wrong_key<'a>(ty: &'a AsnType, json: &'a Json) -> Option<WrongKey<'a>> {
     let object = json.as_object()?;
     match ty {

@@ -107,7 +107,7 @@ impl Message {
         }
     }
 
-    /// Becomes this value. `None` where memory is wanting, and of a value that fits no type: it is NULL then.
+    /// Becomes this value. `None` if an allocation failed, and for a value that fits no type: it is NULL then.
     pub fn set(&mut self, value: &Value) -> Option<()>
         ensures set { IsSome result → value_seen self.new ≡ datum_of value.now }
         ensures none { IsNone result → value_seen self.new ≡ nothing }
@@ -140,12 +140,13 @@ impl Message {
         )
     }
 
-    /// The JSON of its value by this type, which is what `asn_json::to_json` gives of `to_value`. No tree is built: beside
-    /// the slots stand the values without parts, once more.
+    /// The JSON of its value by this type, which is what `asn_json::to_json` gives of `to_value`. No tree is built:
+    /// next to the slots are the values without parts, once more.
     ///
     /// # Errors
-    /// `NotOfType` only where the value is none of the type, nor one that a receiver gives of a message of a newer sender;
-    /// `Memory` where an allocation failed, which may come before it is seen that the value is none. Never `Shape`.
+    /// `NotOfType` only where the value is none of the type, nor one that a receiver gives of a message of a newer
+    /// sender; `Memory` where an allocation failed, which may come before it is seen that the value is none. Never
+    /// `Shape`.
     pub fn to_json(&self, alloc: Global, ty: &Checked) -> Result<Json, JsonFault>
         ensures written { IfOk result (λ j. Written (shape_of ty.now) (value_seen self.now) (view j)) }
         ensures refused { IfErr result (λ fault. NoJson (shape_of ty.now) (value_seen self.now) fault) }
@@ -157,7 +158,7 @@ impl Message {
     }
 
     /// The complete encoding of its value by the rules R, which is what `encode` gives of `to_value`. No tree is built:
-    /// beside the slots stand the values without parts, once more.
+    /// next to the slots are the values without parts, once more.
     ///
     /// # Errors
     /// `NotOfType` if the value does not fit the type, `TooLong` if it fits and its encoding has more than 268,435,455
@@ -178,7 +179,7 @@ impl Message {
         encode_from::<R, Leafed<'_>>(alloc, ty, Leafed::new(slots, octets, leaves.as_slice()))
     }
 
-    /// The value beside this type. Whether it is one of the type does not matter: a part that the type has not is not
+    /// The value with this type. Whether it is one of the type does not matter: a part that the type has not is not
     /// found. Allocates nothing.
     pub fn view<'a>(&'a self, ty: &'a Checked) -> MessageView<'a>
         ensures { seen result ≡ typed (shape_of ty.now) (value_seen self.now) }

@@ -10,7 +10,7 @@ ghost use Rattle.asn_message.specs.Slots.{octets_at, bits_at};
 use asn_bits::internal::low_octet;
 use std::alloc::Global;
 
-/// Where a string stands among the octets of a message.
+/// Where a string lies among the octets of a message.
 #[derive(Clone, Copy)]
 pub struct Span {
     pub begin: u32,
@@ -61,7 +61,7 @@ pub struct Slot {
 pub struct Room {
     pub slots: Vec<Slot>,
     pub octets: Vec<u8>,
-    /// How many components that are absent stand after the last slot, and before the next one of their SEQUENCE.
+    /// How many absent components follow the last slot, before the next one of their SEQUENCE.
     pub absent: u32,
 }
 
@@ -275,8 +275,8 @@ fn push_eight(to: &mut Vec<u8>, eight: &[u8; 8]) -> Option<()>
     to.extend_from_slice(eight).ok()
 }
 
-/// The bits of an octet, an octet for each. Each power of 2^9 puts them higher by nine, so that none of the sums reaches
-/// into another, and bit 7 of each octet of the sum is one of them.
+/// The bits of an octet, an octet for each. Each power of 2^9 puts them higher by nine, so that none of the sums
+/// reaches into another, and bit 7 of each octet of the sum is one of them.
 #[inline(always)]
 fn spread(octet: u8) -> [u8; 8]
     ensures { result ≡ bits 8 octet }

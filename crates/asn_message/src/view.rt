@@ -11,8 +11,8 @@ use asn_values::AsnType;
 use asn_values::internal::part_at;
 use asn_view::Kind;
 
-/// A part of a message beside its type, whose parts are reached by their names. It is some references, and is copied.
-/// What a call of `asn_view::View` tells of a value, the call of the same name tells of this.
+/// A part of a message with its type, whose parts are reached by their names. It is some references, and is copied.
+/// Each call returns what the call of `asn_view::View` of the same name returns for a value.
 #[derive(Clone, Copy)]
 pub struct MessageView<'a> {
     pub(crate) ty: &'a AsnType,

@@ -43,6 +43,10 @@ abbrev pub types_size : List Typed → ℕ
 types_size [] = 0
 types_size (t ∷ ts) = type_size t.shape + types_size ts
 
+-- the most that a module may be that is read without another bound
+abbrev pub most_size : ℕ
+most_size = 10000000
+
 -- as far as it is counted
 abbrev pub capped_size : ℕ → ℕ
 capped_size n = min 4294967296 n

@@ -113,10 +113,12 @@ fn expected(alloc: Global, before: &str) -> Result<String, AllocError> {
     Ok(all)
 }
 
-/// What is wrong with a text that `read` refused with this fault, in words: the line and the column, what stands there,
-/// and what could stand there instead; then the line itself, and under it a mark at the column. A name that is assigned
-/// twice is shown at its second assignment, an unknown one where it is first referred to, and the name of a cycle or of
-/// a type that is none of the profile where it is assigned. Of a fault without a place, what `Display` says of it.
+/// What is wrong with a text that `read` refused with this fault, in words: the line and the column, what is there,
+/// and what could be there instead. Then the line itself follows, and under it a mark at the column.
+///
+/// A name that is assigned twice is shown at its second assignment, and an unknown one where it is first referred to.
+/// The name of a cycle, or of a type that is none of the profile, is shown where it is assigned. Of a fault without a
+/// place, it is what `Display` says of it.
 ///
 /// # Errors
 /// `AllocError` where an allocation failed.

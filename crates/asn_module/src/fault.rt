@@ -32,7 +32,7 @@ pub enum ModuleFault {
     /// constraint that may not stand on the type that a name stands for.
     #[error("out of profile at {at}")]
     OutOfProfile { at: usize },
-    /// An allocation failed.
+    /// An allocation failed, or the module is larger than `read` reads.
     #[error("memory")]
     Memory,
 }

@@ -70,10 +70,18 @@ pub(crate) fn may_stand(head: &Head, constraint: Constraint) -> bool {
     }
 }
 
-/// The head with a constraint more, which is left out where it may not stand there.
+/// The head with a constraint more. Where it may not stand there, only that it is written counts, and its mark.
 pub(crate) fn constrained_head(head: Head, constraint: Constraint) -> Head {
     if !may_stand(&head, constraint) {
-        return head;
+        let marked = match constraint {
+            Constraint::None => return head,
+            Constraint::Range(range) => range.marked,
+            Constraint::Size(size) => size.marked,
+        };
+        return Head {
+            constraint: Some(marked),
+            ..head
+        };
     }
     match constraint {
         Constraint::None => head,

@@ -35,5 +35,5 @@ mod zero_width;
 pub use explaining::explain;
 pub use fault::{BoundFault, ModuleFault};
 pub use module::Module;
-pub use reading::{RefusedText, read, read_explained, read_within};
+pub use reading::{MOST_SIZE, RefusedText, read, read_explained, read_within};
 pub use type_names::TypeNames;

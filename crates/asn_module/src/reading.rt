@@ -3,7 +3,7 @@
 ghost use Rattle.std.specs.Prelude.{◌≡◌, ◌≤◌, ◌⊎◌, None, Some, ℕ, List, IfOk, IfErr, IfSome, MatchOption, MatchResult};
 ghost use Rattle.asn_values.specs.View.{shape_of};
 ghost use Rattle.asn_module.specs.Accepted.{Accepted, ModuleTypes, type_in};
-ghost use Rattle.asn_module.specs.Sizes.{types_size, IsAtMost};
+ghost use Rattle.asn_module.specs.Sizes.{most_size, types_size, IsAtMost};
 ghost use Rattle.asn_module.specs.Bounded.{TellsBound, IsStopped};
 ghost use Rattle.asn_module.specs.Known.{SeenAs};
 ghost use Rattle.asn_module.specs.ModuleView.{types_view};
@@ -82,37 +82,44 @@ pub(crate) fn module_of(
     }
 }
 
-/// The module that a text is (X.680, "module definition"), in the notation of the profile: references followed, and the
-/// bounds along the way met.
+/// The most that a module may be that `read` reads, as `read_within` counts it: some 54 octets of memory for each.
+pub const MOST_SIZE: u32 = 10_000_000;
+
+/// The module that a text is (X.680, "module definition"), in the notation of the profile: references followed, and
+/// the bounds along the way met.
 ///
 /// # Errors
-/// `Memory` where an allocation failed; else the text is no module of the profile, and of several faults the first is
-/// told in this order: `Character`, `Unexpected` or `OutOfProfile` (a token with which no module goes on), `Twice`,
-/// `Unknown`, `Cycle`, `OutOfProfile` (a constraint that may not stand on the type of its reference), `BadType`.
+/// `Memory` where an allocation failed; else the text is no module of the profile. Of several faults the first is
+/// reported, in this order:
+///
+/// - `Character`, `Unexpected` or `OutOfProfile` (a token with which no module goes on);
+/// - `Twice`, `Unknown`, `Cycle`;
+/// - `OutOfProfile` (a constraint that is not allowed on the type of its reference), `BadType`.
 pub fn read(alloc: Global, text: &str) -> Result<Module, ModuleFault>
     // What is read is the module that the text is.
     ensures accepted { IfOk result (λ m. Accepted text.now (types_view m)) }
+    ensures within { IfOk result (λ m. types_size (types_view m).types ≤ most_size) }
     // It tells of each name whether a type of the text refers to it.
     ensures uses { IfOk result (λ m. TellsUses text.now m) }
-    // A text that is a module is read, unless an allocation failed.
+    // A text that is a module is read, unless an allocation failed or it is larger.
     ensures refused { IfErr result (λ e. (e ≡ ModuleFault.Memory → ⊥) → (m : ModuleTypes) →
         Accepted text.now m → ⊥) }
 {
-    match module_of(alloc, text, None) {
+    match module_of(alloc, text, Some(MOST_SIZE)) {
         Ok(Some(module)) => Ok(module),
         Ok(None) => Err(fault_of(alloc, text)),
         Err(_) => Err(ModuleFault::Memory),
     }
 }
 
-/// What `read` answers, of a module that is no larger than `most`: each type of its names and each type inside them counts
-/// one, each item of an ENUMERATED one, and each name in them its octets, with references followed. What is built is no
-/// larger, but for the type of one name, which has at most 10,000 types inside it: so a short text whose references multiply
-/// its types takes no more memory than that. A name that only refers to another takes none, and is counted as it is written
-/// out.
+/// What `read` answers, of a module that is no larger than `most`: each type of its names and each type inside them
+/// counts one, each item of an ENUMERATED one, and each name in them its octets, with references followed. What is
+/// built is no larger, except the type of one name, which has at most 10,000 types inside it: so a short text whose
+/// references multiply its types takes no more memory than that. A name that only refers to another takes none, and is
+/// counted as it is written out.
 ///
 /// # Errors
-/// `TooLarge` where the module is larger; `Module` with what `read` tells. Of a text that is no module either may be told.
+/// `TooLarge` where the module is larger; `Module` with what `read` reports. A text that is no module may get either.
 pub fn read_within(alloc: Global, text: &str, most: u32) -> Result<Module, BoundFault>
     ensures accepted { IfOk result (λ m. Accepted text.now (types_view m)) }
     ensures within { IfOk result (λ m. types_size (types_view m).types ≤ most) }
@@ -136,10 +143,11 @@ pub struct RefusedText {
     pub words: String,
 }
 
-/// What `read` answers, and beside a fault what `explain` says of it: line, column, the line itself with a mark.
+/// What `read` answers, and with a fault what `explain` says of it: line, column, the line itself with a mark.
 ///
 /// # Errors
-/// With the fault that `read` tells; with `Memory` and no words where an allocation failed, of `explain` too.
+/// With the fault that `read` reports; with `Memory` and no words where it reports that, or an allocation of `explain`
+/// failed.
 pub fn read_explained(alloc: Global, text: &str) -> Result<Module, RefusedText>
     ensures accepted { IfOk result (λ m. Accepted text.now (types_view m)) }
     ensures uses { IfOk result (λ m. TellsUses text.now m) }

@@ -6,7 +6,7 @@ use Rattle.asn_module_files.specs.declared.stop.Stop.TheVariants as stop
 -- the exit status where the program stops before its work is done
 abbrev pub stop_status : Stop → ℕ
 stop_status (stop.Unread file) = 3
-stop_status (stop.NotText file line) = 2
+stop_status (stop.NotText file line column) = 2
 stop_status (stop.Notation file line wrong) = 2
 stop_status (stop.NotOfProfile why) = 2
 stop_status (stop.Unserved words) = 2

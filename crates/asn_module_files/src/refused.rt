@@ -3,7 +3,7 @@ use crate::sources::flattened_for;
 use crate::texts::line_of_octet;
 use asn_jobs::Job;
 use asn_module::{Module, ModuleFault, RefusedText, read_explained};
-use asn_published::{Options, PublishedFault};
+use asn_published::{NotText, Options, PublishedFault, text_of_octets};
 use std::alloc::{AllocError, Global};
 
 /// What is said where a text imports from modules that are not given.
@@ -19,7 +19,7 @@ With --plain-bits named bits without a fixed size are a BIT STRING, whose writer
 
 /// What is said where a recursive type is refused.
 const LEVELS: &str = "\
-With --levels N a recursive type has N levels, below which is NULL.
+With --levels N a recursive type has N levels: messages are read in which it stands in itself N - 1 times.
 ";
 
 /// What is said where a type is refused of which the content can be had.
@@ -58,8 +58,8 @@ const CARRIAGE_RETURN: &str = "\
 The line ==== ends in a carriage return, so it does not end the text of the module: only ==== and a line feed do.
 ";
 
-/// What is to be told beside the remarks on published modules: that a text is one of several, and the options by which what
-/// is refused is taken.
+/// What is to be said in addition to the remarks on published modules: that a text is one of several, and the options
+/// by which what is refused is taken.
 ///
 /// # Errors
 /// `AllocError` where an allocation failed.
@@ -73,8 +73,9 @@ pub fn advice_told(alloc: Global, remarks: &str) -> Result<String, AllocError> {
     Ok(told)
 }
 
-/// What is to be told of the text of the module of a job: why it is refused, with its line and a mark under it, or which
-/// types it has where it has none of the name; and where all of standard input is that text, why it has no messages.
+/// What is to be said of the text of the module of a job: why it is refused, with its line and a mark under it, or
+/// which types it has where it has none of the name. Where all of standard input is that text, it says why it has no
+/// messages.
 ///
 /// # Errors
 /// `AllocError` where an allocation failed.
@@ -85,13 +86,24 @@ pub fn text_told(
     job: &Job,
     is_all: bool,
 ) -> Result<String, AllocError> {
-    let text = match std::str::from_utf8(text) {
-        Ok(text) => text,
-        Err(fault) => {
-            let line = line_of_octet(text, fault.valid_up_to());
-            return format!(in alloc; "line {line}: not UTF-8\n");
+    let mut octets = Vec::new(alloc);
+    octets.extend_from_slice(text)?;
+    match text_of_octets(alloc, octets) {
+        Ok(text) => words_told(alloc, text.as_str(), options, job, is_all),
+        Err(NotText { line, column }) => {
+            format!(in alloc; "line {line}, column {column}: not UTF-8\n")
         }
-    };
+    }
+}
+
+/// The same of a text.
+fn words_told(
+    alloc: Global,
+    text: &str,
+    options: Options,
+    job: &Job,
+    is_all: bool,
+) -> Result<String, AllocError> {
     let words = module_told(alloc, text, options, job)?;
     if !is_all || matches!(job, Job::Module) {
         return Ok(words);
@@ -169,8 +181,8 @@ fn refusal_told(
     }
 }
 
-/// The line, counted from 1, at which the reader of published modules finds a fault of the notation; 0 where what it reads
-/// is not taken, and `None` where it is.
+/// The line, counted from 1, at which the reader of published modules finds a fault of the notation; 0 where what it
+/// reads is not taken, and `None` where it is.
 fn published_line(
     alloc: Global,
     text: &str,

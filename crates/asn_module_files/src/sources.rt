@@ -10,32 +10,39 @@ ghost use Rattle.asn_module_files.specs.Sources.{IsInput, IsInputOf, IsOwn, IsOw
 use asn_jobs::{Job, cut_input};
 use asn_module::{BoundFault, Module, ModuleFault, read_within};
 use asn_published::{
-    Flattened, Options, PublishedFault, Status, TypeReport, flatten_type_within, flatten_within,
-    missing_text, report_text, way_text,
+    Flattened, Marks, Options, PublishedFault, Status, TypeReport, flatten_type_within,
+    flatten_within, missing_text, refused_text, report_text, text_of_octets, way_text,
 };
 use std::alloc::{AllocError, Global};
 
-/// The most that a module may grow to once its references are followed, as `asn_module::read_within` counts it: each type
-/// one, each item of an ENUMERATED one, each name in them its octets. What is counted takes some 54 octets of memory each.
+/// The most that a module may grow to once its references are followed, as `asn_module::read_within` counts it: each
+/// type one, each item of an ENUMERATED one, each name in them its octets. What is counted takes some 54 octets of
+/// memory each.
 pub const MOST: u32 = 10_000_000;
 
 /// What stands for the name of a file where a text is that of standard input.
 const STDIN: &str = "<stdin>";
 
-/// The octets that a job reads in the place of standard input, if any, and the lines that tell what became of its types.
+/// The octets that a job reads instead of standard input, if any, the lines that say what became of its types, and
+/// whether no type of the module is refused.
 #[derive(Drop)]
 pub struct Instead {
     pub octets: Option<Vec<u8>>,
     pub remarks: String,
+    /// What is not looked at of the values of the type of the job, if there is something.
+    pub marks: Option<Marks>,
+    /// Whether no type of the module is refused.
+    pub is_whole: bool,
 }
 
 /// The input of a job whose standard input is these octets. Where the text before the line ==== is a module of the
-/// profile, nothing stands in its place. Else that text is read as published modules: the input is the text of the module
+/// profile, it is used as it is. Else that text is read as published modules: the input is the text of the module
 /// that they become, the line ====, and what follows it. Where they become none, or the module is to be printed and a
-/// type is refused, nothing stands in its place either, and `run` refuses the text.
+/// type is refused, the text is left as well, and `run` refuses it. Octets past ASCII in comments may be
+/// of any code.
 ///
 /// # Errors
-/// `TooLarge` where the module is larger than `MOST`; `Memory` where an allocation failed.
+/// `TooLarge` where it is a module of the profile larger than `MOST`; `Memory` where an allocation failed.
 pub fn instead_of(
     alloc: Global,
     octets: &[u8],
@@ -51,12 +58,31 @@ pub fn instead_of(
 {
     let (text, rest) = cut_input(octets);
     let Ok(text) = std::str::from_utf8(text) else {
-        return Ok(same(alloc)?);
+        return passed_over(alloc, text, rest, options, job);
     };
     if is_own(alloc, text)? {
         return Ok(same(alloc)?);
     }
     published(alloc, text, rest, options, job)
+}
+
+/// The same where the octets before the line ==== are not UTF-8: those past ASCII in comments are passed over, and the
+/// text is read as published modules. Where there are others, what was given is left as it is.
+fn passed_over(
+    alloc: Global,
+    octets: &[u8],
+    rest: &[u8],
+    options: Options,
+    job: &Job,
+) -> Result<Instead, PublishedFault>
+    ensures { IfOk result (λ i. IfSome i.octets (λ o. IsInput rest.now o.items)) }
+{
+    let mut all = Vec::new(alloc);
+    all.extend_from_slice(octets)?;
+    match text_of_octets(alloc, all) {
+        Ok(text) => published(alloc, text.as_str(), rest, options, job),
+        Err(_) => Ok(same(alloc)?),
+    }
 }
 
 /// The input of a job for the text before the line ====, read as published modules, and the remarks on its types.
@@ -70,10 +96,12 @@ fn published(
     ensures { IfOk result (λ i. IfSome i.octets (λ o. IsInput rest.now o.items)) }
 {
     match flattened_for(alloc, &[text], options, job) {
-        Ok(flattened) => Ok(flattened_input(alloc, &[STDIN], &flattened, rest, job)?),
+        Ok(flattened) => Ok(flattened_input(alloc, &[STDIN], flattened, rest, job)?),
         Err(fault) => Ok(Instead {
             octets: None,
             remarks: fault_line(alloc, fault)?,
+            marks: None,
+            is_whole: false,
         }),
     }
 }
@@ -103,6 +131,8 @@ fn same(alloc: Global) -> Result<Instead, AllocError>
     Ok(Instead {
         octets: None,
         remarks: String::new(alloc),
+        marks: None,
+        is_whole: true,
     })
 }
 
@@ -168,12 +198,12 @@ fn fault_line(alloc: Global, fault: PublishedFault) -> Result<String, PublishedF
     }
 }
 
-/// The input of a job whose module stands in files: the text of the module, the line ====, and the octets of standard
-/// input. The module is the one text, where that is a module of the profile, and else what the texts become as published
-/// modules. There is no input where the job is to print the module, and a type is refused.
+/// The input of a job whose module is in files: the text of the module, the line ====, and the octets of standard
+/// input. The module is the one text, where that is a module of the profile, and else what the texts become as
+/// published modules. There is no input where the job is to print the module, and a type is refused.
 ///
 /// # Errors
-/// Those of `flatten_within`, `TooLarge` where the module is larger than `MOST`.
+/// Those of `flatten_within`; `TooLarge` where the one text is a module of the profile larger than `MOST`.
 pub fn input_with(
     alloc: Global,
     files: &[&str],
@@ -188,20 +218,31 @@ pub fn input_with(
         → IsSomeAnd i.octets (λ o. IsOwnInput text rest.now o.items) × (string_bytes i.remarks ≡ [])) }
 {
     match own_among(alloc, texts)? {
-        Some(module) => Ok(own_input(alloc, &module, rest)?),
+        Some(own) => Ok(own_input(alloc, own.text, &own.meant, rest)?),
         None => published_input(alloc, files, texts, rest, options, job),
     }
 }
 
-/// The module of the profile that is the only text, if it is one, which is no larger than `MOST`.
-fn own_among(alloc: Global, texts: &[&str]) -> Result<Option<Module>, PublishedFault>
-    ensures { IfOk result (λ m. MatchOption m
+/// A text that is a module of the profile, and that module.
+#[derive(Drop)]
+struct Own<'t> {
+    text: &'t str,
+    meant: Module,
+}
+
+/// The only text, with the module of the profile that it is, if there is one text and it is one, which is no larger
+/// than `MOST`.
+fn own_among<'t>(alloc: Global, texts: &[&'t str]) -> Result<Option<Own<'t>>, PublishedFault>
+    ensures { IfOk result (λ own. MatchOption own
         ((text : _) → texts_of texts.now ≡ text ∷ [] → IsOwn text → ⊥)
-        (λ m. (text : _) × (texts_of texts.now ≡ text ∷ []) × IsRead text (types_view m))) }
+        (λ own. (texts_of texts.now ≡ own.text.now ∷ []) × IsRead own.text.now (types_view own.meant))) }
 {
-    match texts {
-        [text] => own_of(alloc, *text),
-        _ => Ok(None),
+    let [text] = texts else {
+        return Ok(None);
+    };
+    match own_of(alloc, *text)? {
+        Some(meant) => Ok(Some(Own { text: *text, meant })),
+        None => Ok(None),
     }
 }
 
@@ -217,7 +258,7 @@ fn published_input(
     ensures { IfOk result (λ i. IfSome i.octets (λ o. IsInput rest.now o.items)) }
 {
     let flattened = flattened_for(alloc, texts, options, job)?;
-    Ok(flattened_input(alloc, files, &flattened, rest, job)?)
+    Ok(flattened_input(alloc, files, flattened, rest, job)?)
 }
 
 /// The input of a job for published modules that were flattened, and the remarks on its types; `files` are the names of
@@ -225,36 +266,63 @@ fn published_input(
 fn flattened_input(
     alloc: Global,
     files: &[&str],
-    flattened: &Flattened,
+    flattened: Flattened,
     rest: &[u8],
     job: &Job,
 ) -> Result<Instead, AllocError>
-    requires accepted { Accepted (string_bytes flattened.now.text) (types_view flattened.now.module) }
-    requires within { IsNotLarge (types_view flattened.now.module) }
+    requires accepted { Accepted (string_bytes flattened.text) (types_view flattened.module) }
+    requires within { IsNotLarge (types_view flattened.module) }
     ensures { IfOk result (λ i. IfSome i.octets (λ o. IsInput rest.now o.items)) }
 {
-    let remarks = remarks(alloc, files, flattened, job)?;
-    if matches!(job, Job::Module) && !is_whole(flattened.report.as_slice()) {
+    let remarks = remarks(alloc, files, &flattened, job)?;
+    let is_whole = is_whole(flattened.report.as_slice());
+    if matches!(job, Job::Module) && !is_whole {
         return Ok(Instead {
             octets: None,
             remarks,
+            marks: None,
+            is_whole,
         });
     }
     let octets = Some(input_of(alloc, flattened.text.as_str(), rest)?);
-    Ok(Instead { octets, remarks })
-}
-
-/// The input of a job for a module of the profile.
-fn own_input(alloc: Global, own: &Module, rest: &[u8]) -> Result<Instead, AllocError>
-    ensures { IfOk result (λ i. (source : _) → Accepted source (types_view own.now)
-        → IsSomeAnd i.octets (λ o. IsInputOf (types_view own.now) rest.now o.items)
-        × (string_bytes i.remarks ≡ [])) }
-{
-    let text = own.print(alloc)?;
-    let octets = Some(input_of(alloc, text.as_str(), rest)?);
     Ok(Instead {
         octets,
+        remarks,
+        marks: marks_for(flattened, job),
+        is_whole,
+    })
+}
+
+/// The marks of the type of a job.
+fn marks_for(flattened: Flattened, job: &Job) -> Option<Marks> {
+    match job {
+        Job::Module => None,
+        Job::Lines { type_name, .. } => flattened.into_marks(type_name.as_str()),
+    }
+}
+
+/// Whether a text can stand in front of the line ==== as it is: it ends a line, and has no such line.
+fn is_head(text: &str) -> bool {
+    text.ends_with("\n") && text.split('\n').all(|line| *line != *"====")
+}
+
+/// The input of a job for a text that is a module of the profile. The text is printed only where it cannot stand there
+/// as it is, since references are written out in what is printed.
+fn own_input(alloc: Global, text: &str, own: &Module, rest: &[u8]) -> Result<Instead, AllocError>
+    requires { Accepted text.now (types_view own.now) }
+    ensures { IfOk result (λ i. IsSomeAnd i.octets (λ o. IsInputOf (types_view own.now) rest.now o.items)
+        × (string_bytes i.remarks ≡ [])) }
+{
+    let octets = if is_head(text) {
+        input_of(alloc, text, rest)?
+    } else {
+        input_of(alloc, own.print(alloc)?.as_str(), rest)?
+    };
+    Ok(Instead {
+        octets: Some(octets),
         remarks: String::new(alloc),
+        marks: None,
+        is_whole: true,
     })
 }
 
@@ -277,7 +345,8 @@ fn remarks(
     Ok(remarks)
 }
 
-/// A line for each remark on the types that the job needs, `files` being the names of the files of the texts.
+/// A line for each remark on the types that the job needs, `files` being the names of the files of the texts; for each
+/// type that is refused, where the job is on no type.
 fn remarks_on_types(
     alloc: Global,
     files: &[&str],
@@ -286,6 +355,7 @@ fn remarks_on_types(
 ) -> Result<String, AllocError> {
     match job {
         Job::Module => report_text(alloc, files, report),
+        Job::Lines { type_name, .. } if type_name.is_empty() => refused_text(alloc, files, report),
         Job::Lines { type_name, .. } => way_text(alloc, files, report, type_name.as_str()),
     }
 }

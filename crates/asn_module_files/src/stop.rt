@@ -16,11 +16,12 @@ pub enum Stop<'a> {
     /// A file is not read.
     #[error("{0}: read failed")]
     Unread(&'a str),
-    /// What a file holds is not UTF-8 from this line on, which is counted from 1.
-    #[error("{file}:{line}: not UTF-8")]
+    /// What a file holds is not UTF-8 at this line and column, each counted from 1, which stands in no comment.
+    #[error("{file}:{line}:{column}: not UTF-8")]
     NotText {
         file: &'a str,
         line: u32,
+        column: u32,
     },
     /// The text of a file is none of the notation; the line is counted from 1.
     #[error("{file}:{line}: {wrong}")]

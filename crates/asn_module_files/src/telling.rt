@@ -5,18 +5,27 @@ use crate::stop::Stop;
 use crate::terminal::printable;
 use crate::texts::{texts_of, views_of};
 use asn_jobs::Job;
-use asn_published::{Options, PublishedFault};
+use asn_published::{Marks, Options, PublishedFault};
 use asn_request::asking::Asking;
 use std::alloc::AllocError;
 use std::io::IsTerminal;
 
-/// Whether standard error tells why a module is refused: where that is asked for, or standard error is a terminal.
+/// Whether standard error says why a module is refused: where that is asked for, or standard error is a terminal.
 pub fn tells_of_module(rt: &HostRuntime, asking: &Asking<'_>) -> bool {
     asking.is_explained || rt.stderr().is_terminal()
 }
 
-/// The input of a job whose standard input is these octets, its module standing there; the remarks on published modules go
-/// to standard error.
+/// The octets that a job reads instead of standard input, what is not looked at of the values of its type, if there is
+/// something, and whether no type of its module is refused.
+#[derive(Drop)]
+pub struct Input {
+    pub octets: Vec<u8>,
+    pub marks: Option<Marks>,
+    pub is_whole: bool,
+}
+
+/// The input of a job whose standard input is these octets, with its module in front; the remarks on published modules
+/// go to standard error.
 ///
 /// # Errors
 /// Those of `instead_of`.
@@ -26,18 +35,24 @@ pub fn input_given(
     options: Options,
     job: &Job,
     is_told: bool,
-) -> Result<Vec<u8>, Stop<'static>> {
-    let Instead { octets, remarks } = instead_of(rt.alloc(), given.as_slice(), options, job)?;
+) -> Result<Input, Stop<'static>> {
+    let Instead {
+        octets,
+        remarks,
+        marks,
+        is_whole,
+    } = instead_of(rt.alloc(), given.as_slice(), options, job)?;
     tell_remarks(rt, remarks.as_str(), is_told)?;
-    match octets {
-        Some(octets) => Ok(octets),
-        None => Ok(given),
-    }
+    Ok(Input {
+        octets: octets.unwrap_or(given),
+        marks,
+        is_whole,
+    })
 }
 
-/// The input of a job whose module is that of the files, up to the line ====; the remarks on published modules go to standard
-/// error, and the line of a fault too, where that is told. There is none where the job is to print the module, and a type is
-/// refused.
+/// The input of a job whose module is that of the files, up to the line ====; the remarks on published modules go to
+/// standard error, and the line of a fault too, where that is asked for. There is none where the job is to print the
+/// module, and a type is refused.
 ///
 /// # Errors
 /// Where a file is not read, or the texts become no module.
@@ -47,14 +62,28 @@ pub fn input_of_files<'a>(
     options: Options,
     job: &Job,
     is_told: bool,
-) -> Result<Option<Vec<u8>>, Stop<'a>> {
+) -> Result<Option<Input>, Stop<'a>> {
     let texts = texts_of(rt, files)?;
     let views = views_of(rt, texts.as_slice())?;
     let views = views.as_slice();
     match input_with(rt.alloc(), files, views, b"".as_slice(), options, job) {
-        Ok(Instead { octets, remarks }) => {
+        Ok(
+            Instead {
+                octets,
+                remarks,
+                marks,
+                is_whole,
+            },
+        ) => {
             tell_remarks(rt, remarks.as_str(), is_told)?;
-            Ok(octets)
+            match octets {
+                Some(octets) => Ok(Some(Input {
+                    octets,
+                    marks,
+                    is_whole,
+                })),
+                None => Ok(None),
+            }
         }
         Err(fault) => Err(stop_told(rt, files, views, fault, is_told)),
     }
@@ -103,7 +132,7 @@ fn tell(rt: &HostRuntime, words: &str) -> Result<(), AllocError> {
     Ok(())
 }
 
-/// Tells on standard error what `text_told` says of the text of the module of a job, as `printable` has it.
+/// Writes to standard error what `text_told` says of the text of the module of a job, as `printable` has it.
 ///
 /// # Errors
 /// `Memory` where an allocation failed.

@@ -4,7 +4,7 @@ ghost use Rattle.asn_module_files.specs.Terminal.{printable, printed};
 
 use std::alloc::{AllocError, Global};
 
-/// The words with U+FFFD in the place of each control character (C0, DEL and C1), but for LF and tab.
+/// The words with U+FFFD instead of each control character (C0, DEL and C1), except LF and tab.
 ///
 /// # Errors
 /// `AllocError` where an allocation failed.

@@ -1,17 +1,15 @@
 //! The texts of files.
 use crate::stop::Stop;
+use asn_published::{NotText, text_of_octets};
 use std::fs;
 use std::io::ErrorKind;
 
 /// The text of a file.
 fn text_of<'a>(rt: &HostRuntime, file: &'a str) -> Result<String, Stop<'a>> {
     match fs::read(rt, file) {
-        Ok(octets) => match String::from_utf8(octets) {
+        Ok(octets) => match text_of_octets(rt.alloc(), octets) {
             Ok(text) => Ok(text),
-            Err(fault) => {
-                let line = line_of_octet(fault.as_bytes(), fault.utf8_error().valid_up_to());
-                Err(Stop::NotText { file, line })
-            }
+            Err(NotText { line, column }) => Err(Stop::NotText { file, line, column }),
         },
         Err(fault) if fault.kind() == ErrorKind::OutOfMemory => Err(Stop::Memory),
         Err(_) => Err(Stop::Unread(file)),

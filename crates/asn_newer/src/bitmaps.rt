@@ -17,7 +17,7 @@ use std::alloc::AllocError;
 /// from 1 to 64. `likely` is the count that is tried first, that of the receiver's type, and 0 where it has none.
 ///
 /// # Errors
-/// `Memory` where memory was wanting; else no such bits stand there, of any count. `TooMany` where a count past the
+/// `Memory` where an allocation failed; else no such bits are there, of any count. `TooMany` where a count past the
 /// profile begins there, and `Refused` only where none does; `Short` where the bits of a count may still follow.
 pub fn read_any_bitmap<R: ReadVersions>(
     likely: u32,

@@ -39,8 +39,8 @@ impl OtherVersions for Oer {
 ///   and perhaps more, the canonical octets of the sender are read as `received` says.
 /// - `older_reads`: an older receiver reads `cut` of the value, and skips the `dropped` fields.
 /// - `newer_reads`: a newer receiver reads `wide` of the value, and skips nothing.
-/// - `reads_fit`: what is read is a value of the type, or one in which items and alternatives that it has not stand as
-///   such.
+/// - `reads_fit`: what is read is a value of the type, or one in which items and alternatives that it has not are kept
+///   as such.
 /// - `one_way`: octets are read as one value, with one list of skipped fields, and none that are read begin others.
 pub fn version_laws<R: OtherVersions>()
     ensures reads_itself { ReadsItself R.loose }

@@ -20,7 +20,7 @@ pub enum PathStep {
     Alternative(usize),
 }
 
-/// A field of a message that the receiver's type has not, and where it stands.
+/// A field of a message that the receiver's type has not, and where it is.
 #[derive(Debug, Drop)]
 pub struct SkippedAt {
     /// The steps from the value to the SEQUENCE or CHOICE of which the field is an addition, one after the other.
@@ -56,7 +56,8 @@ impl SkippedAt {
     }
 }
 
-/// Puts the step in front of the paths of the fields from an index on, which were skipped in the part to which it leads.
+/// Puts the step in front of the paths of the fields from an index on, which were skipped in the part to which it
+/// leads.
 #[inline(always)]
 pub(crate) fn put_inside(
     from: usize,

@@ -11,7 +11,7 @@ ghost use Rattle.asn_notation.specs.Lexing.{lexed};
 
 use crate::token::{Lexeme, RESERVED, Reserved, Sign};
 
-/// Where a run of white space and comments stands.
+/// Where a run of white space and comments is.
 #[derive(Clone, Copy)]
 pub enum Blank {
     Outside,

@@ -7,14 +7,14 @@ pub enum Limits {
     Between(Option<i128>, Option<i128>),
 }
 
-/// A range, and whether `...` stands in it.
+/// A range, and whether it has `...`.
 #[derive(Clone, Copy)]
 pub struct RangeNotation {
     pub limits: Limits,
     pub marked: bool,
 }
 
-/// A size, and whether `...` stands in it.
+/// A size, and whether it has `...`.
 #[derive(Clone, Copy)]
 pub struct SizeNotation {
     pub low: u64,
@@ -31,7 +31,7 @@ pub enum SizeEnd {
     ToMax,
 }
 
-/// The size of a SEQUENCE OF, which may stand without the outer parentheses.
+/// The size of a SEQUENCE OF, which may be written without the outer parentheses.
 #[derive(Clone, Copy)]
 pub enum ListSize {
     Any,

@@ -9,6 +9,7 @@ pub mod Kept
 pub mod PackedAgain
 pub mod PackedItems
 pub mod Rows
+pub mod Runs
 pub mod Scalars
 pub mod Starts
 pub mod StringItems

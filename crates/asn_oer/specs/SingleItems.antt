@@ -1,6 +1,7 @@
 -- What stands before the octets of open type fields and the items of strings in Canonical OER (X.696), and an item:
 -- the parts that a reader of messages in pieces may be cut in.
 use Rattle.std.specs.Prelude.{◌≡◌, ◌-◌, ℕ, true, false, List, [], ◌∷◌, ⊤}
+use Rattle.asn_bits.specs.Numbers.{packed}
 use Rattle.asn_values.specs.Datum.{Datum, unicode}
 use Rattle.asn_values.specs.Fits.{FitsLength, max_len}
 use Rattle.asn_values.specs.Profile.{is_fixed_size}
@@ -13,6 +14,7 @@ use Rattle.asn_rules.specs.Languages.{Then, Map, Nothing, Plain, NoSpelling}
 use Rattle.asn_rules.specs.OctetStrings.{Character, BitsLength, UnusedBits, PackedBits}
 use Rattle.asn_rules.specs.declared.stop.Stop.{Stop}
 use Rattle.asn_rules.specs.declared.stop.Stop.TheVariants as stop
+use Rattle.asn_walk.proofs.Listing.{Appends}
 use Rattle.asn_walk.specs.Ahead.{Ahead, items}
 use Rattle.asn_walk.specs.Sizes.{Count}
 use Rattle.asn_walk_feed.specs.Octets.{OctetCoding, NoFirst}
@@ -60,6 +62,10 @@ string_items _ = any_octets
 
 abbrev pub oer_parts : FieldCoding
 oer_parts = record { open_type = any_octets; string = string_items }
+
+-- this many octets are taken, and are put after those that were there
+abbrev pub TakesOctets : (ℕ → List Chunk → Type 0) → ℕ → List ℕ → List ℕ → List ℕ → List ℕ → Type 0
+TakesOctets L n before after old new = Appends octet_fields L n before after (packed old) (packed new)
 
 -- ---- what is told of items, of which this many units follow the last
 

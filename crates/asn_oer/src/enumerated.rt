@@ -1,8 +1,11 @@
 //! ENUMERATED (X.696, "encoding of enumerated types").
-ghost use Rattle.std.specs.Prelude.{◌≡◌, ◌≤◌, ◌<◌, ◌^◌, ◌&&◌, length, pos, ℕ, OnOk, IfSome, IsNone};
+ghost use Rattle.std.specs.Prelude.{◌≡◌, ◌≤◌, ◌<◌, ◌^◌, ◌&&◌, length, pos, ℕ, true, false, Option, OnOk, IfSome, IsNone};
+ghost use Rattle.std.specs.Option.{option_map};
 ghost use Rattle.std.specs.Int.RustNames.{int_le, int_lt};
+ghost use Rattle.asn_rules.specs.Listed.{IsOther};
+ghost use Rattle.asn_rules.specs.OctetReading.{ReadsOctets};
 ghost use Rattle.asn_bits.specs.Numbers.{unpacked};
-ghost use Rattle.asn_oer.specs.Words.{item, Fits, InProfile, octets, magnitude, Inhabited, AtOctet, enumeration_of, items_of, ItemsBut, BeginsWith, BeginsOtherwise, oer_octets, item_number, Reads, StopsIn};
+ghost use Rattle.asn_oer.specs.Words.{item, Fits, InProfile, octets, magnitude, Inhabited, AtOctet, enumeration_of, items_of, ItemsBut, BeginsWith, BeginsOtherwise, oer_octets, item_number, Reads, ReadsSome, StopsIn};
 
 use asn_bits::BitCursor;
 use asn_bits::internal::{signed_octet_count, signed_residue};
@@ -65,12 +68,126 @@ fn write_long<S: Sink>(number: i64, sink: &mut S) -> Result<(), S::Fault>
     sink.push_low_octets(count, octets)
 }
 
-/// Reads an item, but for the excluded one. Returns its position.
+/// Reads an item, except the excluded one. Returns its position.
 ///
 /// # Errors
 /// `Short` if the octets end before an item does. `Refused` at the first octet with which no item goes on, with the
 /// reason `Default` where one is excluded, else `Number`.
 pub(crate) fn read_item(
+    root: &[Item],
+    more: &Option<Vec<Item>>,
+    excluded: Option<u32>,
+    units: &mut BitCursor<'_>,
+) -> Result<u32, Stop>
+    requires at_octet { AtOctet units.old }
+    requires of_profile { InProfile (enumeration_of root.now more.now) }
+    requires some { Inhabited (ItemsBut excluded root.now more.now) }
+    ensures at_octet { OnOk result (AtOctet units.new) }
+    ensures done { Reads result (λ p. item p) (ItemsBut excluded root.now more.now) units.old units.new }
+    ensures stop { StopsIn result (ItemsBut excluded root.now more.now) units.old }
+{
+    match try_numbered(root, more, excluded, units) {
+        Some(position) => Ok(position),
+        None => read_by_octets(root, more, excluded, units),
+    }
+}
+
+/// Fast path: an item, except the excluded one, where its octets are at hand; otherwise takes nothing. One pass over the
+/// items finds the number.
+fn try_numbered(
+    root: &[Item],
+    more: &Option<Vec<Item>>,
+    excluded: Option<u32>,
+    units: &mut BitCursor<'_>,
+) -> Option<u32>
+    requires at_octet { AtOctet units.old }
+    requires of_profile { InProfile (enumeration_of root.now more.now) }
+    ensures at_octet { AtOctet units.new }
+    ensures done { ReadsSome result (λ p. item p) (ItemsBut excluded root.now more.now) units.old units.new }
+    ensures unchanged { IsNone result → units.new ≡ units.old }
+{
+    let number = number_ahead(units)?;
+    let position = position_of_number(root, more, number)?;
+    if excluded == Some(position) || !take_item(root, more, position, units) {
+        return None;
+    }
+    Some(position)
+}
+
+/// The number of which these are the first octets, if it is of 32 bits and they are complete; whether they are the fewest is
+/// not asked.
+pub(crate) fn number_ahead(units: &BitCursor<'_>) -> Option<i64> {
+    let first = units.peek_octet()?;
+    if first < 128 {
+        return Some(first as i64);
+    }
+    let count = first as u32 - 128;
+    if count == 0 || count > 4 {
+        return None;
+    }
+    let all = units.peek_number(8 + 8 * count)?;
+    let unused = 64 - 8 * count;
+    Some((all << unused).cast_signed() >> unused)
+}
+
+/// The position of the item with this number, the items of the root and the additions counted from 0.
+fn position_of_number(root: &[Item], more: &Option<Vec<Item>>, number: i64) -> Option<u32>
+    requires of_profile { InProfile (enumeration_of root.now more.now) }
+    ensures { IfSome result (λ p. p < length (items_of root.now more.now)) }
+{
+    if let Some(place) = place_of(root, number) {
+        return Some(place as u32);
+    }
+    let Some(additions) = more else {
+        return None;
+    };
+    let place = place_of(additions.as_slice(), number)?;
+    Some((root.len() + place) as u32)
+}
+
+/// The place of the item with this number, counted from 0.
+fn place_of(items: &[Item], number: i64) -> Option<usize>
+    ensures { IfSome result (λ p. p < length items.now) }
+{
+    for (place, item) in items.iter().enumerate() {
+        if item.number == number {
+            return Some(place);
+        }
+    }
+    None
+}
+
+/// Takes the octets of the item at this position, if they stand here; otherwise takes nothing.
+pub(crate) fn take_item(
+    root: &[Item],
+    more: &Option<Vec<Item>>,
+    position: u32,
+    units: &mut BitCursor<'_>,
+) -> bool
+    requires at_octet { AtOctet units.old }
+    requires of_profile { InProfile (enumeration_of root.now more.now) }
+    requires there { position < length (items_of root.now more.now) }
+    ensures at_octet { AtOctet units.new }
+    ensures done { result ≡ true → (excluded : Option ℕ) → IsOther (option_map item excluded) (item position)
+        → ReadsOctets (ItemsBut excluded root.now more.now) (item position) units.old units.new }
+    ensures unchanged { result ≡ false → units.new ≡ units.old }
+{
+    let (count, octets) = octets_of(number_at(root, more, position as usize));
+    let Some(ahead) = units.peek_number(8 * count) else {
+        return false;
+    };
+    if ahead != octets {
+        return false;
+    }
+    units.pass(8 * count);
+    true
+}
+
+/// Reads an item octet by octet, except the excluded one. Returns its position.
+///
+/// # Errors
+/// Those of `read_item`.
+fn read_by_octets(
     root: &[Item],
     more: &Option<Vec<Item>>,
     excluded: Option<u32>,
@@ -103,7 +220,7 @@ pub(crate) fn read_item(
     unreachable!()
 }
 
-/// An item, but for the excluded one, that begins with the `count` octets of the number `begun`: its position, and how
+/// An item, except the excluded one, that begins with the `count` octets of the number `begun`: its position, and how
 /// many octets follow these. The item at the position of that number is tried first.
 fn find_item(
     root: &[Item],

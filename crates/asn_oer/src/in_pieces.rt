@@ -5,6 +5,7 @@ ghost use Rattle.asn_oer.specs.Walk.{oer_coding};
 ghost use Rattle.asn_oer.specs.SingleItems.{oer_parts};
 
 use crate::bit_items::{bits_of, start_bits};
+use crate::item_runs::{take_any_octets, take_characters};
 use crate::rules::Oer;
 use crate::single_items::{read_any_octet, read_character, start_any, start_items};
 use crate::text_items::text_of;
@@ -129,6 +130,14 @@ impl FeedLeaves for OerInPieces {
         read_any_octet(units)
     }
 
+    fn take_octets(
+        most: usize,
+        into: &mut Vec<u8>,
+        units: &mut BitCursor<'_>,
+    ) -> Result<usize, AllocError> {
+        take_any_octets(most, into, units)
+    }
+
     fn start_string(
         ty: &AsnType,
         units: &mut BitCursor<'_>,
@@ -148,6 +157,21 @@ impl FeedLeaves for OerInPieces {
             AsnType::Octets(_) => read_any_octet(units),
             AsnType::Text(kind, _) => read_character(*kind, units),
             AsnType::Utf8 => read_any_octet(units),
+            _ => unreachable!(),
+        }
+    }
+
+    fn take_items(
+        ty: &AsnType,
+        most: usize,
+        into: &mut Vec<u8>,
+        units: &mut BitCursor<'_>,
+    ) -> Result<usize, AllocError> {
+        match ty {
+            AsnType::Bits(_) => take_any_octets(most, into, units),
+            AsnType::Octets(_) => take_any_octets(most, into, units),
+            AsnType::Text(kind, _) => take_characters(*kind, most, into, units),
+            AsnType::Utf8 => take_any_octets(most, into, units),
             _ => unreachable!(),
         }
     }

@@ -3,20 +3,22 @@ ghost use Rattle.asn_oer.specs.Words.{DecodesTheEncoded, EncodesTheDecoded, Only
 
 /// The encodings of each kind of type of the profile are put together from those of its parts.
 ///
-/// An octet of a set, a number in a fixed count of octets or after their count, octets after a length, a field that is
-/// judged at its end: each kind of type is some of these, one after the other, of which the earlier may decide what
-/// follows, seen as a value of the type. The parts spell each value as its encoding does, and nothing else, so what
-/// holds of readers of the parts holds of readers of the kind. Of BOOLEAN and ENUMERATED the same is said of the values
-/// but for one, as a component with a DEFAULT is spelt.
+/// The parts are an octet of a set, a number in a fixed count of octets or after their count, octets after a length,
+/// and a field that is judged at its end. Each kind of type is some of these, one after the other, seen as a value of
+/// the type; an earlier one may decide what follows.
+///
+/// The parts spell each value as its encoding does, and nothing else. So what holds of readers of the parts holds of
+/// readers of the kind. Of BOOLEAN and ENUMERATED the same is said of the values except one, as a component with a
+/// DEFAULT is spelt.
 pub fn kinds_compose()
     ensures { KindsCompose }
 {}
 
-/// A spelling tells its value and where it ends, whatever follows it.
+/// A spelling determines its value and where it ends, whatever follows it.
 ///
 /// Two encodings at the front of one list of octets are one, of one value. Octets are the encoding
 /// of one value only, and no encoding begins another. Two spellings of one type are one, of one
-/// value, or they part at an octet or inside sealed fields that stand in one place.
+/// value, or they part at an octet or inside sealed fields at one place.
 pub fn decoding_is_unique()
     ensures octets { UnitsTellTheValue oer_octets }
     ensures one_value { OneValue oer_octets }
@@ -55,9 +57,11 @@ pub fn prefixes_are_viable()
     ensures not_refused { BeginningsAreNotRefused oer_ruling }
 {}
 
-/// What makes a reader of OER exact: two encodings of one type are one, of one value, or
-/// part at an octet or inside sealed fields of one kind; each sealed field is at least as long as its
-/// content and begins no other; and the units are the octets.
+/// What makes a reader of OER exact.
+///
+/// - Two encodings of one type are one, of one value, or part at an octet or inside sealed fields of one kind.
+/// - Each sealed field is at least as long as its content and begins no other.
+/// - The units are the octets.
 pub fn readers_tell()
     ensures { RulesTell oer_ruling }
 {}
@@ -69,12 +73,12 @@ pub fn readers_tell()
 /// - `encodes_again`: a value that was decoded has the octets that were given as its encoding, and
 ///   no others. `only_memory`: an encoder that gives none for it had no memory.
 /// - `equal_exactly`: two values are equal exactly where their octets are.
-/// - `begins`: where octets follow an encoding, the decoder tells where it ends. `one_front`: where
-///   the decoder tells so, the octets in front are the encoding of a value, and no other front is
+/// - `begins`: where octets follow an encoding, the decoder reports where it ends. `one_front`: where
+///   the decoder reports so, the octets in front are the encoding of a value, and no other front is
 ///   an encoding.
 /// - `cut`: to each proper beginning of an encoding the decoder answers `Truncated`, with all its
 ///   octets.
-/// - `one_answer`: two answers to the same octets, neither being `Memory`, say the same, but for the
+/// - `one_answer`: two answers to the same octets, neither being `Memory`, say the same, except the
 ///   reason of a refusal.
 pub fn codec_laws()
     ensures decodes { DecodesTheEncoded oer_ruling }

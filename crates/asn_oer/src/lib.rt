@@ -6,6 +6,7 @@ mod enumerated;
 mod in_pieces;
 mod integer;
 pub mod internal;
+mod item_runs;
 pub mod laws;
 mod plan_leaves;
 mod read_leaves;

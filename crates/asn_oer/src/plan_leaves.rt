@@ -7,12 +7,14 @@ ghost use Rattle.asn_plan.specs.Ranged.{ranged, IsRanged};
 ghost use Rattle.asn_oer.specs.Parts.{oer_parts};
 ghost use Rattle.asn_oer.specs.Words.{number, AtOctet, IsOfProfile, oer};
 
+use crate::enumerated::{number_ahead, take_item};
 use crate::rules::Oer;
 use asn_bits::BitCursor;
 use asn_bits::internal::at_offset;
 use asn_plan::internal::{MOST_OCTETS, take_bits, take_told};
 use asn_plan::{BitFields, Enumeration, FixedString, PlanLeaves, PlanRules, Ranged, Run, Word};
 use asn_rules::internal::{offsets_of, try_counted_signed};
+use asn_values::AsnType;
 use asn_values::profile::LOWEST_INTEGER;
 use asn_walk::{Preamble, ReadLeaves};
 
@@ -88,6 +90,19 @@ impl PlanLeaves for Oer {
             return None;
         }
         Some(position as u32)
+    }
+
+    fn try_item(items: &Enumeration, units: &mut BitCursor<'_>) -> Option<u32> {
+        let AsnType::Enum { root, ext } = &items.ty else {
+            return None;
+        };
+        let number = number_ahead(units)?;
+        let position = items.position_of_number(number);
+        if take_item(root, ext, position, units) {
+            Some(position)
+        } else {
+            None
+        }
     }
 
     #[inline(always)]

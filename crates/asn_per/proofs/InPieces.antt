@@ -6,5 +6,6 @@ pub mod Kept
 pub mod Fields
 pub mod Numbers
 pub mod Rows
+pub mod Runs
 pub mod Strings
 pub mod Units

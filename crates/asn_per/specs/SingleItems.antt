@@ -1,12 +1,14 @@
 -- The octets of open type fields and the items of strings in PER, as a reader of messages in pieces takes them: one by
 -- one, after what stands before them.
-use Rattle.std.specs.Prelude.{ℕ, false, List, map, None}
+use Rattle.std.specs.Prelude.{ℕ, false, List, ◌++◌, map, None}
 use Rattle.asn_values.specs.Datum.{Datum, bit_list, octet_list, characters, unicode}
 use Rattle.asn_values.specs.Shape.{SizeRange, Shape, bit_string, octet_string, restricted}
 use Rattle.asn_rules.specs.Chunks.{Chunk}
 use Rattle.asn_rules.specs.Fields.{Octet}
+use Rattle.asn_walk.proofs.Listing.{Appends}
 use Rattle.asn_per.specs.Kinds.{Below, Character, truth_of}
 use Rattle.asn_per.specs.ListsAhead.{Start}
+use Rattle.asn_per.specs.Per.{per_fields}
 use Rattle.asn_walk_feed.specs.Octets.{OctetCoding, NoFirst}
 use Rattle.asn_walk_feed.specs.OpenFields.{FieldCoding}
 
@@ -21,6 +23,14 @@ under_size s item = record { start = NoFirst (Start s); octet = item }
 -- a bit of a BIT STRING, held as an octet that is 0 or 1
 abbrev pub BitHeld : ℕ → List Chunk → Type 0
 BitHeld = Below 1 2
+
+-- this many items are taken from the bits, and are put after those that were there
+abbrev pub TakesItems : (ℕ → List Chunk → Type 0) → ℕ → List ℕ → List ℕ → List ℕ → List ℕ → Type 0
+TakesItems L n before after old new = Appends per_fields L n before after old new
+
+-- whatever follows the bits: they are those of this many items, which are put after those that were there
+abbrev pub TakesAll : (ℕ → List Chunk → Type 0) → ℕ → List ℕ → List ℕ → List ℕ → Type 0
+TakesAll L n before after us = (rest : List ℕ) → TakesItems L n before after (us ++ rest) rest
 
 -- the items of a string: bits, octets or characters; those of a UTF8String are octets, of any count
 abbrev pub string_items : Shape → OctetCoding

@@ -12,6 +12,7 @@ ghost use Rattle.asn_per.specs.SingleItems.{per_field_coding};
 
 use crate::fragments::Fragments;
 use crate::in_pieces::PerInPieces;
+use crate::item_runs::{take_bits, take_characters, take_octets};
 use crate::rules::Per;
 use crate::single_items::{read_bit, read_character, read_octet, truths};
 use asn_bits::BitCursor;
@@ -20,7 +21,7 @@ use asn_rules::internal::{Stop, read_padding};
 use asn_values::{AsnType, Size, Value};
 use asn_walk_feed::{Begun, FeedLeaves, ItemsStart};
 use asn_walk_read::read;
-use std::alloc::Global;
+use std::alloc::{AllocError, Global};
 
 #[tactic(auto, unfolding(crate::specs::Walk::per_coding, crate::specs::Rules::per_ruling, crate::specs::SingleItems::per_field_coding))]
 impl FeedLeaves for PerInPieces {
@@ -51,6 +52,14 @@ impl FeedLeaves for PerInPieces {
         read_octet(units)
     }
 
+    fn take_octets(
+        most: usize,
+        into: &mut Vec<u8>,
+        units: &mut BitCursor<'_>,
+    ) -> Result<usize, AllocError> {
+        take_octets(most, into, units)
+    }
+
     fn start_string(
         ty: &AsnType,
         units: &mut BitCursor<'_>,
@@ -71,6 +80,22 @@ impl FeedLeaves for PerInPieces {
             AsnType::Bits(_) => read_bit(units),
             AsnType::Octets(_) | AsnType::Utf8 => read_octet(units),
             AsnType::Text(kind, _) => read_character(*kind, units),
+            AsnType::Bool | AsnType::Null | AsnType::Int(_) | AsnType::Enum { .. } =>
+                unreachable!(),
+            AsnType::Seq { .. } | AsnType::SeqOf(..) | AsnType::Choice { .. } => unreachable!(),
+        }
+    }
+
+    fn take_items(
+        ty: &AsnType,
+        most: usize,
+        into: &mut Vec<u8>,
+        units: &mut BitCursor<'_>,
+    ) -> Result<usize, AllocError> {
+        match ty {
+            AsnType::Bits(_) => take_bits(most, into, units),
+            AsnType::Octets(_) | AsnType::Utf8 => take_octets(most, into, units),
+            AsnType::Text(kind, _) => take_characters(*kind, most, into, units),
             AsnType::Bool | AsnType::Null | AsnType::Int(_) | AsnType::Enum { .. } =>
                 unreachable!(),
             AsnType::Seq { .. } | AsnType::SeqOf(..) | AsnType::Choice { .. } => unreachable!(),

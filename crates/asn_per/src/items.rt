@@ -9,13 +9,14 @@ ghost use Rattle.asn_rules.specs.Languages.{Inhabited, Spells};
 ghost use Rattle.asn_walk.specs.Items.{enumeration_of};
 ghost use Rattle.asn_per.specs.Kinds.{position_of, RootItemsBut, IsRootPosition};
 ghost use Rattle.asn_per.specs.Laws.{per_bits};
-ghost use Rattle.asn_per.specs.Per.{rank, per_fields};
+ghost use Rattle.asn_per.specs.Per.{per_fields};
 ghost use Rattle.asn_per.specs.Indexes.{AreRootItems, IsItemWithin, index_of};
 ghost use Rattle.asn_per.specs.Reading.{Reads, StopsIn, ItemsBut, MarkedItems};
 
 use crate::indexes::{read_index, write_index};
 use asn_bits::BitCursor;
 use asn_bits::internal::width;
+use asn_plan::internal::rank;
 use asn_rules::EncodeFault;
 use asn_rules::internal::{NumberSet, Stop, read_constrained, try_number};
 use asn_sinks::Sink;
@@ -43,19 +44,6 @@ pub(crate) fn write_item<S: Sink>(
         Index::Added(position - root.len())
     };
     write_index(root.len(), more.is_some(), index, sink)
-}
-
-/// The count of the items that have a lower number.
-fn rank(items: &[Item], number: i64) -> usize
-    ensures { result ≡ rank (map label_of items.now) number }
-{
-    let mut lower = 0;
-    for item in items {
-        if item.number < number {
-            lower += 1;
-        }
-    }
-    lower
 }
 
 /// Reads an item, but for the one at the position `excluded`. Returns its position.
@@ -126,39 +114,108 @@ fn excluded_index(root: &[Item], excluded: Option<u32>) -> Option<u64>
 }
 
 /// The position of the item of the root with this index. Where the items stand in the order of their numbers that is
-/// the index itself, which one pass over them confirms.
+/// the index itself, and where their numbers have no gap the lowest tells its number: one pass over them confirms either.
 fn position_of_index(root: &[Item], index: usize) -> u32
     requires good { AreRootItems (map label_of root.now) }
     requires inside { index < length root.now }
     ensures { result ≡ position_of (map label_of root.now) index }
 {
     if rank(root, root[index].number) == index {
-        index as u32
-    } else {
-        position_by_numbers(root, index)
+        return index as u32;
+    }
+    let ends = ends_of(root);
+    let guess = ends.position_in_row(root, index);
+    if guess != index && rank(root, root[guess].number) == index {
+        return guess as u32;
+    }
+    position_by_numbers(root, &ends, index)
+}
+
+/// The lowest and the highest number of some items.
+#[derive(Clone, Copy)]
+struct Ends {
+    lowest: i64,
+    highest: i64,
+}
+
+/// The lowest and the highest number of these items.
+fn ends_of(items: &[Item]) -> Ends {
+    let mut lowest = i64::MAX;
+    let mut highest = i64::MIN;
+    for item in items {
+        lowest = lowest.min(item.number);
+        highest = highest.max(item.number);
+    }
+    Ends { lowest, highest }
+}
+
+impl Ends {
+    /// Where the numbers have no gap, the position of the item whose number lies this far above the lowest; else this
+    /// distance.
+    fn position_in_row(&self, root: &[Item], distance: usize) -> usize
+        requires { distance < length root.now }
+        ensures { result < length root.now }
+    {
+        let width = self.highest.wrapping_sub(self.lowest).cast_unsigned();
+        if width >= root.len() as u64 {
+            return distance;
+        }
+        let number = self.lowest.wrapping_add_unsigned(distance as u64);
+        for (position, item) in root.iter().enumerate() {
+            if item.number == number {
+                return position;
+            }
+        }
+        distance
+    }
+
+    /// The number to be tried next above one and below another, where `left` items may lie, and the one sought is at this
+    /// place among them, in the order of their numbers: by turns the number that lies as far in the range as the place
+    /// does, the one that lies as far as the next place, and the one that halves the range.
+    fn probe(&self, turn: u32, above: i64, below: i64, place: usize, left: usize) -> i64
+        requires { 0 < left }
+    {
+        let above = above.max(self.lowest.wrapping_sub(1));
+        let below = below.min(self.highest.wrapping_add(1));
+        let width = below.wrapping_sub(above).cast_unsigned();
+        let place = place as u64;
+        let distance = match turn % 3 {
+            0 => width.wrapping_mul(place) / left as u64,
+            1 => width.wrapping_mul(place.wrapping_add(1)) / left as u64,
+            _ => width / 2,
+        };
+        above.wrapping_add_unsigned(distance).wrapping_add(1)
     }
 }
 
-/// How many probes there are at most: at the lowest number, past the highest, and halves of the numbers between them,
-/// which are of 32 bits.
-const PROBES: u32 = 36;
+/// How many probes there are at most: every third halves a range of numbers of 32 bits.
+const PROBES: u32 = 105;
 
 /// Fallback for unsorted items, in whatever order they stand: each probe counts the items below a number, and so narrows
 /// the range of the number sought, until one item is left in it.
-fn position_by_numbers(root: &[Item], index: usize) -> u32
+fn position_by_numbers(root: &[Item], ends: &Ends, index: usize) -> u32
     requires good { AreRootItems (map label_of root.now) }
     requires inside { index < length root.now }
     ensures { result ≡ position_of (map label_of root.now) index }
 {
     let mut above = i64::MIN;
     let mut below = i64::MAX;
+    let mut lower = 0;
+    let mut upper = root.len();
     for turn in 0..PROBES {
-        let next = probe(root, turn, above, below);
+        let left = upper.saturating_sub(lower);
+        if left <= 1 {
+            break;
+        }
+        let next = ends.probe(turn, above, below, index.saturating_sub(lower), left);
         if above < next && next < below {
-            if rank(root, next) > index {
+            let count = rank(root, next);
+            if count > index {
                 below = next;
+                upper = count;
             } else {
                 above = next - 1;
+                lower = count;
             }
         }
     }
@@ -176,30 +233,6 @@ fn position_by_numbers(root: &[Item], index: usize) -> u32
         }
     }
     unreachable!()
-}
-
-/// The number to be tried at this turn: first that of the lowest item, then one past the highest, and from then on the
-/// one that halves the range.
-fn probe(root: &[Item], turn: u32, above: i64, below: i64) -> i64 {
-    let mut lowest = i64::MAX;
-    let mut highest = i64::MIN;
-    match turn {
-        0 => {
-            for item in root {
-                lowest = lowest.min(item.number);
-            }
-            lowest
-        }
-        1 => {
-            for item in root {
-                highest = highest.max(item.number);
-            }
-            highest.saturating_add(1)
-        }
-        _ => above
-            .wrapping_add(below.wrapping_sub(above) / 2)
-            .wrapping_add(1),
-    }
 }
 
 /// Reads an item of a type with an extension mark: 0 and one of the root, or 1 and one of the additions.

@@ -8,11 +8,11 @@ ghost use Rattle.asn_per.specs.Rules.{per_ruling};
 ghost use Rattle.asn_per.specs.Laws.{per_bits, NoBitsIsExact};
 ghost use Rattle.asn_per.specs.Kinds.{BooleansCompose, NullsCompose, IntegersCompose, EnumeratedCompose, BitStringsCompose, OctetStringsCompose, TextsCompose, Utf8StringsCompose, ListsCompose, FixedSizesCompose, ChoicesCompose, SequencesCompose, MarkedSequencesCompose, EnumeratedButOne, UnboundedButOne};
 
-/// A spelling tells its value and where it ends, whatever follows it.
+/// A spelling determines its value and where it ends, whatever follows it.
 ///
 /// Two spellings at the front of one list of bits are one, of one value. Octets are the complete encoding of one value
 /// only, and no complete encoding begins another. Two spellings of one type are one, of one value, or they part at a
-/// bit or inside sealed fields that stand in one place.
+/// bit or inside sealed fields at one place.
 pub fn decoding_is_unique()
     ensures bits { UnitsTellTheValue per_bits }
     ensures one_value { OneValue per_octets }
@@ -56,9 +56,11 @@ pub fn prefixes_are_viable()
     ensures not_refused { BeginningsAreNotRefused per_ruling }
 {}
 
-/// What makes a reader of PER exact: two complete encodings of one type are one, of one value, or part at a bit or
-/// inside sealed fields of one kind; each sealed field is at least as long as its content and begins no other; and the
-/// bits of octets are those of each, one after the other.
+/// What makes a reader of PER exact.
+///
+/// - Two complete encodings of one type are one, of one value, or part at a bit or inside sealed fields of one kind.
+/// - Each sealed field is at least as long as its content and begins no other.
+/// - The bits of octets are those of each, one after the other.
 pub fn readers_tell()
     ensures { RulesTell per_ruling }
 {}
@@ -69,10 +71,10 @@ pub fn readers_tell()
 /// - `encodes_again`: a value that `decode` answered has the octets that it was given as its encoding, and no others.
 ///   `only_memory`: where `encode` gives none for it, it had no memory.
 /// - `equal_exactly`: two values are equal exactly where their octets are.
-/// - `begins`: where octets follow an encoding, `decode` tells where it ends. `one_front`: where `decode` tells so, the
+/// - `begins`: where octets follow an encoding, `decode` reports where it ends. `one_front`: if it does, the
 ///   octets in front are the encoding of a value, and no other front is an encoding.
 /// - `cut`: to each proper beginning of an encoding `decode` answers `Truncated`, with all its bits.
-/// - `one_answer`: two answers to the same octets, neither being `Memory`, say the same, but for the reason of a
+/// - `one_answer`: two answers to the same octets, neither being `Memory`, say the same, except the reason of a
 ///   refusal.
 pub fn codec_laws()
     ensures decodes { DecodesTheEncoded per_ruling }
@@ -85,11 +87,12 @@ pub fn codec_laws()
     ensures one_answer { DecodersAgree per_ruling }
 {}
 
-/// Of each kind of type of the profile the spellings of its values are those of its parts, put
-/// together: numbers of a set in a fixed count of bits, lengths, items in a row, extension bits
-/// that fork, presence bits and open type fields. A list whose size is fixed has no count. Of an
-/// ENUMERATED without a mark, and of an INTEGER without a low bound and without a mark, the same is
-/// said of the values but for one, as a component with a DEFAULT is spelt.
+/// Of each kind of type of the profile the spellings of its values are those of its parts, put together. The parts are
+/// numbers of a set in a fixed count of bits, lengths, items in a row, extension bits that fork, presence bits and
+/// open type fields. A list whose size is fixed has no count.
+///
+/// Of an ENUMERATED without a mark, and of an INTEGER without a low bound and a mark, the same is said of the values
+/// except one, as a component with a DEFAULT is spelt.
 pub fn kinds_compose()
     ensures booleans { BooleansCompose }
     ensures nulls { NullsCompose }

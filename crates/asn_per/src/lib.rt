@@ -7,6 +7,7 @@ mod in_pieces;
 mod indexes;
 mod integers;
 pub mod internal;
+mod item_runs;
 mod items;
 pub mod laws;
 mod plan_leaves;

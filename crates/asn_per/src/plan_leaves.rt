@@ -62,9 +62,8 @@ impl PlanLeaves for Per {
     #[inline(always)]
     fn next_item(items: &Enumeration, word: &mut Word) -> Option<u32> {
         let index = word.take_below(items.bits, items.mask)?;
-        let last = u64::from(items.highest);
-        if index > last {
-            return None;
+        if index >= u64::from(items.order.in_place) {
+            return items.sorted_position(index);
         }
         Some(index as u32)
     }

@@ -247,7 +247,7 @@ pub(crate) fn append_characters(
 }
 
 /// Appends `count` characters at once if all are present and valid; returns whether it did.
-fn try_append_characters(
+pub(crate) fn try_append_characters(
     kind: TextKind,
     count: u32,
     into: &mut Vec<u8>,

@@ -17,5 +17,6 @@ pub mod Placing
 pub mod Ranks
 pub mod RootItems
 pub mod Rows
+pub mod Sorting
 pub mod StringsPut
 pub mod WordsTaken

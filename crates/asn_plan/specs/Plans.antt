@@ -1,14 +1,13 @@
 -- Which types the nodes of a plan stand for, and what the walk of a plan says of units.
-use Rattle.std.specs.Prelude.{◌≡◌, ◌+◌, ◌-◌, ◌*◌, ◌≤◌, ◌<◌, ℕ, zero, suc, List, [], ◌∷◌, ◌++◌, length, take, drop, Option, None, IfSome, Result, Ok, Err, ⊤}
+use Rattle.std.specs.Prelude.{◌≡◌, ◌+◌, ◌-◌, ◌*◌, ◌≤◌, ◌<◌, ℕ, zero, suc, List, [], ◌∷◌, ◌++◌, length, take, drop, Option, None, IfSome, Result, ⊤}
 use Rattle.asn_values.specs.Datum.{Datum}
 use Rattle.asn_values.specs.Parts.{AreOfProfile}
 use Rattle.asn_values.specs.Profile.{InProfile}
 use Rattle.asn_values.specs.Shape.{Shape, boolean, null, integer, enumerated, bit_string, octet_string, restricted, utf8_string, sequence, sequence_of, choice, Fields, no_fields, field, MoreFields, closed, marked, Demand, must, optional, default, Alternatives, no_alternatives, one_of, MoreAlternatives, closed_choice, marked_choice}
 use Rattle.asn_values.specs.View.{shape_of, datum_of, size_range_of}
 use Rattle.asn_bits.specs.Numbers.{bits}
-use Rattle.asn_rules.specs.Answer.{Ruling, IsEncoding, max_octets}
+use Rattle.asn_rules.specs.Answer.{Ruling, IsEncoding}
 use Rattle.asn_rules.specs.Chunks.{Chunk}
-use Rattle.asn_rules.specs.Codec.{Decoded}
 use Rattle.asn_rules.specs.declared.fault.DecodeFault.{DecodeFault}
 use Rattle.asn_rules.specs.Languages.{Spells}
 use Rattle.asn_rules.specs.Listed.{Listed, bitmap_length}
@@ -19,6 +18,7 @@ use Rattle.asn_plan.specs.Ranged.{ranged}
 use Rattle.asn_plan.specs.Words.{before}
 use Rattle.asn_plan.specs.declared.word.Word.{Word}
 use Rattle.asn_walk.specs.Reading.{Reads, ValuesOf, OthersOf}
+use Rattle.asn_walk_check.specs.Checked.{Checks as ChecksMessage}
 use Rattle.asn_plan.specs.declared.plan.Plan.{Plan}
 use Rattle.asn_plan.specs.declared.plan.WithDefault.{WithDefault}
 use Rattle.asn_plan.specs.declared.plan.Node.{Node}
@@ -260,5 +260,4 @@ pub record BuildsMessage {P : Type 0} (r : Ruling) (built : P → Datum → Type
 
 -- what is told of octets: they are the encoding of some value of the type, or the fault that `decode` tells
 abbrev pub Checks : Ruling → Result (Unit {0}) DecodeFault → Shape → List ℕ → Type 0
-Checks r (Ok u) t o = (length o ≤ max_octets) × (d : Datum) × IsEncoding r t d o
-Checks r (Err why) t o = Decoded r (Err why) t o
+Checks r answer t o = ChecksMessage r answer t o

@@ -2,7 +2,7 @@
 ghost use Rattle.std.specs.Prelude.{◌≡◌, ◌≤◌, ◌<◌, ◌+◌, ◌%◌, ◌^◌, IfSome};
 ghost use Rattle.std.proofs.Props.{props};
 
-/// The numbers from `low` on, as far as `most` above it, each of which is told by a number in `bits` bits: `low` itself by
+/// The numbers from `low` on, as far as `most` above it, each encoded as a number in `bits` bits: `low` itself by
 /// `first`, and the next ones by the numbers after it.
 #[derive(Clone, Copy)]
 pub struct BitField {
@@ -14,8 +14,8 @@ pub struct BitField {
     ghost small: { low + most < 2 ^ 32 },
 }
 
-/// The fields that tell numbers: by rules that tell them by bits, as PER does, and by rules that tell them by octets, as OER
-/// does; where there is none, the numbers are not told by so little.
+/// The fields of numbers: for rules that encode them in bits, as PER does, and for rules that use octets, as OER
+/// does; where there is none, the numbers need more.
 #[derive(Clone, Copy)]
 pub struct BitFields {
     pub in_bits: Option<BitField>,

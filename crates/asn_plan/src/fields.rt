@@ -82,7 +82,7 @@ fn count_in_octets(size: &Size) -> Option<BitField>
     })
 }
 
-/// Takes the number that a field tells; `None`, and the cursor stays, where the next bits are no number of the field or
+/// Takes the number of a field; `None`, and the cursor stays, where the next bits are no number of the field or
 /// have not all come.
 #[inline(always)]
 pub fn take_told(field: &BitField, units: &mut BitCursor<'_>) -> Option<u32>

@@ -23,7 +23,7 @@ pub struct FixedString {
     pub bits: u32,
     /// How many octets they have by OER, if at most 7; else 0.
     pub octets: u32,
-    /// How many bits stand before their own by OER: 16 with the length and the count of unused bits, where there is a mark,
+    /// How many bits precede their own by OER: 16 with the length and the count of unused bits, where there is a mark,
     /// else none.
     pub head_bits: u32,
     /// The number in these bits.
@@ -80,8 +80,8 @@ pub(crate) fn fixed_of(ty: &AsnType) -> Option<FixedString>
     }
 }
 
-/// What stands by OER before a BIT STRING of at most 62 bits: where there is an extension mark, its length and the count of
-/// its unused bits, in how many bits, and as a number; else nothing.
+/// What stands by OER before a BIT STRING of at most 62 bits: where there is an extension mark, its length and the
+/// count of its unused bits, in how many bits, and as a number; else nothing.
 fn octets_before(marked: bool, length: u32) -> (u32, u64)
     requires { length ≤ 62 }
     ensures bits { result.0 ≡ 16 * bit_of marked }

@@ -23,7 +23,7 @@ pub fn unsigned_size(high: i128) -> u32
 }
 
 /// How many octets of two's complement hold the numbers from `low` to `high`, where it is a fixed number: as many as
-/// hold twice the one that is farthest from zero, beside whose bits stands the sign.
+/// hold twice the one that is farthest from zero, with a bit for the sign.
 pub fn signed_size(low: i128, high: i128) -> Option<u32>
     requires low { lowest_integer ≤ℤ low }
     requires high { high ≤ℤ highest_integer }
@@ -37,8 +37,8 @@ pub fn signed_size(low: i128, high: i128) -> Option<u32>
     }
 }
 
-/// How many octets each INTEGER from `low` to `high` has, where it is one count for all of them: unsigned from a bound on
-/// that is not negative, and else in two's complement.
+/// How many octets each INTEGER from `low` to `high` has, where it is one count for all of them: unsigned from a bound
+/// on that is not negative, and else in two's complement.
 pub fn fixed_size(low: i128, high: i128) -> Option<u32>
     requires low { lowest_integer ≤ℤ low }
     requires high { high ≤ℤ highest_integer }

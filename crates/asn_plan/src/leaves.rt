@@ -177,7 +177,7 @@ pub(crate) fn try_item<R: PlanLeaves>(items: &Enumeration, units: &mut BitCursor
         return Some(position);
     }
     *units = start;
-    None
+    R::try_item(items, units)
 }
 
 /// Reads a string of one length and returns the number in its bits. `None`, with the cursor where it was, if its units

@@ -38,10 +38,10 @@ mod word;
 pub use budget::{Budget, Taken, WithinFault};
 pub use build::{Build, Nothing, Values};
 pub use counting::Counting;
-pub use enumeration::Enumeration;
+pub use enumeration::{Enumeration, Order};
 pub use field::{BitField, BitFields};
 pub use fixed::FixedString;
-pub use message::build_octets;
+pub use message::{build_octets, check_exactly};
 pub use of::plan_of;
 pub use place::Place;
 pub use plan::{

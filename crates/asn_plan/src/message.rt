@@ -6,7 +6,7 @@ ghost use Rattle.asn_values.specs.View.{shape_of, datum_of};
 ghost use Rattle.asn_rules.specs.Answer.{IsEncoding, max_octets};
 ghost use Rattle.asn_rules.specs.Codec.{Decoded};
 ghost use Rattle.asn_plan.specs.Plans.{IsPlanOf, BuildsMessage, Checks};
-ghost use Rattle.asn_plan.specs.Within.{DecodedWithin, IsTaken};
+ghost use Rattle.asn_plan.specs.Within.{CheckedWithin, DecodedWithin, IsTaken};
 
 use crate::budget::{Budget, Taken, WithinFault};
 use crate::build::{Build, Nothing, Values};
@@ -17,6 +17,7 @@ use crate::reused::{Reused, Spare};
 use crate::rules::{PlanLeaves, PlanRules};
 use asn_rules::{DecodeFault, MAX_OCTETS, Rules};
 use asn_values::{Checked, Value};
+use asn_walk_check::check_message;
 use std::alloc::Global;
 use std::mem;
 
@@ -39,8 +40,24 @@ pub fn build_octets<R: PlanLeaves, B: Build>(
     Some(part)
 }
 
-/// Whether the octets are the encoding of some value of the type: `Ok` exactly where they are, unless memory is
-/// wanting, and else the fault that `decode` tells.
+/// Whether the octets are the complete encoding of some value of the type by the rules R: `Ok` exactly where they are,
+/// unless an allocation failed, and else the fault of `decode`. No value is built: what is taken for the time of the call
+/// is one string or open type field of the message.
+///
+/// # Errors
+/// As `asn_rules::decode`.
+pub fn check_exactly<R: PlanRules>(
+    alloc: Global,
+    ty: &Checked,
+    octets: &[u8],
+) -> Result<(), DecodeFault>
+    ensures { Checks R.ruling result (shape_of ty.now) octets.now }
+{
+    check_message::<R>(alloc, ty, octets)
+}
+
+/// Whether the octets are the encoding of some value of the type: `Ok` exactly where they are, unless an allocation failed,
+/// and else the fault of `decode`.
 ///
 /// # Errors
 /// As `asn_rules::decode`.
@@ -58,10 +75,7 @@ pub(crate) fn check_by<R: PlanRules>(
     if let Some(()) = build_octets::<R, Nothing>(alloc, plan, octets, &mut ()) {
         return Ok(());
     }
-    match R::decode(alloc, ty, octets) {
-        Ok(_) => Ok(()),
-        Err(why) => Err(why),
-    }
+    check_exactly::<R>(alloc, ty, octets)
 }
 
 /// The value of the type whose complete encoding the octets are: what `asn_rules::decode` answers.
@@ -149,15 +163,41 @@ pub(crate) fn taken_by<R: PlanRules>(
     build_octets::<R, Counting>(alloc, plan, octets, &mut ())
 }
 
-/// The fault of octets at which the walk gave up: it does so at no encoding unless memory is wanting.
+/// The fault of octets at which the walk gave up: it does so at no encoding unless an allocation failed.
 #[inline(never)]
-fn fault_of<R: Rules>(alloc: Global, ty: &Checked, octets: &[u8]) -> DecodeFault
+fn fault_of<R: PlanRules>(alloc: Global, ty: &Checked, octets: &[u8]) -> DecodeFault
     ensures { Decoded R.ruling (Err result) (shape_of ty.now) octets.now }
 {
-    match R::decode(alloc, ty, octets) {
-        Ok(_) => DecodeFault::Memory,
+    match check_exactly::<R>(alloc, ty, octets) {
+        Ok(()) => DecodeFault::Memory,
         Err(why) => why,
     }
+}
+
+/// What the value takes whose complete encoding the octets are, if it takes no more than the budget.
+///
+/// # Errors
+/// `Decode` as `asn_rules::decode`; `OverBudget` where the octets are the encoding of a value that takes more.
+#[inline(always)]
+pub(crate) fn check_within_by<R: PlanRules>(
+    alloc: Global,
+    ty: &Checked,
+    plan: &Plan,
+    octets: &[u8],
+    budget: &Budget,
+) -> Result<Taken, WithinFault>
+    requires { IsPlanOf plan.now (shape_of ty.now) }
+    ensures { CheckedWithin R.ruling budget.now result (shape_of ty.now) octets.now }
+{
+    ty.get();
+    let Some(taken) = taken_by::<R>(alloc, ty, plan, octets) else {
+        let why = fault_of::<R>(alloc, ty, octets);
+        return Err(WithinFault::Decode(why));
+    };
+    if !taken.is_within(budget) {
+        return Err(WithinFault::OverBudget);
+    }
+    Ok(taken)
 }
 
 /// The value of the type whose complete encoding the octets are, if it takes no more than the budget.

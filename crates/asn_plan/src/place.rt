@@ -9,7 +9,7 @@ use std::alloc::Global;
 use std::mem;
 
 /// The entries of a SEQUENCE that are put over those of a value before, and how many of them are new: the next value is
-/// put at this index. What stands there and after it is kept for its memory alone.
+/// put at this index. What is there and after it is kept for its memory alone.
 #[derive(Drop)]
 pub struct Place {
     pub(crate) items: Vec<Option<Value>>,

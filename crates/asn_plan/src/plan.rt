@@ -23,7 +23,7 @@ pub struct Between {
     ghost is_ranged: { IsRanged range },
 }
 
-/// An ENUMERATED whose items stand in the order of their numbers, with what is worked out of them.
+/// An ENUMERATED, with what is worked out of its items.
 #[derive(Drop)]
 pub struct Items {
     pub of: Enumeration,
@@ -58,8 +58,8 @@ pub struct Runs {
     pub strings: Run,
 }
 
-/// Where the nodes of the components of a SEQUENCE stand among those of the plan, counted from 0: those of the root
-/// from `begin` up to `middle`, those of the extension additions from there up to `end`. All that they need stands
+/// Where the nodes of the components of a SEQUENCE are among those of the plan, counted from 0: those of the root
+/// from `begin` up to `middle`, those of the extension additions from there up to `end`. All that they need comes
 /// before `begin`. There may be none.
 #[derive(Clone, Copy)]
 pub struct ComponentRows {
@@ -77,8 +77,8 @@ pub struct ComponentRows {
     ghost is_mask: { width ≤ 64 → mask + 1 ≡ 2 ^ width },
 }
 
-/// How many elements a SEQUENCE OF has, and where the node of their type stands among those of the plan, counted from
-/// 0. All that it needs stands before it.
+/// How many elements a SEQUENCE OF has, and where the node of their type is among those of the plan, counted from
+/// 0. All that it needs comes before it.
 #[derive(Clone, Copy)]
 pub struct ElementRow {
     pub size: Size,
@@ -89,8 +89,8 @@ pub struct ElementRow {
     ghost are_counts: { AreCountFields counts (size_range_of size) } by { Prim.hlevel props },
 }
 
-/// Where the nodes of the alternatives of a CHOICE stand among those of the plan, counted from 0: those of the root
-/// from `begin` up to `middle`, those of the extension additions from there up to `end`. All that they need stands
+/// Where the nodes of the alternatives of a CHOICE are among those of the plan, counted from 0: those of the root
+/// from `begin` up to `middle`, those of the extension additions from there up to `end`. All that they need comes
 /// before `begin`.
 #[derive(Clone, Copy)]
 pub struct AlternativeRows {
@@ -111,7 +111,7 @@ pub enum Kind {
     Number(Between),
     /// A BOOLEAN.
     Truth,
-    /// An ENUMERATED whose items stand in the order of their numbers.
+    /// An ENUMERATED.
     Item(Items),
     /// A value of a type that the rules read by themselves.
     Leaf(Leaf),
@@ -136,12 +136,12 @@ pub enum Presence {
 pub struct Node {
     pub presence: Presence,
     pub kind: Kind,
-    /// Those of this component and of the next ones, as far as each has to be there and is told by bits or octets, or is a
-    /// SEQUENCE of such components.
+    /// Those of this component and of the next ones, as far as each has to be there and is read from bits or octets,
+    /// or is a SEQUENCE of such components.
     pub run: Runs,
 }
 
-/// A plan of a type: the nodes of its parts, and what is to be read of the type, before which all of these stand.
+/// A plan of a type: the nodes of its parts, and what is to be read of the type, which comes after all of these.
 #[derive(Drop)]
 pub struct Plan {
     pub nodes: Vec<Node>,

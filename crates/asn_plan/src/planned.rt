@@ -4,7 +4,7 @@ ghost use Rattle.std.specs.Prelude.{◌≡◌, IfOk};
 use crate::budget::{Budget, Taken, WithinFault};
 use crate::build::Build;
 use crate::message::{
-    build_octets, check_by, decode_by, decode_into_by, decode_within_by, taken_by,
+    build_octets, check_by, check_within_by, decode_by, decode_into_by, decode_within_by, taken_by,
 };
 use crate::of::plan_of;
 use crate::plan::Plan;
@@ -65,11 +65,11 @@ impl Planned {
     ghost use Rattle.asn_rules.specs.Answer.{max_octets};
     ghost use Rattle.asn_rules.specs.Codec.{Decoded};
     ghost use Rattle.asn_plan.specs.Plans.{BuildsMessage, Checks};
-    ghost use Rattle.asn_plan.specs.Within.{DecodedWithin, IsTaken};
+    ghost use Rattle.asn_plan.specs.Within.{CheckedWithin, DecodedWithin, IsTaken};
 
     /// Whether the octets are the complete encoding of some value of the type by the rules R: `Ok` exactly where they
-    /// are, unless memory is wanting, and else the fault that `decode` tells. No value is built, but where the plan
-    /// gives up.
+    /// are, unless an allocation failed, and else the fault of `decode`. No value is built, whatever the octets are:
+    /// what is taken for the time of the call is one string or open type field of the message.
     ///
     /// # Errors
     /// As `asn_rules::decode`.
@@ -110,7 +110,7 @@ impl Planned {
     }
 
     /// What is built, in this room, of the value of the type whose complete encoding by the rules R the octets are.
-    /// `None` where the octets are no encoding or memory is wanting; then nothing is claimed, of the room neither.
+    /// `None` where the octets are no encoding or an allocation fails; then nothing is claimed, of the room neither.
     #[inline(always)]
     pub fn build<R: PlanRules, B: Build>(
         &self,
@@ -128,16 +128,33 @@ impl Planned {
 
     /// What the value takes whose complete encoding by the rules R the octets are. No value is built: what is taken
     /// for the time of the call is one string or open type field of the message. `None` where the octets are no
-    /// encoding or memory is wanting; then nothing is claimed, and no other reader is asked.
+    /// encoding or an allocation fails; then nothing is claimed, and no other reader is asked.
     pub fn taken<R: PlanRules>(&self, alloc: Global, octets: &[u8]) -> Option<Taken>
         ensures { IsTaken R.ruling result (shape_of self.now) octets.now }
     {
         taken_by::<R>(alloc, &self.ty, &self.plan, octets)
     }
 
+    /// What the value takes whose complete encoding by the rules R the octets are, if that is no more than the budget.
+    /// No value is built, whatever the octets are: what is taken for the time of the call is one string or open type
+    /// field of the message.
+    ///
+    /// # Errors
+    /// `Decode` as `asn_rules::decode`; `OverBudget` where the octets are the encoding of a value that takes more.
+    pub fn check_within<R: PlanRules>(
+        &self,
+        alloc: Global,
+        octets: &[u8],
+        budget: &Budget,
+    ) -> Result<Taken, WithinFault>
+        ensures { CheckedWithin R.ruling budget.now result (shape_of self.now) octets.now }
+    {
+        check_within_by::<R>(alloc, &self.ty, &self.plan, octets, budget)
+    }
+
     /// The value of the type whose complete encoding by the rules R the octets are, if it takes no more than the
-    /// budget. What it takes is counted first, without a value. Octets that are no encoding are read as by
-    /// `asn_rules::decode`, in as much memory as what stands before the fault takes, whatever the budget.
+    /// budget. What it takes is counted first, as by `check_within`, so that no value is built but one within the
+    /// budget.
     ///
     /// # Errors
     /// `Decode` as `asn_rules::decode`; `OverBudget` where the octets are the encoding of a value that takes more.

@@ -9,7 +9,7 @@ pub struct Ranged {
     pub marked: bool,
     /// How far `high` lies above `low`.
     pub highest: u64,
-    /// The fewest bits that tell the numbers from 0 to `highest` apart, and the extension bit, where there is a mark.
+    /// The fewest bits that distinguish the numbers from 0 to `highest`, and the extension bit, where there is a mark.
     pub bits: u32,
     /// The highest number of this many bits.
     pub mask: u64,

@@ -12,7 +12,7 @@ use std::alloc::Global;
 use std::mem;
 
 /// Makes values in the memory of one that is there. A part is put at its place among the entries of the SEQUENCE around
-/// it, over what stood there.
+/// it, over what was there.
 pub struct Reused;
 
 /// Memory that serves from message to message: where the next value is put, the places of the SEQUENCEs around it that

@@ -26,8 +26,8 @@ use asn_bits::BitCursor;
 use asn_rules::Rules;
 use asn_walk::{Preamble, ReadLeaves};
 
-/// What a plan asks of a set of rules beside the parts that any walk asks for: values by what was worked out of their
-/// types once.
+/// What a plan asks of a set of rules in addition to the parts that any walk asks for: values by what was worked out
+/// of their types once.
 pub trait PlanLeaves: ReadLeaves {
     /// Takes this many units at once, if they have all come and a word holds them; otherwise none.
     fn take_word(run: Run, units: &mut BitCursor<'_>) -> Word
@@ -95,8 +95,8 @@ pub trait PlanLeaves: ReadLeaves {
         None
     }
 
-    /// Takes what fills up an open type field of `octets` octets, after a value of `taken` units. Returns whether that is
-    /// the end of the field; otherwise some units may be taken.
+    /// Takes what fills up an open type field of `octets` octets, after a value of `taken` units. Returns whether that
+    /// is the end of the field; otherwise some units may be taken.
     #[inline(always)]
     fn leave_open(_octets: u32, _taken: u128, _units: &mut BitCursor<'_>) -> bool
         requires at_unit { Self.rules.at_unit _units.old }
@@ -118,8 +118,23 @@ pub trait PlanLeaves: ReadLeaves {
         ensures of_integers { IfSome result IsOfProfile }
         ensures none { IsNone result → units.new ≡ units.old };
 
-    /// Reads the index of an alternative of the root of a CHOICE, or gives `None` and leaves the cursor where it is: if it is
-    /// not at hand, or not told by these fields.
+    /// Reads an ENUMERATED of the type that stands in no word, and gives the position of the item; or gives `None` and
+    /// leaves the cursor where it is: if its encoding is not complete or not valid, and perhaps for an item that is no
+    /// one of the root.
+    #[inline(always)]
+    fn try_item(_items: &Enumeration, _units: &mut BitCursor<'_>) -> Option<u32>
+        requires at_unit { Self.rules.at_unit _units.old }
+        requires items { IsEnumeration _items.now }
+        ensures at_unit { Self.rules.at_unit _units.new }
+        ensures some { IfSome result (λ p.
+            Reads Self.rules (ValuesOf Self.rules (shape_of _items.now.ty)) (item p) _units.old _units.new) }
+        ensures none { IsNone result → _units.new ≡ _units.old }
+    {
+        None
+    }
+
+    /// Reads the index of an alternative of the root of a CHOICE, or gives `None` and leaves the cursor where it is:
+    /// if it is not at hand, or not told by these fields.
     fn try_index(fields: &BitFields, units: &mut BitCursor<'_>) -> Option<u32>
         requires at_unit { Self.rules.at_unit units.old }
         ensures at_unit { Self.rules.at_unit units.new }
@@ -127,8 +142,9 @@ pub trait PlanLeaves: ReadLeaves {
             → Reads Self.rules (IndexOf Self.rules root more) (inl n) units.old units.new) }
         ensures none { IsNone result → units.new ≡ units.old };
 
-    /// Reads how many elements a SEQUENCE OF of the root has, and all else that stands before them, where no others follow
-    /// them. Gives `None` and leaves the cursor where it is if that is not at hand, or not told by these fields.
+    /// Reads how many elements a SEQUENCE OF of the root has, and all else that stands before them, where no others
+    /// follow them. Gives `None` and leaves the cursor where it is if that is not at hand, or not told by these
+    /// fields.
     fn try_count(fields: &BitFields, units: &mut BitCursor<'_>) -> Option<u32>
         requires at_unit { Self.rules.at_unit units.old }
         ensures at_unit { Self.rules.at_unit units.new }

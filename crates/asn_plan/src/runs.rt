@@ -4,7 +4,7 @@ ghost use Rattle.std.specs.Prelude.{◌≤◌};
 use crate::build::Build;
 use crate::fixed::fixed_of;
 use crate::fixed_sizes::fixed_size;
-use crate::items::{are_ordered, first_in_row};
+use crate::items::first_in_row;
 use crate::plan::{Node, Presence, Runs};
 use crate::word::{MOST_OCTETS, Run};
 use asn_bits::internal::width;
@@ -191,8 +191,14 @@ fn units_of_value(unit: Unit, ty: &AsnType) -> Option<u32> {
     }
 }
 
-/// How many units a string has, if it is one of one length and strings are counted.
+/// How many units a string has, if it is one of one length without an extension mark and strings are counted. With a mark
+/// it may have another length, of which its first units alone tell.
 fn units_of_string(unit: Unit, ty: &AsnType) -> Option<u32> {
+    if let AsnType::Bits(size) = ty
+        && size.ext
+    {
+        return None;
+    }
     let fixed = fixed_of(ty)?;
     match unit {
         Unit::StringBit => Some(fixed.bits),
@@ -203,9 +209,6 @@ fn units_of_string(unit: Unit, ty: &AsnType) -> Option<u32> {
 
 /// How many units tell the items apart, if a plan has them as numbers.
 fn units_of_items(unit: Unit, items: &[Item]) -> Option<u32> {
-    if !are_ordered(items) {
-        return None;
-    }
     match unit {
         Unit::Bit | Unit::StringBit => Some(width(items.len() as u128)),
         Unit::Octet | Unit::StringOctet => first_in_row(items).map(|_| 1),

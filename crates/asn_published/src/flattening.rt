@@ -1,27 +1,31 @@
 //! From published texts to one module of the profile.
-ghost use Rattle.std.specs.Prelude.{◌≤◌, ◌<◌, ℕ, length, IfErr, IfOk, string_bytes};
+ghost use Rattle.std.specs.Prelude.{◌≡◌, ◌≤◌, ◌<◌, ℕ, length, IfErr, IfOk, option_map, string_bytes};
 ghost use Rattle.asn_module.specs.Accepted.{Accepted};
 ghost use Rattle.asn_module.specs.ModuleView.{types_view};
-ghost use Rattle.asn_module.specs.Sizes.{IsAtMost, types_size};
+ghost use Rattle.asn_module.specs.Sizes.{types_size};
 ghost use Rattle.asn_published_text.specs.Modules.{StandIn};
+ghost use Rattle.asn_published_report.specs.Parts.{status_at, type_named};
 ghost use Rattle.asn_published.specs.TextFaults.{IsOneOf};
 
 use crate::fault::PublishedFault;
+use crate::marks::Marks;
 use crate::naming::{level_mark_of, names_of};
 use crate::reaching::order_for;
-use crate::refusing::refuse;
-use crate::reports::reports_of;
-use asn_module::{Module, read, read_within};
+use crate::refusing::{refuse, refuse_large};
+use crate::reports::{Reported, reports_of};
+use asn_module::{MOST_SIZE, Module, read_within};
 use asn_published_read::texts::read_texts;
 use asn_published_report::missing::{MissingImport, missing_imports};
+use asn_published_report::way::status_named;
 use asn_published_text::modules::{What, World};
 use asn_published_text::options::Options;
 use asn_published_types::building::Forest;
 use asn_published_types::numbers::numbers_of;
 use asn_published_types::pieces::push_pieces;
-use asn_published_types::report::TypeReport;
+use asn_published_types::report::{Status, TypeReport};
+use asn_published_types::steps::Marked;
 use asn_published_write::sources::Sources;
-use asn_published_write::written::{Written, write_all};
+use asn_published_write::written::{Written, whole_level, write_all};
 use std::alloc::{AllocError, Global};
 
 /// How often types are written again without one that the profile does not take.
@@ -35,6 +39,35 @@ pub struct Flattened {
     pub module: Module,
     pub report: Vec<TypeReport>,
     pub missing: Vec<MissingImport>,
+    /// The nodes of the types that are written, and of each type of the report which of these it is.
+    pub(crate) marked: Vec<Marked>,
+    pub(crate) places: Vec<usize>,
+    /// How many levels a recursive type has.
+    pub(crate) levels: u32,
+}
+
+impl Flattened {
+    /// What became of the type of a name, which is that in the module; `None` where there is none.
+    pub fn status_named(&self, name: &str) -> Option<Status>
+        ensures { result ≡ option_map (λ i. status_at self.now.report.items i)
+            (type_named self.now.report.items name.now) }
+    {
+        status_named(self.report.as_slice(), name)
+    }
+
+    /// The marks of the type of a name; `None` where nothing of its values is to be said, or there is no such type.
+    pub fn into_marks(self, name: &str) -> Option<Marks> {
+        let Flattened {
+            report,
+            marked,
+            places,
+            levels,
+            ..
+        } = self;
+        let at = report.iter().position(|one| *one.name.as_str() == *name)?;
+        let place = places.get(at)?;
+        Marks::of(marked, *place, levels)
+    }
 }
 
 /// Where the nodes of each type stand.
@@ -114,11 +147,13 @@ fn places_of<'t>(
     Ok(places)
 }
 
-/// Reads the texts, and builds the nodes of all types; those are written to which the type of a name leads, or all.
+/// Reads the texts, and builds the nodes of all types; those are written to which the type of a name leads, or all, and
+/// come to no more than the bound.
 fn sources_of<'t>(
     alloc: Global,
     texts: &[&'t str],
     wanted: Option<&str>,
+    most: u32,
 ) -> Result<Sources<'t>, PublishedFault>
     ensures { IfErr result (IsOneOf (length texts.now)) }
 {
@@ -138,6 +173,7 @@ fn sources_of<'t>(
         level_mark,
         firsts,
         order,
+        most,
     })
 }
 
@@ -188,53 +224,45 @@ fn text_written(
     Ok(text)
 }
 
-/// The module that a text is. Where there is a bound, the module is no larger.
-fn read_at_most(alloc: Global, text: &str, most: Option<u32>) -> Result<Module, PublishedFault>
-    ensures fault { IfErr result (IsOneOf 0) }
-    ensures accepted { IfOk result (λ m. Accepted text.now (types_view m)) }
-    ensures within { IfOk result (λ m. IsAtMost most (types_size (types_view m).types)) }
-{
-    match most {
-        Some(most) => Ok(read_within(alloc, text, most)?),
-        None => Ok(read(alloc, text)?),
-    }
-}
-
-/// The module that a text is, and its text as it is printed. Where there is a bound, the module is no larger.
-fn read_back(
-    alloc: Global,
-    text: &str,
-    most: Option<u32>,
-) -> Result<(String, Module), PublishedFault>
+/// The module that a text is, which is no larger than the bound, and its text as it is printed.
+fn read_back(alloc: Global, text: &str, most: u32) -> Result<(String, Module), PublishedFault>
     ensures fault { IfErr result (IsOneOf 0) }
     ensures accepted { IfOk result (λ r. Accepted (string_bytes r.0) (types_view r.1)) }
-    ensures within { IfOk result (λ r. IsAtMost most (types_size (types_view r.1).types)) }
+    ensures within { IfOk result (λ r. types_size (types_view r.1).types ≤ most) }
 {
-    let module = read_at_most(alloc, text, most)?;
+    let module = read_within(alloc, text, most)?;
     let printed = module.print(alloc)?;
     Ok((printed, module))
 }
 
-/// Writes all types but those that are refused, and reads them back. Where there is a bound, the module is no larger.
+/// Writes all types but those that are refused, and reads them back, as a module that is no larger than the bound.
 fn attempt(
     alloc: Global,
     sources: &Sources<'_>,
     options: Options,
     refused: &[bool],
-    most: Option<u32>,
+    most: u32,
 ) -> Result<Flattened, PublishedFault>
     ensures fault { IfErr result (IsOneOf 0) }
     ensures accepted { IfOk result (λ f. Accepted (string_bytes f.text) (types_view f.module)) }
-    ensures within { IfOk result (λ f. IsAtMost most (types_size (types_view f.module).types)) }
+    ensures within { IfOk result (λ f. types_size (types_view f.module).types ≤ most) }
 {
     let written = write_all(alloc, sources, options, refused)?;
     let text = text_written(alloc, sources, &written)?;
     let (text, module) = read_back(alloc, text.as_str(), most)?;
+    let Reported {
+        report,
+        marked,
+        places,
+    } = reports_of(alloc, written)?;
     Ok(Flattened {
         text,
         module,
-        report: reports_of(alloc, written)?,
+        report,
         missing: missing_imports(alloc, &sources.world)?,
+        marked,
+        places,
+        levels: whole_level(options),
     })
 }
 
@@ -244,21 +272,23 @@ fn attempt(
 /// `asn_module::read`.
 ///
 /// # Errors
-/// `Text` where a text is none of the notation, with the text's index from 0 and the line from 1; `Unread` where the
-/// profile does not take what was written, with the fault that `asn_module` tells; `Memory` where an allocation failed.
+/// `Text` where a text is none of the notation, with the text's index from 0 and the line from 1. `Unread` where the
+/// profile does not take what was written, with the fault that `asn_module` reports. `Memory` where an allocation
+/// failed.
 pub fn flatten(alloc: Global, texts: &[&str], options: Options) -> Result<Flattened, PublishedFault>
     // A fault of a text is that of one of the texts.
     ensures fault { IfErr result (IsOneOf (length texts.now)) }
     // The text is one that `asn_module` accepts, as the module that is beside it.
     ensures accepted { IfOk result (λ f. Accepted (string_bytes f.text) (types_view f.module)) }
 {
-    flatten_at_most(alloc, texts, options, None, None)
+    flatten_at_most(alloc, texts, options, None, MOST_SIZE)
 }
 
-/// What `flatten` answers, of a module that is no larger than `most`, as `asn_module::read_within` counts it.
+/// What `flatten` answers, of a module that is no larger than `most`, as `asn_module::read_within` counts it. Where the
+/// types come to more, the largest are refused, and the report says so.
 ///
 /// # Errors
-/// `TooLarge` where the module is larger; those of `flatten`.
+/// Those of `flatten`.
 pub fn flatten_within(
     alloc: Global,
     texts: &[&str],
@@ -269,11 +299,11 @@ pub fn flatten_within(
     ensures accepted { IfOk result (λ f. Accepted (string_bytes f.text) (types_view f.module)) }
     ensures within { IfOk result (λ f. types_size (types_view f.module).types ≤ most) }
 {
-    flatten_at_most(alloc, texts, options, None, Some(most))
+    flatten_at_most(alloc, texts, options, None, most)
 }
 
-/// What `flatten_within` answers, of the types alone to which the type of a name leads, itself one of them; of all types,
-/// where none has the name. The name is that in the module of the profile.
+/// What `flatten_within` answers, of the types alone to which the type of a name leads, itself one of them; of all
+/// types, where none has the name. The name is that in the module of the profile.
 ///
 /// # Errors
 /// Those of `flatten_within`.
@@ -288,28 +318,31 @@ pub fn flatten_type_within(
     ensures accepted { IfOk result (λ f. Accepted (string_bytes f.text) (types_view f.module)) }
     ensures within { IfOk result (λ f. types_size (types_view f.module).types ≤ most) }
 {
-    flatten_at_most(alloc, texts, options, Some(name), Some(most))
+    flatten_at_most(alloc, texts, options, Some(name), most)
 }
 
-/// The module of the types that the type of a name leads to, or of all. Where there is a bound, it is no larger.
+/// The module of the types that the type of a name leads to, or of all, which is no larger than the bound.
 #[tactic(auto, using(crate::proofs::TextFaults::of_no_text))]
 fn flatten_at_most(
     alloc: Global,
     texts: &[&str],
     options: Options,
     wanted: Option<&str>,
-    most: Option<u32>,
+    most: u32,
 ) -> Result<Flattened, PublishedFault>
     ensures fault { IfErr result (IsOneOf (length texts.now)) }
     ensures accepted { IfOk result (λ f. Accepted (string_bytes f.text) (types_view f.module)) }
-    ensures within { IfOk result (λ f. IsAtMost most (types_size (types_view f.module).types)) }
+    ensures within { IfOk result (λ f. types_size (types_view f.module).types ≤ most) }
 {
-    let sources = sources_of(alloc, texts, wanted)?;
+    let sources = sources_of(alloc, texts, wanted, most)?;
     let mut refused = vec![in alloc; false; sources.names.len()]?;
     for _ in 1..MOST_TRIES {
         match attempt(alloc, &sources, options, refused.as_slice(), most) {
             Err(PublishedFault::Unread(fault)) => {
                 refuse(alloc, &sources, options, &mut refused, fault)?;
+            }
+            Err(PublishedFault::TooLarge { most, name }) => {
+                refuse_large(&sources, &mut refused, most, name)?;
             }
             answer => return answer,
         }

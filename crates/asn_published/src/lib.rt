@@ -3,18 +3,23 @@
 
 mod fault;
 mod flattening;
+mod looking;
+mod marks;
+mod met;
 mod naming;
 mod reaching;
 mod refusing;
 mod reports;
 
+pub use asn_published_read::passing::{NotText, text_of_octets};
 pub use asn_published_report::json::report_json;
 pub use asn_published_report::missing::{MissingImport, missing_json, missing_text};
 pub use asn_published_report::telling::{report_text, summary_of};
-pub use asn_published_report::way::{refused_text, way_text};
+pub use asn_published_report::way::{refused_text, status_named, way_text};
 pub use asn_published_text::options::Options;
 pub use asn_published_text::refusal::Why;
 pub use asn_published_text::wrong::Wrong;
 pub use asn_published_types::report::{Note, Remark, Status, TypeReport};
 pub use fault::PublishedFault;
 pub use flattening::{Flattened, flatten, flatten_type_within, flatten_within};
+pub use marks::{Looked, Marks, Place};

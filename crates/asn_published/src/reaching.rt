@@ -55,13 +55,13 @@ pub(crate) fn order_for(
     wanted: Option<&str>,
 ) -> Result<Order, AllocError> {
     let Some(wanted) = wanted else {
-        return order_of(alloc, forest, spans);
+        return order_of(alloc, forest, spans, None);
     };
     match names.iter().position(|name| *name.as_str() == *wanted) {
         Some(start) => {
             let reached = spans_from(alloc, forest, spans, start)?;
-            order_of(alloc, forest, reached.as_slice())
+            order_of(alloc, forest, reached.as_slice(), Some(start))
         }
-        None => order_of(alloc, forest, spans),
+        None => order_of(alloc, forest, spans, None),
     }
 }

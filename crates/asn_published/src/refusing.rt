@@ -73,6 +73,24 @@ fn index_at(
     Ok(None)
 }
 
+/// Refuses the type of this name, with whose type the module is larger than it may be.
+pub(crate) fn refuse_large(
+    sources: &Sources<'_>,
+    refused: &mut Vec<bool>,
+    most: u32,
+    name: String,
+) -> Result<(), PublishedFault>
+    ensures { IfErr result (IsOneOf 0) }
+{
+    match index_named(sources, name.as_str()) {
+        Some(index) => {
+            put(refused, index, true);
+            Ok(())
+        }
+        None => Err(PublishedFault::TooLarge { most, name }),
+    }
+}
+
 /// Refuses the type that the profile does not take; a fault of anything else is told.
 pub(crate) fn refuse(
     alloc: Global,

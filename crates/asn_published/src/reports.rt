@@ -1,5 +1,6 @@
 //! The reports of all types, each with those that it refers to.
 use asn_published_types::report::TypeReport;
+use asn_published_types::steps::Marked;
 use asn_published_write::written::Written;
 use std::alloc::{AllocError, Global};
 
@@ -34,21 +35,34 @@ fn used(alloc: Global, places: &[Option<usize>], uses: &[usize]) -> Result<Vec<u
     Ok(found)
 }
 
-/// The reports of all types, in their order.
-pub(crate) fn reports_of(alloc: Global, written: Written) -> Result<Vec<TypeReport>, AllocError> {
+/// The reports of all types, in their order; the types that are written, and of each report which of them it is about.
+#[derive(Drop)]
+pub(crate) struct Reported {
+    pub report: Vec<TypeReport>,
+    pub marked: Vec<Marked>,
+    pub places: Vec<usize>,
+}
+
+/// The reports of all types.
+pub(crate) fn reports_of(alloc: Global, written: Written) -> Result<Reported, AllocError> {
     let Written {
-        states: _,
-        lines: _,
-        levels: _,
         reports,
+        marked,
+        places,
+        ..
     } = written;
-    let places = places_in_report(alloc, reports.as_slice())?;
-    let mut all = Vec::new(alloc);
-    for report in reports {
+    let in_report = places_in_report(alloc, reports.as_slice())?;
+    let mut reported = Reported {
+        report: Vec::new(alloc),
+        marked,
+        places: Vec::new(alloc),
+    };
+    for (report, place) in reports.into_iter().zip(places) {
         if let Some(mut report) = report {
-            report.uses = used(alloc, places.as_slice(), report.uses.as_slice())?;
-            all.push(report)?;
+            report.uses = used(alloc, in_report.as_slice(), report.uses.as_slice())?;
+            reported.report.push(report)?;
+            reported.places.push(place)?;
         }
     }
-    Ok(all)
+    Ok(reported)
 }

@@ -22,7 +22,7 @@ pub(crate) fn after_all(tokens: &Tokens<'_>, at: usize) -> usize {
     }
 }
 
-/// Whether a type stands at `at`, and no value.
+/// Whether a type is at `at`, and no value.
 pub(crate) fn is_type(tokens: &Tokens<'_>, at: usize) -> bool {
     let second = next(at);
     let is_field = tokens.is(second, Sign::Dot) && tokens.is(next(second), Sign::Ampersand);
@@ -315,8 +315,8 @@ fn is_of_set(tokens: &Tokens<'_>, at: usize) -> bool {
         || tokens.is(at, Sign::Ampersand) && !tokens.is(before(at), Sign::Dot)
 }
 
-/// Whether a table constraint stands in the braces at `at`, and no value: components to which it relates follow, it holds
-/// a set of objects, or of a class that is known what stands in braces.
+/// Whether a table constraint stands in the braces at `at`, and no value: components to which it relates follow, it
+/// holds a set of objects, or of a class that is known what stands in braces.
 fn is_table(tokens: &Tokens<'_>, at: usize, class: Option<usize>) -> bool {
     tokens.is(tokens.after(at), Sign::LeftBrace)
         || class.is_some() && tokens.is(next(at), Sign::LeftBrace)

@@ -1,6 +1,7 @@
 //! Cuts a text into its lexical items (X.680, "ASN.1 lexical items"), with both kinds of comment and a byte order mark in
 //! front.
-use crate::octets::{Place, octet_at, on, step};
+use crate::comments::after_comment;
+use crate::octets::{Place, after_blank, is_blank, octet_at, on, step};
 use crate::xml::after_xml;
 use asn_published_text::token::{Kind, Sign, Token};
 use asn_published_text::wrong::{TextFault, Wrong};
@@ -12,82 +13,14 @@ const BYTE_ORDER_MARK: char = '\u{FEFF}';
 /// How many characters a name may have, which stands in each line of a report.
 const MOST_CHARACTERS: usize = 1000;
 
-/// The place after a comment that began with two hyphens, from its third octet on.
-fn after_line_comment(octets: &[u8], from: Place) -> Place {
-    let mut place = from;
-    for _ in 0..octets.len() {
-        match octet_at(octets, place.at) {
-            10..=13 => return place,
-            b'-' if octet_at(octets, on(place.at, 1)) == b'-' => {
-                return Place {
-                    at: on(place.at, 2),
-                    line: place.line,
-                };
-            }
-            _ => {}
-        }
-        if place.at >= octets.len() {
-            return place;
-        }
-        place = step(octets, place);
-    }
-    place
-}
-
-/// The place after a comment that began with `/*`, from its third octet on. Such comments nest.
-fn after_block_comment(octets: &[u8], from: Place) -> Result<Place, TextFault> {
-    let mut place = from;
-    let mut open = 1usize;
-    for _ in 0..octets.len() {
-        let next = octet_at(octets, on(place.at, 1));
-        match octet_at(octets, place.at) {
-            b'*' if next == b'/' => {
-                open = open.saturating_sub(1);
-                place.at = on(place.at, 2);
-                if open == 0 {
-                    return Ok(place);
-                }
-            }
-            b'/' if next == b'*' => {
-                open = open.saturating_add(1);
-                place.at = on(place.at, 2);
-            }
-            _ => place = step(octets, place),
-        }
-        if place.at >= octets.len() {
-            break;
-        }
-    }
-    Err(TextFault::At {
-        line: from.line,
-        wrong: Wrong::Unended,
-    })
-}
-
 /// The place of the next lexical item, or the end.
 fn skip_blank(octets: &[u8], from: Place) -> Result<Place, TextFault> {
     let mut place = from;
     for _ in 0..u64::MAX {
-        let next = octet_at(octets, on(place.at, 1));
-        match octet_at(octets, place.at) {
-            9..=13 | b' ' => place = step(octets, place),
-            b'-' if next == b'-' => {
-                let inside = Place {
-                    at: on(place.at, 2),
-                    line: place.line,
-                };
-                place = after_line_comment(octets, inside);
-            }
-            b'/' if next == b'*' => {
-                let inside = Place {
-                    at: on(place.at, 2),
-                    line: place.line,
-                };
-                place = after_block_comment(octets, inside)?;
-            }
-            // NO-BREAK SPACE
-            0xc2 if next == 0xa0 => place.at = on(place.at, 2),
-            _ => break,
+        match after_comment(octets, place)? {
+            Some(after) => place = after,
+            None if is_blank(octets, place.at) => place = after_blank(octets, place),
+            None => break,
         }
     }
     Ok(place)
@@ -264,7 +197,7 @@ fn after_digits_quoted(octets: &[u8], from: Place) -> Result<Place, TextFault> {
 }
 
 /// The kind of the lexical item that begins at a place, and the place after it; `follows` says that it follows `::=`.
-fn item_after(
+pub(crate) fn item_after(
     alloc: Global,
     octets: &[u8],
     from: Place,

@@ -20,18 +20,9 @@ pub(crate) fn on(at: usize, by: usize) -> usize {
     at.saturating_add(by)
 }
 
-/// Whether the octet ends a line: LF, or CR without an LF after it, or VT or FF.
-fn ends_line(octets: &[u8], at: usize) -> bool {
-    match octet_at(octets, at) {
-        b'\n' | 11 | 12 => true,
-        b'\r' => octet_at(octets, on(at, 1)) != b'\n',
-        _ => false,
-    }
-}
-
-/// The place after one octet.
+/// The place after one octet. A line ends with LF, and with no other octet.
 pub(crate) fn step(octets: &[u8], place: Place) -> Place {
-    let line = if ends_line(octets, place.at) {
+    let line = if octet_at(octets, place.at) == b'\n' {
         place.line.saturating_add(1)
     } else {
         place.line
@@ -39,5 +30,24 @@ pub(crate) fn step(octets: &[u8], place: Place) -> Place {
     Place {
         at: on(place.at, 1),
         line,
+    }
+}
+
+/// Whether a blank begins at an index: a white-space character, or NO-BREAK SPACE in UTF-8.
+pub(crate) fn is_blank(octets: &[u8], at: usize) -> bool {
+    match octet_at(octets, at) {
+        9..=13 | b' ' => true,
+        0xc2 => octet_at(octets, on(at, 1)) == 0xa0,
+        _ => false,
+    }
+}
+
+/// The place after the blank that begins at a place.
+pub(crate) fn after_blank(octets: &[u8], place: Place) -> Place {
+    let after = step(octets, place);
+    if octet_at(octets, place.at) == 0xc2 {
+        step(octets, after)
+    } else {
+        after
     }
 }

@@ -37,7 +37,7 @@ impl Misread {
     }
 }
 
-/// The modules of all texts, with all that stands in their assignments read.
+/// The modules of all texts, with all that is in their assignments read.
 ///
 /// # Errors
 /// `Text` where a text is none of the notation, with its index from 0, the line from 1, and what is wrong there;

@@ -1,5 +1,7 @@
 -- Of which types a type is made.
 use Rattle.std.specs.Prelude.{◌≡◌, ◌<◌, ◌++◌, ◌⊎◌, ℕ, Bool, true, false, List, [], Contains, MatchOption, Option, bytes_eq, get_or, length, map, position, slice_set, string_bytes}
+use Rattle.asn_published_types.specs.declared.report.Status.{Status}
+use Rattle.asn_published_types.specs.declared.report.Status.TheVariants as status
 use Rattle.asn_published_types.specs.declared.report.TypeReport.{TypeReport}
 
 -- the types that the type at an index refers to
@@ -19,6 +21,10 @@ pub record AreParts (types : List TypeReport) (whole : ℕ) (marks : List Bool) 
 -- the first type of a name
 abbrev pub type_named : List TypeReport → List ℕ → Option ℕ
 type_named types name = position (λ t. bytes_eq (string_bytes t.name) name) types
+
+-- the status of the type at an index, refused where there is none
+abbrev pub status_at : List TypeReport → ℕ → Status
+status_at types i = get_or (map (λ t. t.status) types) i status.Refused
 
 -- the types of which that one is made are marked, and none where there is no type of the name
 abbrev pub IsWay : List TypeReport → List ℕ → List Bool → Type 0

@@ -17,10 +17,24 @@ abbrev pub summary_line : List TypeReport → Status → List ℕ
 summary_line types s =
     word_of s ++ (codes ": " ++ (decimal (count_by (λ one. distance one.status == distance s) types) ++ codes "\n"))
 
--- a line for each status
+-- there is a type, and it is not the same
+abbrev pub is_other : Status → Bool
+is_other status.Same = false
+is_other status.Refused = false
+is_other _ = true
+
+-- the line `not the same: COUNT`
+unfoldable pub others_words : ℕ → List ℕ
+others_words n = codes "not the same: " ++ (decimal n ++ codes "\n")
+
+abbrev pub others_line : List TypeReport → List ℕ
+others_line types = others_words (count_by (λ one. is_other one.status) types)
+
+-- a line for each status, and for those that are not the same
 abbrev pub summary : List TypeReport → List ℕ
-summary types = summary_line types status.Same ++ (summary_line types status.Wider ++ (summary_line types status.Owed
-    ++ (summary_line types status.PerOnly ++ summary_line types status.Refused)))
+summary types = summary_line types status.Same ++ (others_line types ++ (summary_line types status.Narrower
+    ++ (summary_line types status.Wider ++ (summary_line types status.Owed
+    ++ (summary_line types status.PerOnly ++ summary_line types status.Refused)))))
 
 -- the name of the file of a text, empty where it has none
 abbrev pub file_named : List (Bor (List ℕ)) → ℕ → List ℕ

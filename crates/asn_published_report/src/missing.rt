@@ -7,8 +7,8 @@ use crate::telling::file_named;
 use asn_published_text::modules::World;
 use std::alloc::{AllocError, Global};
 
-/// A module that is imported from and not given: which of the given texts has the import, from 0, on which line its name
-/// stands there, from 1, and the name.
+/// A module that is imported from and not given: which of the given texts has the import, from 0, on which line its
+/// name is there, from 1, and the name.
 #[derive(Drop)]
 pub struct MissingImport {
     pub text: usize,
@@ -85,8 +85,8 @@ fn import_json(alloc: Global, files: &[&str], one: &MissingImport) -> Result<Str
     import_object(alloc, name.as_str(), file.as_str(), one.line)
 }
 
-/// The imports of modules that are not given as JSON: a line for each, an object with the module, the file and the line.
-/// It has the member `import` where the object of a type has `type`.
+/// The imports of modules that are not given as JSON: a line for each, an object with the module, the file and the
+/// line. It has the member `import` where the object of a type has `type`.
 ///
 /// # Errors
 /// `AllocError` where an allocation failed.

@@ -1,7 +1,7 @@
 //! The report of the types as text.
 ghost use Rattle.std.specs.Prelude.{◌≡◌, ◌++◌, ◌==◌, IfOk, count_by, string_bytes};
 ghost use Rattle.asn_published_types.specs.Statuses.{distance};
-ghost use Rattle.asn_published_report.specs.Telling.{dot_before, file_named, note_line, report_lines, summary, summary_line};
+ghost use Rattle.asn_published_report.specs.Telling.{dot_before, file_named, is_other, note_line, others_line, others_words, report_lines, summary, summary_line};
 ghost use Rattle.asn_published_report.specs.Telling.{type_lines};
 
 use asn_published_types::report::{Note, Status, TypeReport};
@@ -42,12 +42,44 @@ fn push_count(
     text.push_str(line.as_str())
 }
 
-/// A line for each status: how many of the types have it.
+/// Whether there is a type, and it is not the same as the published one.
+fn is_other(status: Status) -> bool
+    ensures { result ≡ is_other status }
+{
+    !matches!(status, Status::Same | Status::Refused)
+}
+
+/// How many of the types are not the same, whatever their status.
+fn others_in(report: &[TypeReport]) -> usize
+    ensures { result ≡ count_by (λ one. is_other one.status) report.now }
+{
+    report.iter().filter(|one| is_other(one.status)).count()
+}
+
+/// The line for so many types that are not the same.
+#[tactic(auto, unfolding(crate::specs::Telling::others_words))]
+fn others_words(alloc: Global, count: usize) -> Result<String, AllocError>
+    ensures { IfOk result (λ line. string_bytes line ≡ others_words count) }
+{
+    format!(in alloc; "not the same: {count}\n")
+}
+
+/// Appends the line for the types that are not the same.
+fn push_others(alloc: Global, text: &mut String, report: &[TypeReport]) -> Result<(), AllocError>
+    ensures { IfOk result (λ done. string_bytes text.new ≡ string_bytes text.old ++ others_line report.now) }
+{
+    let line = others_words(alloc, others_in(report))?;
+    text.push_str(line.as_str())
+}
+
+/// A line for each status: how many of the types have it; and after those that are the same how many are not.
 pub fn summary_of(alloc: Global, report: &[TypeReport]) -> Result<String, AllocError>
     ensures { IfOk result (λ text. string_bytes text ≡ summary report.now) }
 {
     let mut text = String::new(alloc);
     push_count(alloc, &mut text, report, Status::Same)?;
+    push_others(alloc, &mut text, report)?;
+    push_count(alloc, &mut text, report, Status::Narrower)?;
     push_count(alloc, &mut text, report, Status::Wider)?;
     push_count(alloc, &mut text, report, Status::Owed)?;
     push_count(alloc, &mut text, report, Status::PerOnly)?;

@@ -1,11 +1,11 @@
 //! Which of the types on the way to one are not the same as the published ones.
-ghost use Rattle.std.specs.Prelude.{◌≡◌, ◌++◌, Bool, IfOk, List, false, get_or, if◌then◌else◌, not, slice_set, string_bytes, true};
-ghost use Rattle.asn_published_report.specs.Parts.{AreParts, IsWay, Visited, type_named, uses_of};
+ghost use Rattle.std.specs.Prelude.{◌≡◌, ◌++◌, Bool, IfOk, List, false, get_or, if◌then◌else◌, not, option_map, slice_set, string_bytes, true};
+ghost use Rattle.asn_published_report.specs.Parts.{AreParts, IsWay, Visited, status_at, type_named, uses_of};
 ghost use Rattle.asn_published_report.specs.Telling.{is_own, is_refusal, lines_if, marked_lines, own_lines, refused_lines};
 ghost use Rattle.asn_published_report.specs.Telling.{refused_lines_of};
 
 use crate::telling::{file_named, note_line};
-use asn_published_types::report::{Remark, TypeReport};
+use asn_published_types::report::{Remark, Status, TypeReport};
 use std::alloc::{AllocError, Global};
 
 /// Marks a type, and gives whether the report has it and it was not marked.
@@ -140,6 +140,26 @@ fn index_named(report: &[TypeReport], name: &str) -> Option<usize>
         .position(|one| *one.name.as_str().as_bytes() == *name.as_bytes())
 }
 
+/// The status of the first type of a name; `None` where there is none.
+pub fn status_named(report: &[TypeReport], name: &str) -> Option<Status>
+    ensures { result ≡ option_map (λ i. status_at report.now i) (type_named report.now name.now) }
+{
+    match index_named(report, name) {
+        Some(index) => Some(status_at(report, index)),
+        None => None,
+    }
+}
+
+/// The status of the type at an index; refused, where the report has none.
+fn status_at(report: &[TypeReport], index: usize) -> Status
+    ensures { result ≡ status_at report.now index }
+{
+    match report.get(index) {
+        Some(one) => one.status,
+        None => Status::Refused,
+    }
+}
+
 /// Of each type of a report whether the first one of a name is made of it; nothing where there is none.
 fn way_of(alloc: Global, report: &[TypeReport], name: &str) -> Result<Vec<bool>, AllocError>
     ensures { IfOk result (λ marks. IsWay report.now name.now marks.items) }
@@ -150,9 +170,9 @@ fn way_of(alloc: Global, report: &[TypeReport], name: &str) -> Result<Vec<bool>,
     }
 }
 
-/// A line for each remark on the type of a name and on those that it is made of, as `FILE:LINE: NAME.COMPONENT: STATUS:
-/// REMARK`, but for those that only say that a type holds another; nothing where all are the same, or there is no type
-/// of the name. `files` are the names of the files of the texts.
+/// A line for each remark on the type of a name and on those that it is made of, as `FILE:LINE: NAME.COMPONENT:
+/// STATUS: REMARK`. Remarks that only say that a type holds another are left out. There is no line where all are the
+/// same, or where there is no type of the name. `files` are the names of the files of the texts.
 pub fn way_text(
     alloc: Global,
     files: &[&str],

@@ -14,6 +14,8 @@ reason_of why.ImportedTwice = codes "a name that is imported from two modules"
 reason_of why.NoType = codes "a name that stands for no type"
 reason_of why.Parameter = codes "a parameter in the place of a type or a number"
 reason_of why.Endless = codes "parameters that expand without end"
+reason_of (why.Expanded most) =
+    codes "parameters that expand to more than " ++ (decimal most ++ codes " nodes")
 reason_of why.ClassField = codes "a field of a class that is not understood"
 reason_of why.Recursive = codes "recursion"
 reason_of why.Holds = codes "a type that is refused"
@@ -27,11 +29,13 @@ reason_of why.Size = codes "a size that is not read"
 reason_of why.UselessMark = codes "a mark on what is every value already"
 reason_of why.Value = codes "a value that is not understood"
 reason_of why.Constraint = codes "a constraint that is not understood"
+reason_of why.Misplaced = codes "a constraint that may not stand on this type"
 reason_of why.Ranges = codes "more than 256 ranges"
 reason_of why.Items = codes "items that are not understood"
 reason_of why.Tags = codes "tags that are not understood"
 reason_of (why.TooMany what count most) =
     decimal count ++ (codes " " ++ (what.now ++ (codes ", more than " ++ decimal most)))
+reason_of why.TagTaken = codes "a tag that is taken"
 reason_of why.NameTaken = codes "a name that is taken"
 reason_of why.NumberTaken = codes "a number that is taken"
 reason_of why.ItemNumber = codes "a number of an item outside 32 bits"

@@ -46,7 +46,7 @@ impl<'t> World<'t> {
         }
     }
 
-    /// The class to which the name leads that stands from `start` to before `end`; `None` where it leads to none.
+    /// The class to which the name from `start` to before `end` leads; `None` where it leads to none.
     pub fn class_named(&self, module: usize, start: usize, end: usize) -> Option<ClassName> {
         let (mut module, mut start, mut end) = (module, start, end);
         for _ in 0..MOST_LEADS {

@@ -31,7 +31,7 @@ pub fn after_constraints(tokens: &Tokens<'_>, from: usize) -> usize {
     at
 }
 
-/// The index after a group in braces, which must stand at `from`.
+/// The index after a group in braces, which must be at `from`.
 pub fn after_braces(tokens: &Tokens<'_>, from: usize) -> Result<usize, TextFault> {
     if tokens.is(from, Sign::LeftBrace) {
         Ok(tokens.after(from))
@@ -96,7 +96,7 @@ fn rest_of_name(tokens: &Tokens<'_>, from: usize) -> Result<Rest, TextFault> {
     Ok(Rest::Constraints(at))
 }
 
-/// Of a type that begins at `from`, after its tags, what stands after its first words.
+/// Of a type that begins at `from`, after its tags, what follows its first words.
 pub fn rest_of(tokens: &Tokens<'_>, from: usize) -> Result<Rest, TextFault> {
     let second = next(from);
     if tokens.is_identifier(from) && tokens.is(second, Sign::Less) {
@@ -124,8 +124,8 @@ pub fn rest_of(tokens: &Tokens<'_>, from: usize) -> Result<Rest, TextFault> {
     }
 }
 
-/// The index after the words of a type that begins at `from`, and after the names in braces that may follow them; `None`
-/// where it is not one of two words, INTEGER with names, or ANY DEFINED BY a name.
+/// The index after the words of a type that begins at `from`, and after the names in braces that may follow them;
+/// `None` where it is not one of two words, INTEGER with names, or ANY DEFINED BY a name.
 fn after_words(tokens: &Tokens<'_>, from: usize) -> Option<usize> {
     let second = next(from);
     let third = next(second);

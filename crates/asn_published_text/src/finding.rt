@@ -19,7 +19,7 @@ impl<'t> World<'t> {
         }
     }
 
-    /// The index of the assignment that a name stands for in a module.
+    /// The index of the assignment that a name refers to in a module.
     pub fn find(&self, module: usize, name: &str) -> Result<usize, Why> {
         let mut at = module;
         for _ in 0..MOST_IMPORTS {
@@ -42,7 +42,7 @@ impl<'t> World<'t> {
         Err(Why::Unknown)
     }
 
-    /// The assignment that `Module.name` stands for.
+    /// The assignment that `Module.name` refers to.
     pub fn find_in(&self, module: &str, name: &str) -> Result<usize, Why> {
         match self.module_names.get(module) {
             Some(index) => self.find(*index, name),
@@ -50,7 +50,7 @@ impl<'t> World<'t> {
         }
     }
 
-    /// What a reference at `at` stands for, as `name` or `Module.name`, and the index after it.
+    /// What a reference at `at` refers to, as `name` or `Module.name`, and the index after it.
     pub fn reference_at(&self, module: usize, at: usize) -> Result<(usize, usize), Why> {
         let Some(tokens) = self.tokens_of(module) else {
             return Err(Why::Unknown);

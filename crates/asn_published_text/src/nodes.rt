@@ -71,7 +71,7 @@ pub enum Shape {
     Refused(Why),
 }
 
-/// A type: constraints stand from `constraints` to before `end`, in the module's lexical items.
+/// A type: its constraints are from `constraints` to before `end`, in the module's lexical items.
 #[derive(Clone, Copy)]
 pub struct Node<'t> {
     pub shape: Shape,
@@ -85,11 +85,11 @@ pub struct Node<'t> {
     pub name: &'t str,
     /// The instance whose parameters are known there.
     pub instance: Option<usize>,
-    /// The module and the place of a tag that is written where this node stands, and its type elsewhere.
+    /// The module and the place of a tag that is written where this node is, and its type elsewhere.
     pub tag: Option<(usize, usize)>,
     /// The type is that of the values of a class's field.
     pub is_field: bool,
-    /// Constraints stand after that field, which are not looked at.
+    /// Constraints follow that field, which are not examined.
     pub is_constrained: bool,
 }
 

@@ -3,12 +3,12 @@ use crate::token::Sign;
 use crate::tokens::{Tokens, next};
 use crate::values::Values;
 
-/// Whether `|` or UNION stands at `at`.
+/// Whether `|` or UNION is at `at`.
 pub fn is_or(tokens: &Tokens<'_>, at: usize) -> bool {
     tokens.is(at, Sign::Bar) || tokens.is_word(at, "UNION")
 }
 
-/// Whether `^` or INTERSECTION stands at `at`.
+/// Whether `^` or INTERSECTION is at `at`.
 pub fn is_and(tokens: &Tokens<'_>, at: usize) -> bool {
     tokens.is(at, Sign::Caret) || tokens.is_word(at, "INTERSECTION")
 }
@@ -39,7 +39,7 @@ const UNSEEN: [(&str, &str, Unseen); 7] = [
     ("INCLUDES", "", Unseen::Type),
 ];
 
-/// The constraint that no encoding rule sees, of which the words stand at `at`, and the index after these words; `None`
+/// The constraint that no encoding rule sees, whose words are at `at`, and the index after these words; `None`
 /// where there is none.
 pub fn unseen_at(tokens: &Tokens<'_>, at: usize) -> Option<(Unseen, usize)> {
     let second = next(at);
@@ -68,7 +68,7 @@ const WORDS_OF_VALUES: [&str; 8] = [
     "NOT-A-NUMBER",
 ];
 
-/// Whether a type stands at `at`, and no value.
+/// Whether a type is at `at`, and no value.
 pub fn is_contained(tokens: &Tokens<'_>, at: usize) -> bool {
     if !tokens.is_capital(at) || tokens.is(next(at), Sign::Colon) {
         return false;

@@ -14,6 +14,8 @@ pub enum Why {
     NoType,
     Parameter,
     Endless,
+    /// Actual parameters, or types of class fields, come to more nodes than this.
+    Expanded(usize),
     ClassField,
     Recursive,
     Holds,
@@ -27,9 +29,11 @@ pub enum Why {
     UselessMark,
     Value,
     Constraint,
+    Misplaced,
     Ranges,
     Items,
     Tags,
+    TagTaken,
     /// More were counted than the profile takes: of what, how many, and how many it takes.
     TooMany {
         what: &'static str,
@@ -57,6 +61,9 @@ impl fmt::Display for Why {
             Why::TooMany { what, count, most } => {
                 return write!(f, "{count} {what}, more than {most}");
             }
+            Why::Expanded(most) => {
+                return write!(f, "parameters that expand to more than {most} nodes");
+            }
             Why::Unknown => "a name that is not assigned",
             Why::NotGiven => "a name of a module that is not given",
             Why::ImportedTwice => "a name that is imported from two modules",
@@ -75,9 +82,11 @@ impl fmt::Display for Why {
             Why::UselessMark => "a mark on what is every value already",
             Why::Value => "a value that is not understood",
             Why::Constraint => "a constraint that is not understood",
+            Why::Misplaced => "a constraint that may not stand on this type",
             Why::Ranges => "more than 256 ranges",
             Why::Items => "items that are not understood",
             Why::Tags => "tags that are not understood",
+            Why::TagTaken => "a tag that is taken",
             Why::NameTaken => "a name that is taken",
             Why::NumberTaken => "a number that is taken",
             Why::ItemNumber => "a number of an item outside 32 bits",

@@ -6,7 +6,7 @@ use std::collections::HashMap;
 /// How many lexical items a syntax may have.
 pub const MOST_ITEMS: usize = 1000;
 
-/// What stands in a syntax.
+/// What a syntax has.
 #[derive(Clone, Copy)]
 pub enum Item<'t> {
     /// A word in capitals, or a comma.
@@ -56,7 +56,7 @@ impl<'t> Syntax<'t> {
         }
     }
 
-    /// Whether a field stands in the syntax.
+    /// Whether a field is in the syntax.
     pub fn has_field(&self, index: usize) -> bool {
         self.fields.contains_key(&index)
     }
@@ -80,7 +80,7 @@ impl<'t> Syntax<'t> {
         }
     }
 
-    /// Of the group that opens at `open` the item that stands at `at` in an object, with which the group begins there;
+    /// Of the group that opens at `open` the item at `at` in an object, with which the group begins there;
     /// the index after the group where it is left out.
     pub fn entered(&self, tokens: &Tokens<'_>, at: usize, open: usize) -> usize {
         let end = match self.items.get(open) {

@@ -2,7 +2,7 @@
 use crate::token::{Kind, Sign, Token};
 use crate::wrong::{TextFault, Wrong};
 
-/// The lexical items of a text. An index past the end stands for no item.
+/// The lexical items of a text. An index past the end is that of no item.
 #[derive(Drop)]
 pub struct Tokens<'t> {
     pub items: Vec<Token<'t>>,
@@ -105,7 +105,7 @@ impl<'t> Tokens<'t> {
         next(self.other(index))
     }
 
-    /// A fault at an item: what should stand there.
+    /// A fault at an item: what should be there.
     pub fn expected(&self, index: usize, what: &'static str) -> TextFault {
         TextFault::At {
             line: self.line(index),
@@ -113,7 +113,7 @@ impl<'t> Tokens<'t> {
         }
     }
 
-    /// The index after this sign, which must stand at `index`.
+    /// The index after this sign, which must be at `index`.
     pub fn past(&self, index: usize, sign: Sign, what: &'static str) -> Result<usize, TextFault> {
         if self.is(index, sign) {
             Ok(next(index))

@@ -116,8 +116,8 @@ fn capital_at(tokens: &Tokens<'_>, at: usize) -> Result<Step, TextFault> {
     }
 }
 
-/// The index after a number at `at`, or a minus and a number that is not 0 (X.680, "SignedNumber"); `None` where neither
-/// stands there.
+/// The index after a number at `at`, or a minus and a number that is not 0 (X.680, "SignedNumber"); `None` where
+/// neither is there.
 pub fn after_signed_number(tokens: &Tokens<'_>, at: usize) -> Option<usize> {
     if tokens.is_kind(at, Kind::Number) {
         return Some(next(at));
@@ -174,7 +174,7 @@ pub fn step_at(tokens: &Tokens<'_>, at: usize) -> Result<Step, TextFault> {
     written_at(tokens, at)
 }
 
-/// The index after a value that begins at `from`, of which what stands in braces is not read.
+/// The index after a value that begins at `from`, of which what is in braces is not read.
 pub fn value_end(tokens: &Tokens<'_>, from: usize) -> Result<usize, TextFault> {
     let mut at = from;
     for _ in 0..tokens.len() {

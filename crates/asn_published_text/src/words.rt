@@ -179,7 +179,7 @@ pub fn second_word(word: &str) -> Option<(&'static str, Shape)> {
     }
 }
 
-/// BIT STRING, whose second word stands at `second`.
+/// BIT STRING, whose second word is at `second`.
 pub fn bits_at(tokens: &Tokens<'_>, second: usize) -> Result<Shape, TextFault> {
     if !tokens.is_word(second, "STRING") {
         return Err(tokens.expected(second, "STRING"));

@@ -18,8 +18,11 @@ words_of (remark.Content what) = codes "the " ++ (what.now ++ codes " is not loo
 words_of remark.Real = codes "the REAL is not looked at, and OER may have no length"
 words_of remark.TrimmedBits = codes "last zeros of named bits: the writer trims them"
 words_of remark.EmptyGroup = codes "a group without components is absent: the writer leaves it out"
+words_of remark.LeftOut =
+    codes "an addition that is not OPTIONAL may be absent before another: the writer gives it"
+words_of remark.Unbounded = codes "numbers below -2^63 and above 2^64 - 1 are refused"
 words_of remark.OerTags = codes "OER tells the alternatives apart by other tags"
 words_of remark.OerItems = codes "OER writes other numbers for additional items"
-words_of remark.Level = codes "recursion ends in NULL"
+words_of remark.Level = codes "recursion ends after the levels that are asked for"
 words_of (remark.Holds s) = codes "holds a type that is " ++ word_of s
 words_of (remark.Refused reason) = reason_of reason

@@ -1,4 +1,5 @@
 //! Builds the nodes of a type: one after the other from a stack, however deep they are nested.
+use crate::expansion::Expansion;
 use crate::instances::Instances;
 use asn_published_text::extents::{Rest, after_constraints, after_tags, rest_of};
 use asn_published_text::instructions::has_own_instruction;
@@ -9,15 +10,13 @@ use asn_published_text::tokens::{Tokens, next};
 use asn_published_text::wrong::TextFault;
 use std::alloc::Global;
 
-/// How many nodes may be built, beyond which no instance is.
-const MOST_NODES: usize = 2000000;
-
 /// The nodes of all types, their members, and the instances of parameterized assignments.
 #[derive(Drop)]
 pub struct Forest<'t> {
     pub nodes: Vec<Node<'t>>,
     pub members: Vec<Member<'t>>,
     pub instances: Instances,
+    expansion: Expansion,
 }
 
 /// A node that is to be built.
@@ -44,6 +43,7 @@ impl<'t> Forest<'t> {
             nodes: Vec::new(alloc),
             members: Vec::new(alloc),
             instances: Instances::new(alloc),
+            expansion: Expansion::none(),
         }
     }
 
@@ -76,13 +76,9 @@ impl<'t> Forest<'t> {
         let Some(it) = world.assignment(assignment) else {
             return Ok(first);
         };
-        let is_endless = instance.is_some() && first > MOST_NODES;
+        let room = self.expansion.room(world, it, instance.is_some());
         self.nodes.push(Node {
-            shape: Shape::Refused(if is_endless {
-                Why::Endless
-            } else {
-                Why::NoType
-            }),
+            shape: Shape::Refused(Why::NoType),
             module: it.module,
             at: it.start,
             constraints: it.end,
@@ -94,21 +90,43 @@ impl<'t> Forest<'t> {
             is_field: false,
             is_constrained: false,
         })?;
-        if is_endless {
-            return Ok(first);
+        let members = self.members.len();
+        let is_built = self.build_within(alloc, world, first, room.nodes)?;
+        self.expansion
+            .take(self.nodes.len().saturating_sub(first), room);
+        if !is_built {
+            self.members.truncate(members);
+            self.nodes.truncate(next(first));
+            let end = it.end;
+            self.settle(first, Shape::Refused(Why::Expanded(room.most)), end);
         }
+        Ok(first)
+    }
+
+    /// Builds all that the first node of a type holds, and says whether that is done: not where it comes to more than
+    /// `most` nodes.
+    fn build_within(
+        &mut self,
+        alloc: Global,
+        world: &World<'t>,
+        first: usize,
+        most: usize,
+    ) -> Result<bool, TextFault> {
         let mut todo = Vec::new(alloc);
         todo.push(Task {
             node: first,
             is_group: false,
         })?;
         for _ in 0..u64::MAX {
+            if self.nodes.len().saturating_sub(first) > most {
+                return Ok(false);
+            }
             let Some(task) = todo.pop() else {
                 break;
             };
             self.build(alloc, world, &mut todo, task)?;
         }
-        Ok(first)
+        Ok(true)
     }
 
     /// Builds one node, and asks for those that it holds.

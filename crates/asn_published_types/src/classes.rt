@@ -14,6 +14,8 @@ use asn_published_text::tokens::{Tokens, next};
 pub(crate) enum Field {
     /// An open type.
     Open,
+    /// OBJECT IDENTIFIER.
+    Identifier,
     /// The type of its values, in a module from `start` to before `end`.
     Type {
         module: usize,
@@ -109,6 +111,7 @@ fn type_of(world: &World<'_>, class: ClassName, field: ClassField<'_>) -> Result
         ClassName::Defined(assignment) => world.assignment(assignment),
         // its types stand in no module that is given
         _ if is_open => return Ok(Field::Open),
+        _ if field.name == "id" => return Ok(Field::Identifier),
         _ => None,
     };
     match module {

@@ -105,6 +105,9 @@ impl<'a, 't> Values<'a, 't> {
             let inner = self.inner_seen(alloc, scope, Mode::Letters, next(at), below)?;
             return Ok((letters_of(inner), tokens.after(next(at))));
         }
+        if tokens.is_word(at, "SIZE") || tokens.is_word(at, "FROM") {
+            return Err(refused(tokens.line(at), Why::Misplaced));
+        }
         if let Some(behind) = after_unseen(tokens, at) {
             return Ok((Seen::unseen(), behind));
         }
@@ -243,10 +246,24 @@ impl<'a, 't> Values<'a, 't> {
         let end = tokens.other(at);
         let root = root_end(tokens, next(at), end);
         let marked = mark_at(tokens, root, end)?;
-        let mut seen = self.set_seen(alloc, scope, mode, next(at), root, MOST_LEVELS)?;
+        let seen = self.set_seen(alloc, scope, mode, next(at), root, MOST_LEVELS)?;
+        let mut seen = if marked { with_mark(seen) } else { seen };
         // a constraint of which nothing is seen makes no type extensible
         seen.marked = (seen.marked || marked) && !seen.is_unseen();
         Ok(seen)
+    }
+}
+
+/// What a constraint with an extension mark leaves: where it is on characters alone, they are not seen (X.691,
+/// "PER-visible constraints").
+fn with_mark(seen: Seen) -> Seen {
+    if seen.letters.is_none() || seen.sizes.is_some() || seen.dropped {
+        return seen;
+    }
+    Seen {
+        letters: None,
+        others: true,
+        ..seen
     }
 }
 
@@ -271,11 +288,17 @@ fn sizes_of(inner: Seen) -> Seen
     }
 }
 
-/// What a constraint inside FROM leaves.
+/// What a constraint inside FROM leaves: with an extension mark encoding rules do not see it (X.691, "PER-visible
+/// constraints").
 fn letters_of(inner: Seen) -> Seen {
+    if inner.marked {
+        return Seen {
+            others: true,
+            ..Seen::all()
+        };
+    }
     Seen {
         letters: inner.numbers,
-        marked: inner.marked,
         dropped: inner.dropped,
         ..Seen::all()
     }

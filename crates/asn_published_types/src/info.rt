@@ -18,7 +18,7 @@ pub enum Base {
     Other,
 }
 
-/// A type: its kind, what is left of its numbers or lengths, and where its names stand.
+/// A type: its kind, what is left of its numbers or lengths, and where its names are.
 #[derive(Drop)]
 pub struct Info {
     pub base: Base,
@@ -34,6 +34,8 @@ pub struct Info {
     pub nodes: usize,
     pub depth: usize,
     pub status: Status,
+    /// Which of the types it is that are written, from 0.
+    pub written: usize,
 }
 
 impl Info {
@@ -49,6 +51,7 @@ impl Info {
             nodes: 1,
             depth: 1,
             status: Status::Same,
+            written: 0,
         }
     }
 
@@ -64,6 +67,7 @@ impl Info {
             nodes: self.nodes,
             depth: self.depth,
             status: self.status,
+            written: self.written,
         })
     }
 
@@ -102,4 +106,6 @@ pub enum State {
     Open,
     Ready(Info),
     Refused,
+    /// It is refused, since it has more nodes or levels than the profile takes: so many.
+    Past { nodes: usize, depth: usize },
 }

@@ -1,4 +1,4 @@
-//! Parameterized assignments as they are referred to (X.683): what stands in the place of each parameter.
+//! Parameterized assignments as they are referred to (X.683): the actual parameter of each dummy one.
 use crate::pieces::push_pieces;
 use asn_published_text::modules::World;
 use asn_published_text::refusal::Why;
@@ -23,7 +23,7 @@ const MOST_COMPARED: usize = 24;
 #[derive(Clone, Copy)]
 pub struct Instance {
     pub assignment: usize,
-    /// The module in which the actual parameters stand, and their `{`.
+    /// The module in which the actual parameters are, and their `{`.
     pub module: usize,
     pub braces: usize,
     /// The instance in which the reference stands, whose parameters the actual ones may name.
@@ -31,14 +31,14 @@ pub struct Instance {
     pub level: u32,
 }
 
-/// All instances, by what they are told apart.
+/// All instances, by what distinguishes them.
 #[derive(Drop)]
 pub struct Instances {
     pub all: Vec<Instance>,
     by_text: HashMap<String, usize>,
 }
 
-/// What stands in the place of a parameter: lexical items of a module from `start` to before `end`.
+/// An actual parameter: lexical items of a module from `start` to before `end`.
 #[derive(Clone, Copy)]
 pub(crate) struct Actual {
     pub module: usize,
@@ -140,7 +140,7 @@ impl Instances {
         }
     }
 
-    /// What stands in the place of a name inside an instance; `None` where the name is none of its parameters.
+    /// The actual parameter for a name inside an instance; `None` where the name is none of its parameters.
     pub(crate) fn actual(
         &self,
         world: &World<'_>,

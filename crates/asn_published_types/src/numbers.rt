@@ -51,8 +51,8 @@ enum Lead {
     None,
 }
 
-/// Where the value at `at` leads, to a number or to another value, and the index after it; of a field of an object where
-/// what it gives leads.
+/// Where the value at `at` leads, to a number or to another value, and the index after it; of a field of an object
+/// where what it gives leads.
 fn lead_at(world: &World<'_>, module: usize, at: usize) -> Option<(Lead, usize)> {
     let tokens = world.tokens_of(module)?;
     let Some(field) = object_field_at(tokens, at) else {
@@ -201,7 +201,7 @@ fn plain_number_in(
     }
 }
 
-/// Where a value stands: the module, and the names that count there before all others.
+/// Where a value is: the module, and the names that count there before all others.
 #[derive(Clone, Copy)]
 pub struct Scope {
     pub module: usize,
@@ -209,7 +209,7 @@ pub struct Scope {
     pub named: Option<(usize, usize)>,
     /// The instance whose parameters are known there.
     pub instance: Option<usize>,
-    /// What MIN and MAX stand for there, where that is known.
+    /// What MIN and MAX mean there, where that is known.
     pub least: Option<i128>,
     pub most: Option<i128>,
 }
@@ -255,7 +255,7 @@ impl Scope {
 /// How many value assignments are followed to a word.
 const MOST_LEADS: u32 = 32;
 
-/// The values of all assignments that are numbers, the modules that they stand in, what stands for parameters, and what
+/// The values of all assignments that are numbers, the modules that they are in, what parameters mean, and what
 /// is known of the types that are written.
 #[derive(Clone, Copy)]
 pub struct Values<'a, 't> {
@@ -294,7 +294,7 @@ impl<'a, 't> Values<'a, 't> {
         number_in(self.world, self.numbers, module, at)
     }
 
-    /// The number that stands in the place of a parameter; `None` where the name is none.
+    /// The number given as an actual parameter; `None` where the name is none.
     fn parameter(&self, scope: Scope, name: &str) -> Result<Option<i128>, Why> {
         let mut module = scope.module;
         let mut at = None;
@@ -324,7 +324,8 @@ impl<'a, 't> Values<'a, 't> {
         }
     }
 
-    /// The number at `at`, and the index after it. A named number counts before a parameter, and that before other names.
+    /// The number at `at`, and the index after it. A named number counts before a parameter, and that before other
+    /// names.
     pub fn number_at(&self, scope: Scope, at: usize) -> Result<(i128, usize), Refusal> {
         let Some(tokens) = self.world.tokens_of(scope.module) else {
             return Err(refused(0, Why::Value));

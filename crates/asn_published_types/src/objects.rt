@@ -29,7 +29,7 @@ struct Items {
     end: usize,
 }
 
-/// The index of the name of the field of an object at `at`, as `object.&field`; `None` where none stands there.
+/// The index of the name of the field of an object at `at`, as `object.&field`; `None` where none is there.
 pub(crate) fn object_field_at(tokens: &Tokens<'_>, at: usize) -> Option<usize> {
     let dot = next(at);
     let sign = next(dot);

@@ -9,6 +9,8 @@ use std::alloc::{AllocError, Global};
 pub struct Order {
     pub types: Vec<usize>,
     pub cycles: Vec<Option<usize>>,
+    /// Of each its number, from 1, in the order in which types were followed to their end.
+    pub ended: Vec<usize>,
 }
 
 /// A type that is followed, and the nodes that are still to be looked at.
@@ -37,7 +39,11 @@ struct Search {
     met: usize,
     followed: Vec<Followed>,
     open: Vec<usize>,
+    /// The open types that were followed to their end, in that order.
+    closed: Vec<usize>,
     order: Order,
+    /// How many types were followed to their end.
+    ended: usize,
 }
 
 /// The first node from one index to before another that refers to a type: that type, and the index after the node.
@@ -50,6 +56,22 @@ fn next_reference(forest: &Forest<'_>, from: usize, end: usize) -> Option<(usize
         }
     }
     None
+}
+
+/// The number of a type in the order in which they were followed to their end.
+fn place_in(ended: &[usize], entry: usize) -> usize {
+    match ended.get(entry) {
+        Some(place) => *place,
+        None => 0,
+    }
+}
+
+impl Order {
+    /// Whether a type refers to one that contains it, both of one cycle.
+    pub fn is_turn(&self, from: usize, to: usize) -> bool {
+        let ended = self.ended.as_slice();
+        place_in(ended, to) >= place_in(ended, from)
+    }
 }
 
 impl Search {
@@ -66,10 +88,13 @@ impl Search {
             met: 0,
             followed: Vec::new(alloc),
             open: Vec::new(alloc),
+            closed: Vec::new(alloc),
             order: Order {
                 types: Vec::new(alloc),
                 cycles: vec![in alloc; None; count]?,
+                ended: vec![in alloc; 0; count]?,
             },
+            ended: 0,
         })
     }
 
@@ -133,17 +158,23 @@ impl Search {
             return Ok(());
         };
         let mark = *mark;
+        self.ended = self.ended.saturating_add(1);
+        if let Some(place) = self.order.ended.get_mut(entry) {
+            *place = self.ended;
+        }
+        self.closed.push(entry)?;
         if mark.first == mark.met {
             let is_alone = match self.open.last() {
                 Some(last) => *last == entry,
                 None => true,
             };
             let in_cycle = !is_alone || mark.leads_to_itself;
+            let mut count = 0usize;
             for _ in 0..self.marks.len() {
                 let Some(other) = self.open.pop() else {
                     break;
                 };
-                self.order.types.push(other)?;
+                count = count.saturating_add(1);
                 if let Some(place) = self.marks.get_mut(other) {
                     place.is_open = false;
                 }
@@ -154,8 +185,20 @@ impl Search {
                     break;
                 }
             }
+            self.settle(count)?;
         }
         self.pass_on(entry);
+        Ok(())
+    }
+
+    /// Puts as many types in order as lie in one cycle, which ended last: each after those that it refers to, except those
+    /// in which it stands itself.
+    fn settle(&mut self, count: usize) -> Result<(), AllocError> {
+        let start = self.closed.len().saturating_sub(count);
+        if let Some(members) = self.closed.get(start..) {
+            self.order.types.extend_from_slice(members)?;
+        }
+        self.closed.truncate(start);
         Ok(())
     }
 
@@ -186,13 +229,18 @@ impl Search {
     }
 }
 
-/// The types in order. `spans` has of each the nodes of its type.
+/// The types in order, those first that the type at `first` leads to, where there is one. `spans` has of each the nodes of
+/// its type.
 pub fn order_of(
     alloc: Global,
     forest: &Forest<'_>,
     spans: &[Option<(usize, usize)>],
+    first: Option<usize>,
 ) -> Result<Order, AllocError> {
     let mut search = Search::new(alloc, spans.len())?;
+    if let Some(first) = first {
+        search.follow(forest, spans, first)?;
+    }
     for start in 0..spans.len() {
         search.follow(forest, spans, start)?;
     }
@@ -201,7 +249,9 @@ pub fn order_of(
         met: _,
         followed: _,
         open: _,
+        closed: _,
         order,
+        ended: _,
     } = search;
     Ok(order)
 }

@@ -1,16 +1,18 @@
 //! What became of each type.
 ghost use Rattle.std.specs.Prelude.{◌≡◌, ◌≤◌, ◌⊎◌};
-ghost use Rattle.asn_published_types.specs.Statuses.{distance, status_of};
+ghost use Rattle.asn_published_types.specs.Statuses.{distance, is_same, status_of};
 
 use asn_published_text::refusal::Why;
 use std::fmt;
 
-/// How the encodings of a type of the profile stand to those of the published type.
+/// How the encodings of a type of the profile compare with those of the published type.
 #[derive(Clone, Copy, PartialEq, Eq)]
 pub enum Status {
-    /// The same encodings; numbers without bounds have 64 bits.
+    /// The same encodings.
     Same,
-    /// All encodings of the published type, and others.
+    /// Not all encodings of the published type: numbers without bounds have 64 bits.
+    Narrower,
+    /// Others than those of the published type.
     Wider,
     /// The same as a writer must give them, who keeps a rule that the profile's type does not have.
     Owed,
@@ -29,6 +31,7 @@ impl fmt::Display for Status {
     fn fmt<W: fmt::Write>(&self, f: &mut fmt::Formatter<W>) -> fmt::Result {
         f.write_str(match self {
             Status::Same => "same",
+            Status::Narrower => "narrower",
             Status::Wider => "wider",
             Status::Owed => "owed",
             Status::PerOnly => "per only",
@@ -51,6 +54,8 @@ pub enum Remark {
     Real,
     TrimmedBits,
     EmptyGroup,
+    LeftOut,
+    Unbounded,
     OerTags,
     OerItems,
     Level,
@@ -79,9 +84,12 @@ impl fmt::Display for Remark {
             Remark::Real => "the REAL is not looked at, and OER may have no length",
             Remark::TrimmedBits => "last zeros of named bits: the writer trims them",
             Remark::EmptyGroup => "a group without components is absent: the writer leaves it out",
+            Remark::LeftOut =>
+                "an addition that is not OPTIONAL may be absent before another: the writer gives it",
+            Remark::Unbounded => "numbers below -2^63 and above 2^64 - 1 are refused",
             Remark::OerTags => "OER tells the alternatives apart by other tags",
             Remark::OerItems => "OER writes other numbers for additional items",
-            Remark::Level => "recursion ends in NULL",
+            Remark::Level => "recursion ends after the levels that are asked for",
         };
         f.write_str(words)
     }
@@ -102,7 +110,8 @@ impl Remark {
             | Remark::OpenType
             | Remark::Level
             | Remark::Content(_) => Status::Wider,
-            Remark::TrimmedBits | Remark::EmptyGroup => Status::Owed,
+            Remark::Unbounded => Status::Narrower,
+            Remark::TrimmedBits | Remark::EmptyGroup | Remark::LeftOut => Status::Owed,
             Remark::OerTags | Remark::OerItems | Remark::Real => Status::PerOnly,
             Remark::Holds(status) => status,
             Remark::Refused(_) => Status::Refused,
@@ -117,11 +126,19 @@ impl Status {
     {
         match self {
             Status::Same => 0,
-            Status::Wider => 1,
-            Status::Owed => 2,
-            Status::PerOnly => 3,
-            Status::Refused => 4,
+            Status::Narrower => 1,
+            Status::Wider => 2,
+            Status::Owed => 3,
+            Status::PerOnly => 4,
+            Status::Refused => 5,
         }
+    }
+
+    /// Whether the encodings are those of the published type, no others and no fewer.
+    pub fn is_same(self) -> bool
+        ensures { result ≡ is_same self }
+    {
+        matches!(self, Status::Same)
     }
 
     /// The one that is further from the same.

@@ -10,7 +10,7 @@ use std::alloc::{AllocError, Global};
 /// How many ranges a set is given.
 pub(crate) const MOST_RANGES: usize = 256;
 
-/// What single values mean where they stand.
+/// What single values mean where they are.
 #[derive(Clone, Copy, PartialEq, Eq)]
 pub enum Mode {
     /// Numbers, as of an INTEGER or of lengths.
@@ -34,6 +34,8 @@ pub struct Seen {
     pub marked: bool,
     /// Something is not seen by the encoding rules, or is an exception.
     pub dropped: bool,
+    /// Characters are named that encoding rules do not see, since others may come later.
+    pub others: bool,
 }
 
 impl Seen {
@@ -48,6 +50,7 @@ impl Seen {
             letters: None,
             marked: false,
             dropped: false,
+            others: false,
         }
     }
 
@@ -72,7 +75,7 @@ impl Seen {
 
     /// Whether the encoding rules see nothing of a constraint.
     pub(crate) fn is_unseen(&self) -> bool {
-        self.dropped && self.kinds() == 0
+        (self.dropped || self.others) && self.kinds() == 0
     }
 
     /// How many of numbers, sizes and letters are constrained.
@@ -114,6 +117,7 @@ pub fn intersection(alloc: Global, a: Seen, b: Seen, line: u32) -> Result<Seen, 
         letters: met(alloc, a.letters, b.letters)?,
         marked,
         dropped: a.dropped || b.dropped,
+        others: a.others || b.others,
     };
     if_small(both, line)
 }
@@ -134,6 +138,7 @@ pub(crate) fn union(alloc: Global, a: Seen, b: Seen, line: u32) -> Result<Seen, 
         letters: joined(a.letters, b.letters)?,
         marked: false,
         dropped: a.dropped || b.dropped,
+        others: a.others || b.others,
     };
     if constrained && either.kinds() == 0 {
         either.letters = Some(Ranges::of(alloc, every_number())?);

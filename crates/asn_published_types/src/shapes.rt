@@ -69,8 +69,13 @@ impl<'t> Forest<'t> {
         };
         match field_at(world, tokens, it.module, at, first, name) {
             Ok(Field::Open) => Ok(Some(Shape::Open)),
-            Ok(Field::Type { .. }) if !are_unseen(tokens, it.constraints, it.end) => {
+            Ok(Field::Identifier | Field::Type { .. })
+                if !are_unseen(tokens, it.constraints, it.end) => {
                 Ok(Some(Shape::Refused(Why::Constraint)))
+            }
+            Ok(Field::Identifier) => {
+                self.take_field(index, it.constraints < it.end);
+                Ok(Some(Shape::Content("OBJECT IDENTIFIER")))
             }
             Ok(Field::Type { module, start, end }) => {
                 let type_of_values = Actual {
@@ -79,14 +84,19 @@ impl<'t> Forest<'t> {
                     end,
                     outer: None,
                 };
-                if let Some(node) = self.nodes.get_mut(index) {
-                    node.is_field = true;
-                    node.is_constrained = it.constraints < it.end;
-                }
+                self.take_field(index, it.constraints < it.end);
                 self.build_as(tokens, todo, index, type_of_values)?;
                 Ok(None)
             }
             Err(why) => Ok(Some(Shape::Refused(why))),
+        }
+    }
+
+    /// Takes that a node is the field of a class, with constraints after it or not.
+    fn take_field(&mut self, index: usize, is_constrained: bool) {
+        if let Some(node) = self.nodes.get_mut(index) {
+            node.is_field = true;
+            node.is_constrained = is_constrained;
         }
     }
 

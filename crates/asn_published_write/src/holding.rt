@@ -103,6 +103,7 @@ impl<'t> Writer<'t> {
                 self.remark(alloc, known, index, Remark::OerTags)?;
             }
             TagOrder::Unknown => return Err(refused(known.line_of(node), Why::Tags)),
+            TagOrder::Twice => return Err(refused(known.line_of(node), Why::TagTaken)),
             _ => {}
         }
         Ok(layout)
@@ -152,29 +153,59 @@ impl<'t> Writer<'t> {
         additions: &[Placed],
         depth: usize,
     ) -> Result<(), Refusal> {
+        let mut left = additions.len();
         for placed in additions {
+            left = left.saturating_sub(1);
             if let Some(member) = known.forest.member(placed.member) {
                 push_member(tasks, &member, ",", depth)?;
-                self.remark_default(alloc, known, member.node, member.need)?;
                 tasks.push(Task::Text(need))?;
+                let is_before_another = !need.is_empty() && left > 0;
+                let remark = remark_on_addition(alloc, known, &member, is_before_another)?;
+                if let Some(remark) = remark {
+                    self.note(alloc, known, member.node, remark)?;
+                    tasks.push(Task::Mark(member.node, remark))?;
+                }
             }
         }
         Ok(())
     }
+}
 
-    /// A remark on the DEFAULT of an extension addition, which is not written.
-    fn remark_default(
-        &mut self,
-        alloc: Global,
-        known: &Known<'_, 't>,
-        index: usize,
-        need: Need,
-    ) -> Result<(), Refusal> {
-        match need {
-            Need::Default { .. } => self.remark(alloc, known, index, Remark::Default),
-            _ => Ok(()),
-        }
+/// What is to be said of an extension addition: its DEFAULT is not written, or one that is not OPTIONAL stands before another,
+/// which may be there without it.
+fn remark_on_addition<'t>(
+    alloc: Global,
+    known: &Known<'_, 't>,
+    member: &Member<'t>,
+    is_before_another: bool,
+) -> Result<Option<Remark>, Refusal> {
+    if let Need::Default { .. } = member.need {
+        return Ok(Some(Remark::Default));
     }
+    if is_before_another && has_to_be_there(alloc, known, member)? {
+        return Ok(Some(Remark::LeftOut));
+    }
+    Ok(None)
+}
+
+/// Whether an addition has to be there in the versions that have it: it is not OPTIONAL, or is a group in which a component
+/// has to be there.
+fn has_to_be_there<'t>(
+    alloc: Global,
+    known: &Known<'_, 't>,
+    member: &Member<'t>,
+) -> Result<bool, Refusal> {
+    let MemberKind::Group(_) = member.kind else {
+        return Ok(matches!(member.need, Need::Must));
+    };
+    let Some(node) = known.forest.node(member.node) else {
+        return Ok(false);
+    };
+    let Shape::Members { from, to, .. } = node.shape else {
+        return Ok(false);
+    };
+    let layout = layout_of(alloc, known.tagging(), (from, to), known.line_of(&node))?;
+    Ok(!layout.may_be_empty(known.forest))
 }
 
 /// What is to be written of the members of a root, in order.

@@ -1,9 +1,11 @@
 //! What is known when a type is written: all types, the one that is written, and where a node of it stands.
+use crate::written::whole_level;
 use asn_published_text::nodes::Node;
 use asn_published_text::options::Options;
 use asn_published_types::building::Forest;
 use asn_published_types::info::State;
 use asn_published_types::numbers::{Scope, Values};
+use asn_published_types::order::Order;
 use asn_published_types::pieces::push_pieces;
 use asn_published_types::tags::Tagging;
 use std::alloc::{AllocError, Global};
@@ -15,10 +17,10 @@ pub(crate) struct Types<'a> {
     pub firsts: &'a [Option<usize>],
     /// Of each type its name in the profile.
     pub names: &'a [String],
-    /// What stands between the name of a type and the number of its level.
+    /// What separates the name of a type from the number of its level.
     pub level_mark: &'a str,
-    /// Of each type the cycle of references in which it lies.
-    pub cycles: &'a [Option<usize>],
+    /// In which cycle of references types lie, and where they contain themselves.
+    pub order: &'a Order,
 }
 
 /// The type that is written.
@@ -29,8 +31,9 @@ pub(crate) struct Own<'a> {
     pub file: usize,
     pub line: u32,
     pub level: u32,
-    /// The types of its cycle with a level less.
+    /// The types of its cycle with a level less, and those of its own level.
     pub below: &'a [State],
+    pub beside: &'a [State],
 }
 
 /// What is known when a type is written.
@@ -90,7 +93,7 @@ pub(crate) fn path_of(
 }
 
 impl<'a, 't> Known<'a, 't> {
-    /// The line of a node; that of the type, where the node stands in another text.
+    /// The line of a node; that of the type, where the node is in another text.
     pub fn line_of(&self, node: &Node<'t>) -> u32 {
         match self.values.world.modules.get(node.module) {
             Some(module) if module.file == self.own.file => {}
@@ -103,13 +106,39 @@ impl<'a, 't> Known<'a, 't> {
     }
 
     /// Whether a type lies in the cycle of references of the one that is written.
-    pub fn is_below(&self, to: usize) -> bool {
-        match (
-            self.types.cycles.get(self.own.entry),
-            self.types.cycles.get(to),
-        ) {
+    pub fn is_in_cycle(&self, to: usize) -> bool {
+        let cycles = self.types.order.cycles.as_slice();
+        match (cycles.get(self.own.entry), cycles.get(to)) {
             (Some(Some(own)), Some(Some(other))) => own == other,
             _ => false,
+        }
+    }
+
+    /// Whether the type that is written is contained in a type to which it refers: a turn of the recursion, and a level less.
+    pub fn is_below(&self, to: usize) -> bool {
+        self.is_in_cycle(to) && self.types.order.is_turn(self.own.entry, to)
+    }
+
+    /// How many levels of a type there are that is referred to. One that is in no cycle with the type that is written
+    /// has all.
+    pub fn level_of(&self, to: usize) -> u32 {
+        if self.is_below(to) {
+            self.own.level.saturating_sub(1)
+        } else if self.is_in_cycle(to) {
+            self.own.level
+        } else {
+            whole_level(self.options)
+        }
+    }
+
+    /// What became of the types that one is of, to which the type that is written refers.
+    pub fn states_for(&self, to: usize) -> &'a [State] {
+        if self.is_below(to) {
+            self.own.below
+        } else if self.is_in_cycle(to) {
+            self.own.beside
+        } else {
+            self.values.states
         }
     }
 
@@ -123,7 +152,7 @@ impl<'a, 't> Known<'a, 't> {
         }
     }
 
-    /// Where the values of a node's constraints stand.
+    /// Where the values of a node's constraints are.
     pub fn scope_of(&self, node: &Node<'t>, named: Option<(usize, usize)>) -> Scope {
         Scope {
             module: node.module,

@@ -1,6 +1,7 @@
 //! Writes lists, and names of types with further constraints.
 use crate::known::Known;
 use crate::writer::{Task, Writer};
+use crate::written::whole_level;
 use asn_published_text::nodes::{Member, Node, Shape};
 use asn_published_text::refusal::{Refusal, Why, refused};
 use asn_published_types::info::{Base, Info, State};
@@ -80,8 +81,7 @@ impl<'t> Writer<'t> {
         Ok(())
     }
 
-    /// Writes a name of the profile, with its own type's constraints where it has any. Where recursion ends, it is
-    /// NULL.
+    /// Writes a name of the profile, with its own type's constraints where it has any.
     pub fn write_reference(
         &mut self,
         alloc: Global,
@@ -93,6 +93,9 @@ impl<'t> Writer<'t> {
     ) -> Result<(), Refusal> {
         let line = known.line_of(node);
         self.told.uses.push(to)?;
+        if known.options.levels == 0 && known.is_in_cycle(to) {
+            return Err(refused(line, Why::Recursive));
+        }
         if known.is_below(to) && known.own.level <= 1 {
             return self.write_last_level(alloc, known, index, line);
         }
@@ -107,7 +110,8 @@ impl<'t> Writer<'t> {
         self.write_constrained(alloc, known, index, node, to, depth)
     }
 
-    /// Writes NULL where recursion ends.
+    /// Writes NULL where recursion ends, which no value is taken to hold. Where a list has it for an element, it is
+    /// BOOLEAN, since the profile has no lists of elements without bits.
     fn write_last_level(
         &mut self,
         alloc: Global,
@@ -115,14 +119,14 @@ impl<'t> Writer<'t> {
         index: usize,
         line: u32,
     ) -> Result<(), Refusal> {
-        if known.options.levels == 0 {
-            return Err(refused(line, Why::Recursive));
-        }
         self.remark(alloc, known, index, Remark::Level)?;
-        self.out.push_str(" NULL")?;
+        self.trail.end_recursion();
         self.last = Info::of(Base::Other);
-        self.last.no_bits = true;
-        Ok(())
+        if is_part(known, index) {
+            self.last.no_bits = true;
+            return Ok(self.out.push_str(" NULL")?);
+        }
+        Ok(self.out.push_str(" BOOLEAN")?)
     }
 
     /// Takes what is known of a type that is referred to: counts its nodes, and remarks that it is not the same.
@@ -136,6 +140,7 @@ impl<'t> Writer<'t> {
         line: u32,
     ) -> Result<(), Refusal> {
         self.last = info_of(alloc, known, to, line)?;
+        self.trail.refer(self.last.written);
         let levels = depth.saturating_add(self.last.depth).saturating_sub(1);
         let nodes = self.last.nodes.saturating_sub(1);
         self.count(nodes, levels, line);
@@ -143,7 +148,12 @@ impl<'t> Writer<'t> {
             self.remark(alloc, known, index, Remark::Level)?;
         }
         let status = self.last.status;
-        if status == Status::Same || (known.is_below(to) && status == Status::Wider) {
+        let is_known = match status {
+            Status::Same => true,
+            Status::Narrower | Status::Wider => known.is_below(to),
+            _ => false,
+        };
+        if is_known {
             return Ok(());
         }
         self.remark(alloc, known, index, Remark::Holds(status))
@@ -163,6 +173,7 @@ impl<'t> Writer<'t> {
             Ok(member) => member,
             Err(why) => return Err(refused(line, why)),
         };
+        self.trail.select();
         self.counts.nodes = self.counts.nodes.saturating_sub(1);
         self.counts.selections = self.counts.selections.saturating_add(1);
         if self.counts.selections > MOST_SELECTIONS {
@@ -178,10 +189,10 @@ impl<'t> Writer<'t> {
             None => "",
         };
         push_pieces(&mut self.out, &[" ", name])?;
-        if !known.is_below(to) {
+        let level = known.level_of(to);
+        if level == whole_level(known.options) {
             return Ok(());
         }
-        let level = known.own.level.saturating_sub(1);
         let number = format!(in alloc; "{level}")?;
         Ok(push_pieces(&mut self.out, &[known.types.level_mark, number.as_str()])?)
     }
@@ -239,7 +250,7 @@ impl<'t> Writer<'t> {
         depth: usize,
     ) -> Result<(), Refusal> {
         let element = match element_of(known, to) {
-            Some(element) if !known.is_below(to) => element,
+            Some(element) if !known.is_in_cycle(to) => element,
             _ => return Err(refused(line, Why::Size)),
         };
         let both = seen_with(alloc, &self.last, own, line)?;
@@ -266,6 +277,14 @@ impl<'t> Writer<'t> {
         self.last.left = both.sizes;
         self.last.marked = both.marked;
         Ok(())
+    }
+}
+
+/// Whether a node is a component or an alternative, and no element of a list nor the whole of a type.
+fn is_part(known: &Known<'_, '_>, index: usize) -> bool {
+    match known.forest.node(index) {
+        Some(node) => !node.name.is_empty(),
+        None => false,
     }
 }
 
@@ -316,15 +335,19 @@ fn seen_with(alloc: Global, info: &Info, own: Seen, line: u32) -> Result<Seen, R
     intersection(alloc, info.seen(alloc)?, own, line)
 }
 
+/// What is known of a type that passes a limit: what refers to it passes that too.
+fn past_info(nodes: usize, depth: usize) -> Info {
+    let mut info = Info::of(Base::Other);
+    info.nodes = nodes;
+    info.depth = depth;
+    info
+}
+
 /// What is known of a type that is referred to.
 fn info_of(alloc: Global, known: &Known<'_, '_>, to: usize, line: u32) -> Result<Info, Refusal> {
-    let states = if known.is_below(to) {
-        known.own.below
-    } else {
-        known.values.states
-    };
-    match states.get(to) {
+    match known.states_for(to).get(to) {
         Some(State::Ready(info)) => Ok(info.copy(alloc)?),
+        Some(State::Past { nodes, depth }) => Ok(past_info(*nodes, *depth)),
         Some(State::Refused) => Err(refused(line, Why::Holds)),
         _ => Err(refused(line, Why::Parameter)),
     }

@@ -1,10 +1,11 @@
 //! What becomes of one type: its text, what is known of it, and what is said of it.
 use crate::known::{Known, path_of};
 use crate::sources::Sources;
-use crate::writer::Writer;
+use crate::writer::{Counts, Writer};
 use asn_published_text::refusal::{Refusal, Why};
 use asn_published_types::info::State;
 use asn_published_types::report::{Note, Remark, Status};
+use asn_published_types::steps::Trail;
 use std::alloc::{AllocError, Global};
 
 /// Writes a type, unless the profile refused it before.
@@ -67,14 +68,17 @@ pub(crate) struct Settled {
     pub uses: Vec<usize>,
     /// How many nodes were written, of the types before it too.
     pub written: usize,
+    /// Its nodes, with what is not looked at there.
+    pub trail: Trail,
 }
 
-/// A type that was written.
-fn ready(writer: Writer<'_>) -> Settled {
+/// A type that was written, `index` being its index among those that are.
+fn ready(writer: Writer<'_>, index: usize) -> Settled {
     let mut info = writer.last;
     info.nodes = writer.counts.nodes;
     info.depth = writer.counts.depth;
     info.status = writer.told.status;
+    info.written = index;
     Settled {
         state: State::Ready(info),
         line: Some(writer.out),
@@ -82,6 +86,18 @@ fn ready(writer: Writer<'_>) -> Settled {
         notes: writer.told.notes,
         uses: writer.told.uses,
         written: writer.counts.written,
+        trail: writer.trail,
+    }
+}
+
+/// What is known of a type that is refused.
+fn refused_state(counts: Counts) -> State {
+    match counts.passed {
+        Some(_) => State::Past {
+            nodes: counts.nodes,
+            depth: counts.depth,
+        },
+        None => State::Refused,
     }
 }
 
@@ -90,16 +106,17 @@ fn refused(writer: Writer<'_>, note: Note) -> Result<Settled, AllocError> {
     let mut writer = writer;
     writer.told.notes.push(note)?;
     Ok(Settled {
-        state: State::Refused,
+        state: refused_state(writer.counts),
         line: None,
         status: Status::Refused,
         notes: writer.told.notes,
         uses: writer.told.uses,
         written: writer.counts.written,
+        trail: writer.trail,
     })
 }
 
-/// What became of a type that the text `file` assigns on the line `own_line`. A fault in another text is told on that
+/// What became of a type that the text `file` assigns on the line `own_line`, and its index among those that are written. A fault in another text is told on that
 /// line.
 pub(crate) fn settle_type<'t>(
     alloc: Global,
@@ -107,10 +124,11 @@ pub(crate) fn settle_type<'t>(
     file: usize,
     own_line: u32,
     outcome: Outcome<'t>,
+    index: usize,
 ) -> Result<Settled, AllocError> {
     let Outcome { writer, refusal } = outcome;
     let Some((line, why)) = refusal else {
-        return Ok(ready(writer));
+        return Ok(ready(writer, index));
     };
     let is_here = line != 0 && file_of(sources, writer.counts.node) == file;
     let note = Note {

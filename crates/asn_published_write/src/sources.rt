@@ -10,9 +10,11 @@ pub struct Sources<'t> {
     pub forest: Forest<'t>,
     pub numbers: Vec<Option<i128>>,
     pub names: Vec<String>,
-    /// What stands between the name of a type and the number of its level.
+    /// What separates the name of a type from the number of its level.
     pub level_mark: String,
     /// Of each type the first node.
     pub firsts: Vec<Option<usize>>,
     pub order: Order,
+    /// How large the types may be together, as `asn_module::read_within` counts a module.
+    pub most: u32,
 }

@@ -37,7 +37,7 @@ fn string_info(base: Base, seen: Seen, no_bits: bool) -> Info {
 }
 
 impl<'t> Writer<'t> {
-    /// What the constraints of a node leave, whose values stand in `scope`.
+    /// What the constraints of a node leave, whose values are in `scope`.
     pub fn seen_of(
         &mut self,
         alloc: Global,
@@ -83,6 +83,9 @@ impl<'t> Writer<'t> {
         line: u32,
     ) -> Result<(), Refusal> {
         self.put_numbers(alloc, known, index, &seen, line)?;
+        if !is_bounded(&seen, line)? {
+            self.remark(alloc, known, index, Remark::Unbounded)?;
+        }
         let no_bits = is_one_number(&seen, line)?;
         self.last = integer_info(seen, named, no_bits);
         Ok(())
@@ -142,7 +145,7 @@ impl<'t> Writer<'t> {
         Ok(())
     }
 
-    /// Writes what is left of the size of a string or a list, and tells whether that is 0 alone.
+    /// Writes what is left of the size of a string or a list, and returns whether that is 0 alone.
     pub fn put_size(
         &mut self,
         alloc: Global,
@@ -225,7 +228,7 @@ impl<'t> Writer<'t> {
         seen: &Seen,
         line: u32,
     ) -> Result<(), Refusal> {
-        let mut are_all = kind != Letters::Printable;
+        let mut are_all = kind != Letters::Printable && !seen.others;
         if let Some(letters) = &seen.letters {
             if seen.marked || !keeps_codes(kind, letters) {
                 return Err(refused(line, Why::Alphabet));
@@ -236,6 +239,14 @@ impl<'t> Writer<'t> {
             self.remark(alloc, known, index, Remark::Characters)?;
         }
         Ok(())
+    }
+}
+
+/// Whether numbers have a lowest and a highest one.
+fn is_bounded(seen: &Seen, line: u32) -> Result<bool, Refusal> {
+    match numbers_between(&seen.numbers, seen.marked, line)? {
+        Numbers::Between(Some(_), Some(_)) => Ok(true),
+        _ => Ok(false),
     }
 }
 

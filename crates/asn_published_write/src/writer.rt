@@ -11,6 +11,7 @@ use asn_published_types::pieces::push_pieces;
 use asn_published_types::ranges::Ranges;
 use asn_published_types::report::{Note, Remark, Status};
 use asn_published_types::seen::Seen;
+use asn_published_types::steps::Trail;
 use std::alloc::Global;
 use std::fmt::Write;
 
@@ -26,6 +27,8 @@ pub(crate) enum Task<'t> {
     Group(u32),
     /// The need of a component of the root, whose type was written last.
     Need(usize, Need),
+    /// A remark on the values of a node whose type was written last.
+    Mark(usize, Remark),
     /// The end of a list, by the node of its element: whether its size has a mark, and whether it is 0.
     List {
         element: usize,
@@ -54,7 +57,7 @@ pub(crate) struct Counts {
     /// How many nodes were written, of the types before it too.
     pub written: usize,
     pub selections: u32,
-    /// The node that is written, where a fault is told.
+    /// The node that is written, at which a fault is reported.
     pub node: usize,
 }
 
@@ -86,6 +89,8 @@ pub(crate) struct Writer<'t> {
     pub told: Told,
     pub counts: Counts,
     pub held: Held,
+    /// The nodes that are written, and what is not looked at there.
+    pub trail: Trail,
 }
 
 impl<'t> Writer<'t> {
@@ -112,11 +117,24 @@ impl<'t> Writer<'t> {
                 without_bits: Vec::new(alloc),
                 sizes: Vec::new(alloc),
             },
+            trail: Trail::new(alloc),
         }
     }
 
-    /// Takes a remark on a node.
+    /// Takes a remark on a node that is written.
     pub fn remark(
+        &mut self,
+        alloc: Global,
+        known: &Known<'_, 't>,
+        index: usize,
+        remark: Remark,
+    ) -> Result<(), Refusal> {
+        self.note(alloc, known, index, remark)?;
+        Ok(self.trail.mark(index, remark)?)
+    }
+
+    /// Takes a remark on a node into the report.
+    pub fn note(
         &mut self,
         alloc: Global,
         known: &Known<'_, 't>,
@@ -137,7 +155,7 @@ impl<'t> Writer<'t> {
     }
 
     /// Counts nodes that reach `depth` levels down. Where they pass a limit, the node that is written is the one at
-    /// which that is told, and what is left is counted all the same.
+    /// which that is reported, and what is left is counted all the same.
     pub fn count(&mut self, nodes: usize, depth: usize, line: u32) {
         self.counts.nodes = self.counts.nodes.saturating_add(nodes);
         self.counts.depth = self.counts.depth.max(depth);
@@ -178,7 +196,7 @@ impl<'t> Writer<'t> {
         within(line, "nodes", self.counts.nodes, MOST_NODES)
     }
 
-    /// Writes the type whose first node this is. Where a limit is passed, the fault tells how many nodes or levels the
+    /// Writes the type whose first node this is. Where a limit is passed, the fault has how many nodes or levels the
     /// type has, as far as they can be counted.
     pub fn write_type(
         &mut self,
@@ -203,6 +221,10 @@ impl<'t> Writer<'t> {
             let Some(task) = self.stack.pop() else {
                 break;
             };
+            if self.counts.passed.is_some() {
+                // what is left is counted and not kept
+                self.out.clear();
+            }
             match self.take(alloc, known, task) {
                 Err(Refusal::At { .. }) if self.counts.passed.is_some() => break,
                 Err(refusal) => return Err(refusal),
@@ -227,6 +249,7 @@ impl<'t> Writer<'t> {
             Task::Text(text) => Ok(self.out.push_str(text)?),
             Task::Name(name) => Ok(push_pieces(&mut self.out, &[" ", name])?),
             Task::Group(number) => Ok(write!(self.out, " ext{number}")?),
+            Task::Mark(index, remark) => Ok(self.trail.mark(index, remark)?),
             Task::Need(index, need) => {
                 self.take_member_bits(need);
                 self.write_need(alloc, known, index, need)

@@ -25,6 +25,7 @@ impl<'t> Writer<'t> {
         let line = known.line_of(&node);
         self.take_nodes(known, 1, line)?;
         self.count(1, depth, line);
+        self.trail.enter(alloc, index, depth)?;
         if node.is_constrained {
             self.remark(alloc, known, index, Remark::Dropped)?;
         }

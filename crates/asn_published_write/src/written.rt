@@ -1,15 +1,17 @@
 //! The types as they are written, and what became of each.
 use crate::known::{Known, Own, Types};
+use crate::levels::{cycle_end, level_line, name_of};
 use crate::settling::{Settled, assignment_of, outcome_of, settle_type};
 use crate::sources::Sources;
+use crate::totals::Totals;
 use asn_published_text::options::Options;
+use asn_published_text::refusal::Why;
 use asn_published_types::info::State;
 use asn_published_types::numbers::Values;
-use asn_published_types::report::TypeReport;
+use asn_published_types::report::{Note, Remark, Status, TypeReport};
+use asn_published_types::steps::Marked;
 use std::alloc::{AllocError, Global};
-
-/// How many levels of a recursive type are written at the most.
-const MOST_LEVELS: u32 = 32;
+use std::mem;
 
 /// The types as they are written, and what became of each.
 #[derive(Drop)]
@@ -19,6 +21,17 @@ pub struct Written {
     /// The assignments of types of cycles with fewer levels than are asked for.
     pub levels: Vec<String>,
     pub reports: Vec<Option<TypeReport>>,
+    /// The types that are written, those with fewer levels too, and which of them each type is.
+    pub marked: Vec<Marked>,
+    pub places: Vec<usize>,
+}
+
+/// How many levels of a recursive type are written at the most.
+const MOST_LEVELS: u32 = 32;
+
+/// How many levels a recursive type has that is in the module by its own name.
+pub fn whole_level(options: Options) -> u32 {
+    options.levels.min(MOST_LEVELS)
 }
 
 /// Nothing is written yet of `count` types.
@@ -28,11 +41,14 @@ fn nothing_written(alloc: Global, count: usize) -> Result<Written, AllocError> {
         lines: Vec::new(alloc),
         levels: Vec::new(alloc),
         reports: Vec::new(alloc),
+        marked: Vec::new(alloc),
+        places: Vec::new(alloc),
     };
     for _ in 0..count {
         written.states.push(State::Open)?;
         written.lines.push(None)?;
         written.reports.push(None)?;
+        written.places.push(0)?;
     }
     Ok(written)
 }
@@ -48,10 +64,25 @@ pub fn put<T: Drop>(places: &mut Vec<T>, index: usize, value: T) {
 #[derive(Drop)]
 struct Writing {
     written: Written,
-    /// The types of the cycle that is written with a level less.
+    /// The types of the cycle that is written with a level less, and those of the level that is written.
     below: Vec<State>,
+    beside: Vec<State>,
+    /// Of each type why it is refused with fewer levels, where it is by its own fault.
+    refusals: Vec<Option<Note>>,
     /// How many nodes are written.
     nodes: usize,
+    totals: Totals,
+}
+
+/// What became of a type, and its index among those that are written.
+#[derive(Drop)]
+struct Finished {
+    state: State,
+    line: Option<String>,
+    status: Status,
+    notes: Vec<Note>,
+    uses: Vec<usize>,
+    place: usize,
 }
 
 /// The line of an assignment.
@@ -69,6 +100,7 @@ fn known_of<'a, 't>(
     writing: &'a Writing,
     entry: usize,
     level: u32,
+    is_whole: bool,
 ) -> Known<'a, 't> {
     let assignment = assignment_of(sources, entry);
     Known {
@@ -84,7 +116,7 @@ fn known_of<'a, 't>(
             firsts: sources.firsts.as_slice(),
             names: sources.names.as_slice(),
             level_mark: sources.level_mark.as_str(),
-            cycles: sources.order.cycles.as_slice(),
+            order: &sources.order,
         },
         own: Own {
             entry,
@@ -92,6 +124,11 @@ fn known_of<'a, 't>(
             line: line_of(sources, assignment),
             level,
             below: writing.below.as_slice(),
+            beside: if is_whole {
+                writing.written.states.as_slice()
+            } else {
+                writing.beside.as_slice()
+            },
         },
     }
 }
@@ -105,17 +142,38 @@ impl Writing {
         options: Options,
         entry: usize,
         level: u32,
+        is_whole: bool,
         is_refused: bool,
-    ) -> Result<Option<Settled>, AllocError> {
+    ) -> Result<Option<Finished>, AllocError> {
         let Some(Some(first)) = sources.firsts.get(entry) else {
             return Ok(None);
         };
-        let known = known_of(&*sources, options, &*self, entry, level);
+        let known = known_of(&*sources, options, &*self, entry, level, is_whole);
         let (file, own_line) = (known.own.file, known.own.line);
         let outcome = outcome_of(alloc, &known, *first, is_refused, self.nodes)?;
-        let settled = settle_type(alloc, sources, file, own_line, outcome)?;
+        let place = self.written.marked.len();
+        let settled = settle_type(alloc, sources, file, own_line, outcome, place)?;
         self.nodes = settled.written;
-        Ok(Some(settled))
+        let name = name_of(alloc, sources, entry, level, is_whole)?;
+        let Settled {
+            state,
+            line,
+            status,
+            notes,
+            uses,
+            written: _,
+            trail,
+        } = self.totals.taken(alloc, name, own_line, settled)?;
+        let marked = trail.finish(alloc, self.written.marked.as_slice());
+        self.written.marked.push(marked)?;
+        Ok(Some(Finished {
+            state,
+            line,
+            status,
+            notes,
+            uses,
+            place,
+        }))
     }
 
     /// Writes a type as it stands in the module.
@@ -127,21 +185,23 @@ impl Writing {
         entry: usize,
         is_refused: bool,
     ) -> Result<(), AllocError> {
-        let level = options.levels.min(MOST_LEVELS);
-        let Some(one) = self.write(alloc, sources, options, entry, level, is_refused)? else {
+        let level = whole_level(options);
+        let Some(one) = self.write(alloc, sources, options, entry, level, true, is_refused)? else {
             return Ok(());
         };
-        let Settled {
+        let Finished {
             state,
             line,
             status,
-            notes,
+            mut notes,
             uses,
-            written: _,
+            place,
         } = one;
+        self.take_refusal(entry, &mut notes)?;
         let assignment = assignment_of(sources, entry);
         put(&mut self.written.states, entry, state);
         put(&mut self.written.lines, entry, line);
+        put(&mut self.written.places, entry, place);
         let report = TypeReport {
             name: match sources.names.get(entry) {
                 Some(name) => name.clone()?,
@@ -157,6 +217,22 @@ impl Writing {
         Ok(())
     }
 
+    /// Takes into the notes on a type why it is refused with fewer levels, where they only say that it holds such a type.
+    fn take_refusal(&mut self, entry: usize, notes: &mut Vec<Note>) -> Result<(), AllocError> {
+        let is_holder = match notes.last() {
+            Some(note) => matches!(note.remark, Remark::Refused(Why::Holds)),
+            None => false,
+        };
+        if is_holder {
+            if let Some(place) = self.refusals.get_mut(entry) {
+                if let Some(note) = mem::replace(place, None) {
+                    notes.push(note)?;
+                }
+            }
+        }
+        Ok(())
+    }
+
     /// Writes a type of a cycle with fewer levels than are asked for.
     fn write_level(
         &mut self,
@@ -168,20 +244,23 @@ impl Writing {
         is_refused: bool,
     ) -> Result<(State, String), AllocError> {
         let nothing = String::new(alloc);
-        let Some(one) = self.write(alloc, sources, options, entry, level, is_refused)? else {
+        let Some(one) = self.write(alloc, sources, options, entry, level, false, is_refused)? else {
             return Ok((State::Open, nothing));
         };
         let Some(name) = sources.names.get(entry) else {
             return Ok((State::Open, nothing));
         };
-        let Settled {
+        let Finished {
             state,
             line,
-            status: _,
-            notes: _,
-            uses: _,
-            written: _,
+            mut notes,
+            ..
         } = one;
+        if let Some(note) = notes.pop() {
+            if is_own_refusal(note.remark) {
+                put(&mut self.refusals, entry, Some(note));
+            }
+        }
         match line {
             Some(line) => {
                 let mark = sources.level_mark.as_str();
@@ -201,18 +280,20 @@ impl Writing {
         members: &[usize],
         refused: &[bool],
     ) -> Result<(), AllocError> {
-        for level in 1..options.levels.min(MOST_LEVELS) {
-            let mut states = Vec::new(alloc);
+        for level in 1..whole_level(options) {
             for entry in members {
                 let is_refused = matches!(refused.get(*entry), Some(true));
                 let (state, line) = self.write_level(
                     alloc, sources, options, *entry, level, is_refused,
                 )?;
-                states.push((*entry, state))?;
+                put(&mut self.beside, *entry, state);
                 self.written.levels.push(line)?;
             }
-            for (entry, state) in states {
-                put(&mut self.below, entry, state);
+            for entry in members {
+                if let Some(place) = self.beside.get_mut(*entry) {
+                    let state = mem::replace(place, State::Open);
+                    put(&mut self.below, *entry, state);
+                }
             }
         }
         Ok(())
@@ -240,59 +321,53 @@ impl Writing {
     }
 }
 
-/// The assignment of a type with fewer levels than are asked for.
-fn level_line(
-    alloc: Global,
-    name: &str,
-    mark: &str,
-    level: u32,
-    text: &str,
-) -> Result<String, AllocError> {
-    format!(in alloc; "{name}{mark}{level} ::={text}\n")
-}
-
-/// How many of the types from `from` on lie in one cycle; 1 where the first lies in none.
-fn cycle_end(sources: &Sources<'_>, from: usize) -> usize {
-    let types = sources.order.types.as_slice();
-    let cycle = match types.get(from) {
-        Some(entry) => match sources.order.cycles.get(*entry) {
-            Some(Some(cycle)) => *cycle,
-            _ => return from.saturating_add(1),
-        },
-        None => return from.saturating_add(1),
-    };
-    let mut end = from;
-    for _ in 0..types.len() {
-        let is_member = match types.get(end) {
-            Some(entry) => match sources.order.cycles.get(*entry) {
-                Some(Some(other)) => *other == cycle,
-                _ => false,
-            },
-            None => false,
-        };
-        if !is_member {
-            break;
-        }
-        end = end.saturating_add(1);
+/// Whether a remark says why a type is refused, and not only that one is to which it refers.
+fn is_own_refusal(remark: Remark) -> bool {
+    match remark {
+        Remark::Refused(why) => !matches!(why, Why::Holds),
+        _ => false,
     }
-    end
 }
 
-/// Writes all types but those that are refused.
+/// Writes all types but those that are refused. Where they come to more than they may, the largest are refused too.
 pub fn write_all(
     alloc: Global,
     sources: &Sources<'_>,
     options: Options,
     refused: &[bool],
 ) -> Result<Written, AllocError> {
+    let (written, totals) = write_with(alloc, sources, options, refused, Totals::new(alloc))?;
+    match totals.limited(alloc, sources.most)? {
+        None => Ok(written),
+        Some(totals) => {
+            let (written, _totals) = write_with(alloc, sources, options, refused, totals)?;
+            Ok(written)
+        }
+    }
+}
+
+/// Writes all types but those that are refused, and those that pass a limit on what they come to; and gives the sizes of
+/// what is written.
+fn write_with(
+    alloc: Global,
+    sources: &Sources<'_>,
+    options: Options,
+    refused: &[bool],
+    totals: Totals,
+) -> Result<(Written, Totals), AllocError> {
     let count = sources.firsts.len();
     let mut writing = Writing {
         written: nothing_written(alloc, count)?,
         below: Vec::new(alloc),
+        beside: Vec::new(alloc),
+        refusals: Vec::new(alloc),
         nodes: 0,
+        totals,
     };
     for _ in 0..count {
         writing.below.push(State::Open)?;
+        writing.beside.push(State::Open)?;
+        writing.refusals.push(None)?;
     }
     let types = sources.order.types.as_slice();
     let mut from = 0;
@@ -307,7 +382,10 @@ pub fn write_all(
     let Writing {
         written,
         below: _,
+        beside: _,
+        refusals: _,
         nodes: _,
+        totals,
     } = writing;
-    Ok(written)
+    Ok((written, totals))
 }

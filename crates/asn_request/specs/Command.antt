@@ -10,7 +10,7 @@ use Rattle.clap.specs.declared.builder.ArgAction.TheVariants.{Append, Set, SetTr
 
 -- the subcommands that have a type and encoding rules: their names, and whether what values take may be bounded
 abbrev pub orders : List (Text × Bool)
-orders = (codes "show", true) ∷ (codes "check", true) ∷ (codes "encode", false) ∷ (codes "convert", true)
+orders = (codes "show", true) ∷ (codes "check", true) ∷ (codes "encode", true) ∷ (codes "convert", true)
     ∷ (codes "newer", false) ∷ []
 
 abbrev pub order_names : List Text
@@ -103,19 +103,20 @@ form_rules given written = message_rules given ++ names_rule (codes "out") writt
 abbrev pub version_rules : List Rule
 version_rules = flag_rule (codes "json") ∷ flag_rule (codes "newer") ∷ []
 
--- those for the layout of JSON, and for what is counted
+-- those for the layout of JSON, for what is counted, and for what is not looked at
 abbrev pub answer_rules : Option ValueParser → List Rule
 answer_rules members = flag_rule (codes "pretty") ∷ names_rule (codes "order") members ∷ flag_rule (codes "stats")
-    ∷ version_rules
+    ∷ flag_rule (codes "accept-wider") ∷ version_rules
 
 -- those for what the profile does not have as it is published
 abbrev pub leave_rules : List Rule
-leave_rules = flag_rule (codes "plain-bits") ∷ flag_rule (codes "octets") ∷ number_rule (codes "levels") ∷ []
+leave_rules = flag_rule (codes "plain-bits") ∷ flag_rule (codes "octets") ∷ number_rule (codes "levels")
+    ∷ flag_rule (codes "strict") ∷ []
 
 -- the subcommand that flattens published modules
 abbrev pub flatten_app : Option ValueParser → App
 flatten_app p = with_rules (new_app (codes "flatten"))
-    (file_rule ∷ names_rule (codes "report") p ∷ option_rule (codes "type") ∷ flag_rule (codes "strict") ∷ leave_rules)
+    (file_rule ∷ names_rule (codes "report") p ∷ option_rule (codes "type") ∷ leave_rules)
 
 abbrev pub IsFlatten : Shape → Type 0
 IsFlatten s = (p : Option ValueParser) × TakesNames report_names p × (s ≡ (flatten_app p).top)
@@ -127,7 +128,7 @@ module_shape = (with_rules (new_app (codes "module")) (source_rules ++ leave_rul
 -- the subcommand that shows messages field by field, with the parsers of its options whose values are names
 abbrev pub fields_app : Option ValueParser → Option ValueParser → App
 fields_app p given = with_rules (new_app (codes "fields"))
-    (type_rule ∷ rules_rule p ∷ source_rules ++ message_rules given ++ flag_rule (codes "html") ∷ leave_rules)
+    (type_rule ∷ rules_rule p ∷ source_rules ++ message_rules given ++ flag_rule (codes "html") ∷ number_rule (codes "budget") ∷ leave_rules)
 
 abbrev pub IsFields : Shape → Type 0
 IsFields s = (p given : Option ValueParser) × TakesNames rule_names p × TakesNames given_names given
@@ -144,7 +145,7 @@ types_shape = (with_rules (new_app (codes "types")) (name_rule ∷ source_rules 
 -- the subcommand that gives values of a type
 abbrev pub example_shape : Shape
 example_shape = (with_rules (new_app (codes "example"))
-    (type_rule ∷ number_rule (codes "seed") ∷ number_rule (codes "count") ∷ source_rules ++ leave_rules)).top
+    (type_rule ∷ number_rule (codes "seed") ∷ number_rule (codes "count") ∷ number_rule (codes "budget") ∷ source_rules ++ leave_rules)).top
 
 -- the parsers of those options of an order whose values are names
 pub record Parsers : Type 0 where

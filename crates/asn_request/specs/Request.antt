@@ -134,6 +134,7 @@ IsAsking rows a = IsFlag (codes "explain") rows a.is_explained
     × (texts_of a.messages.items ≡ files_of (codes "messages") rows) × AreForms rows a.forms × IsLayout rows a.layout
     × (a.is_order_named ≡ is_order_named_in rows) × AreVersions rows a.versions
     × IsFlag (codes "stats") rows a.is_counted × IsNumberOf (codes "budget") rows a.budget
+    × IsFlag (codes "accept-wider") rows a.is_wider_taken
 
 -- ---- what is looked at
 

@@ -16,9 +16,9 @@ pub(crate) fn has_control(text: &str) -> bool {
 /// What is asked for of the messages of a job.
 #[derive(Drop)]
 pub struct Asking<'a> {
-    /// Whether standard error tells why a message, or the module, is refused.
+    /// Whether standard error says why a message, or the module, is refused.
     pub is_explained: bool,
-    /// The files of the messages; none where they stand on standard input.
+    /// The files of the messages; none where they are on standard input.
     pub messages: Vec<&'a str>,
     /// The forms of their octets.
     pub forms: Forms,
@@ -32,6 +32,8 @@ pub struct Asking<'a> {
     pub is_counted: bool,
     /// The most entries, and octets of strings, that the value of a message may take, if there is a bound.
     pub budget: Option<u32>,
+    /// Whether a message is answered plainly though a part of it is not looked at as the published type has it.
+    pub is_wider_taken: bool,
 }
 
 impl<'a> Asking<'a> {
@@ -131,7 +133,7 @@ pub struct Forms {
     pub given: Option<OctetForm>,
     /// That of the octets that are written, if one is named.
     pub written: Option<OctetForm>,
-    /// Whether messages stand one after the other in a text.
+    /// Whether messages follow each other in a text.
     pub is_split: bool,
 }
 

@@ -1,95 +1,122 @@
-//! What `--help` says beneath the options.
+//! What `--help` prints beneath the options. No line is longer than 80 characters.
 
 /// Of the program.
 pub static PROGRAM: &str = "\
-In: on standard input the text of a module; for all but `module`, `types` and `example` then a line that is ====, and a
-line for each message. With --module the texts of the module are those of files, and standard input has the messages
-alone, which are answered as they come. The text may be one of the profile, or a module as a standards body publishes it, of which
-`flatten --help` tells.
-Out: on standard output a line for each message, which begins with ! where it is refused. On standard error what is not
-the same of the published types that --type leads to, with file and line.
+Input: standard input has the text of a module. All commands except module,
+types and example then read a line ==== and one message a line. With --module
+the module is read from files, and standard input has messages only; each is
+answered as it arrives. The module may be a published one (see flatten --help).
+Output: one line for each message. A line that begins with ! is a refusal.
+Standard error names, with file and line, what differs from the published type.
 
-Octets are given and written as lines of hexadecimal digits, two an octet, and nothing else. Other forms, by --in and
---out:
-  hex         a line of hexadecimal digits, with blanks, 0x in front of a word, and comments from # on; lines that have
-              nothing but blanks and a comment are passed over, and one with 0x alone is the message of no octets
-  hex-block   the same on several lines, with a line of blanks behind each message, as `xxd -p` writes them
-  base64      a line of Base64 (RFC 4648), with its padding
-  binary      the octets themselves: a message is all of the input, or of a file of --messages; what is written has
-              nothing between messages, and refusals go to standard error
-With --messages FILE .. the messages are those of files, in the place of standard input, which then has the module alone,
-unless --module names it. With --split each text, or all of the input of --in binary, has messages one after the other:
-each begins where the last ended, and is answered by a line. Behind octets that are refused nothing of that text is read.
+A published type may accept more than it should, such as a DEFAULT that is
+written out: that part of a message is not looked at. Then check answers
+`ok N, not looked at: PATH (WHAT)`; show, encode and convert say it on standard
+error; the exit status is 4. --accept-wider answers as for any other message.
+--strict refuses types that differ. --levels N reads a recursive type in which
+the type is again N - 1 times, and refuses deeper messages.
 
-What a refusal means, of which --explain tells more on standard error:
-  ! hex                 the line is not of hexadecimal digits, two an octet
-  ! base64              the line is no Base64
-  ! json                the line is no JSON
-  ! shape PATH          what stands at PATH in the JSON shows no value of the type there
-  ! not of type         a number, a length or a character is none of the type
-  ! too long            the encoding would have more than 268,435,455 octets
-  ! cut short after N   the octets end before the message does, after N bits (OER: octets)
-  ! octets left after N the message ends after N octets, and more octets follow it
-  ! refused at bit N: WORD (OER: at octet N), the first after which no message can follow, WORD being
-    sealed              what is inside a field with a length of its own is no encoding of its type
-    default             a DEFAULT is written out, and the canonical encoding leaves it out
-    length              no length or count begins so, or a shorter form of it is wanted
-    extension           an extension bit, a count of additions, or their presence bits (all 0, say), that no encoding has
-    character           no character of the string type
-    padding             the bits that fill up an octet are not all 0, or (OER) the count of unused bits is wrong
-    number              no number or item of the type begins so, or a shorter form of it is wanted
-  ! over budget: ..     the value of the message takes more than --budget allows
-  ! module ..           the text is no module of the profile; at N: after N octets
-  ! no type NAME        the module has no type of the name
-  ! skipped PATH        of encode --newer: the type does not have an addition at PATH, and it would be lost
-Of newer: ! refused, ! cut short and ! too many additions, where the octets are a message of no version of the type.
+Octets are lines of hexadecimal digits, two an octet. Other forms (--in, --out):
+  hex        hexadecimal digits with blanks, 0x in front of a word, and comments
+             from # on; blank lines are skipped; 0x alone is an empty message
+  hex-block  the same on several lines; a blank line ends a message (xxd -p)
+  base64     a line of Base64 (RFC 4648), with padding
+  binary     the octets themselves: all of standard input, or of one file, is a
+             message; refusals go to standard error
+Dumps with offsets in front (od -Ax, hexdump, Wireshark) are refused: use
+od -An -v -tx1. If a line begins with a word of four digits or more, and its
+words differ in length, the first is taken for an offset unless it has 0x.
+--messages FILE.. reads the messages from files instead of standard input.
+--split reads several messages from one text: each begins where the last ended.
+Nothing is read after octets that are refused.
 
-A module whose types come to more than 10,000,000 once references are followed is refused, with a line on standard
-error and status 2: each type counts one, each item of an ENUMERATED one, and each name of an item, a component or an
-alternative its octets. The names to which types are assigned do not count.
+Refusals (--explain says more on standard error):
+  ! hex                 not hexadecimal digits, two an octet
+  ! base64              not Base64
+  ! json                not JSON
+  ! shape PATH          at PATH, JSON of another kind, or a key twice
+  ! not of type         a number, a length or a character outside the type
+  ! too long            the encoding has more than 268,435,455 octets
+  ! cut short after N   the message ends too early, after N bits (OER: octets)
+  ! octets left after N the message has N octets, and more octets follow
+  ! refused at bit N: WORD (OER: octet N): no message has this bit here
+    sealed              invalid content of an open type field or UTF8String
+    default             a component with its default value is encoded
+    length              a length that is not allowed, or not the shortest form
+    extension           extension bits that are not allowed
+    character           a character that the string type does not have
+    padding             padding bits that are not 0
+    number              a number or item that is not allowed, or not the
+                        shortest form
+  ! over budget: ..     the value takes more than --budget allows
+  ! deeper than N levels  the value goes deeper than --levels; other refusals of
+                        such a type end in: or deeper than N levels
+  ! module ..           not a module; at N: after N octets
+  ! no type NAME        the module has no type of this name
+  ! skipped PATH        encode --newer would lose an addition at PATH
+newer refuses by: ! refused, ! cut short, ! too many additions.
 
-The number N of --budget, --levels, --seed or --count is at most 4294967295.
+Limits: the types of a module come to at most 10,000,000, with references
+followed; each type, and each item of an ENUMERATED, counts one, and each
+identifier its octets. N of an option is at most 4294967295.
 
-Exit status: 0 if all went well; 1 if at least one message or type was refused; 2 if the words were not understood, the
-module was refused or it has no type of the name; 3 if reading, writing or memory failed, with a line on standard error.
+Exit status: 0 success; 1 a message or type was refused; 2 wrong arguments,
+module or type name; 3 reading, writing or memory failed.
+4 if a part of a message was not looked at, and none was refused.
 
 Example:
-  printf '%s\\n' 'M DEFINITIONS AUTOMATIC TAGS ::= BEGIN' 'T ::= INTEGER (0..7)' END ==== a0 |
+  printf '%s\\n' 'M DEFINITIONS AUTOMATIC TAGS ::= BEGIN' \\
+    'T ::= INTEGER (0..7)' END ==== a0 |
     asn_tool show --type T --rules per
-writes 5.";
+prints 5.";
 
 /// Of `flatten`.
 pub static FLATTEN: &str = "\
-In: the texts of modules as they are published: with IMPORTS, object identifiers, values, named numbers and bits, groups
-in [[ ]], contents, classes and parameters.
-Out: on standard output the one module of the profile that they become. On standard error what became of the types: how
-many are the same, wider, owed, per only and refused; with --report text a line for each remark, as FILE:LINE: TYPE:
-STATUS: REMARK; with --report json a line of JSON for each type. Before it each import of a module that is not given.
-With --type only that type is written and told of, and those that it leads to.
+Input: published modules, which may have IMPORTS, object identifiers, values,
+named numbers and bits, groups in [[ ]], contents, classes and parameters.
+Output: one module in the notation that the other commands read. Standard error
+has first the imports of modules that are not given, then how many types are
+the same, not the same (narrower, wider, owed, per only) and refused. --report
+text has a line for each remark, FILE:LINE: TYPE: STATUS: REMARK; --report json
+one line for each type.
+  same      the encodings are those of the published type
+  narrower  some of its encodings are refused: numbers of more than 64 bits
+  wider     other encodings are accepted too; of a recursive type those deeper
+            than --levels are refused
+  owed      the same if the writer keeps a rule that this type does not have
+  per only  the same in PER, others in OER
+The module that is written does not say this: other commands know it only from
+the published modules themselves.
+With --type only that type is written, with those that it refers to.
 
-Exit status: 0; 1 if at least one type was refused; 2 if a text is none of the notation, which standard error tells with
-file and line, or no type has the name; 3 if reading, writing or memory failed.
+Exit status: 0 success; 1 a type was refused; 2 a text is not ASN.1 (standard
+error has file and line) or no type has the name; 3 reading, writing or memory
+failed.
 
 Example:
-  echo 'M DEFINITIONS AUTOMATIC TAGS ::= BEGIN n INTEGER ::= 7 T ::= INTEGER (0..n) END' >m.asn
+  echo 'M DEFINITIONS AUTOMATIC TAGS ::= BEGIN
+    n INTEGER ::= 7 T ::= INTEGER (0..n) END' >m.asn
   asn_tool flatten m.asn
-writes
+prints
   M DEFINITIONS AUTOMATIC TAGS ::= BEGIN
   T ::= INTEGER ( 0 .. 7 )
   END";
 
 /// Of `module`.
 pub static MODULE: &str = "\
-In: the text of a module. Lines after one that is ==== are ignored. With --module nothing is read of standard input.
-Out: the module, a line for each assignment, in order, each reference followed and each bound effective.
-With --explain standard error shows where a text is refused: the line with a mark under it, and what could stand there.
+Input: the text of a module. Lines after a line ==== are ignored. With --module
+standard input is not read.
+Output: the module, one line for each assignment, with references followed and
+effective bounds. With --explain standard error shows where a text is refused:
+the line, a mark under it, and what could be there.
 
-Exit status: 0; 2 if the module was refused, which the only line of output tells, and with --module standard error in
-its place; 3 if reading, writing or memory failed.
+Exit status: 0 success; 2 the module was refused; 3 reading, writing or memory
+failed.
 
 Example:
-  echo 'M DEFINITIONS AUTOMATIC TAGS ::= BEGIN T ::= SEQUENCE OF U U ::= BOOLEAN END' | asn_tool module
-writes
+  echo 'M DEFINITIONS AUTOMATIC TAGS ::= BEGIN
+    T ::= SEQUENCE OF U U ::= BOOLEAN END' | asn_tool module
+prints
   M DEFINITIONS AUTOMATIC TAGS ::= BEGIN
   T ::= SEQUENCE OF BOOLEAN
   U ::= BOOLEAN
@@ -97,187 +124,214 @@ writes
 
 /// Of `show`.
 pub static SHOW: &str = "\
-In: the text of a module, a line that is ====, and messages in hexadecimal, one a line.
-Out: for each message its value as JSON, or a line that begins with ! and tells why it is refused.
-`asn_tool --help` says what each refusal means; with --explain standard error has a line more for each.
-With --budget N a message is refused whose value takes more than N entries, or more than N octets of strings: an entry for
-itself, for each component, absent or not, each element and the alternative, and an octet for each octet, character or
-bit of a string. What it takes is counted without building it, and told. A line that is no encoding is read as without.
+Input: the text of a module, a line ====, and one message a line in hexadecimal.
+Output: for each message its value as JSON, or a refusal. `asn_tool --help`
+lists the refusals.
+--budget N refuses a message whose value takes more than N entries, or N octets
+of strings. Entries are the value, each component (absent or not), each element
+and each alternative; octets are the octets, characters or bits of strings.
 
-Exit status: 0 if each message was shown; 1 if at least one was refused; 2 if the module was refused or has no type of
-the name, which the only line of output tells, but of a refused module that --module names standard error alone; 3 if
-reading, writing or memory failed.
+Exit status: 0 every message was shown; 1 a message was refused; 2 the module
+was refused or has no type of this name; 3 reading, writing or memory failed.
+4 if a part of a message was not looked at, and none was refused.
 
 Example:
-  printf '%s\\n' 'M DEFINITIONS AUTOMATIC TAGS ::= BEGIN' 'T ::= SEQUENCE { id INTEGER (0..7) }' END ==== a0 |
+  printf '%s\\n' 'M DEFINITIONS AUTOMATIC TAGS ::= BEGIN' \\
+    'T ::= SEQUENCE { id INTEGER (0..7) }' END ==== a0 |
     asn_tool show --type T --rules per
-writes {\"id\":5}. Of the line a1 in the place of a0, with --explain, standard output has
+prints {\"id\":5}. For a1 instead of a0, with --explain, it prints
   ! refused at bit 8: padding
-and standard error
-  line 1: in $, SEQUENCE: the bits that fill up an octet are not all 0
+and on standard error
+  line 1: in $, SEQUENCE: padding bits must be 0
 
-The members of objects stand in the order of their names; with --order declared in that of the type, and with --pretty on
-a line each. Of a file of messages one after the other, where m.asn has that module:
+Members of objects are in alphabetical order, with --order declared in that of
+the type. A file of messages one after the other, with the same module in m.asn:
   printf '\\240\\100' >messages
-  asn_tool show --type T --rules per --module m.asn --messages messages --in binary --split
-writes {\"id\":5} and {\"id\":2}.";
+  asn_tool show --type T --rules per --module m.asn --messages messages \\
+    --in binary --split
+prints {\"id\":5} and {\"id\":2}.";
 
 /// Of `check`.
 pub static CHECK: &str = "\
-In: the text of a module, a line that is ====, and messages in hexadecimal, one a line.
-Out: for each message `ok` and how many octets it has, or a line that begins with ! and tells why it is refused.
-`asn_tool --help` says what each refusal means; with --explain standard error has a line more for each.
-With --budget N a message is refused whose value takes more than N entries, or more than N octets of strings: an entry for
-itself, for each component, absent or not, each element and the alternative, and an octet for each octet, character or
-bit of a string. What it takes is counted without building it, and told. A line that is no encoding is read as without.
+Input: the text of a module, a line ====, and one message a line in hexadecimal.
+Output: for each message `ok` and its number of octets, or a refusal.
+`asn_tool --help` lists the refusals.
+--budget N refuses a message whose value takes more than N entries, or N octets
+of strings. Entries are the value, each component (absent or not), each element
+and each alternative; octets are the octets, characters or bits of strings.
 
-Exit status: 0 if each line is a message; 1 if at least one was refused; 2 if the module was refused or has no type of
-the name, which the only line of output tells, but of a refused module that --module names standard error alone; 3 if
-reading, writing or memory failed.
+Exit status: 0 every message is an encoding; 1 a message was refused; 2 the
+module was refused or has no type of this name; 3 reading, writing or memory
+failed.
+4 if a part of a message was not looked at, and none was refused.
 
 Example:
-  printf '%s\\n' 'M DEFINITIONS AUTOMATIC TAGS ::= BEGIN' 'T ::= INTEGER (0..7)' END ==== a0 a1 |
+  printf '%s\\n' 'M DEFINITIONS AUTOMATIC TAGS ::= BEGIN' \\
+    'T ::= INTEGER (0..7)' END ==== a0 a1 |
     asn_tool check --type T --rules per
-writes `ok 1` and `! refused at bit 8: padding`.
+prints `ok 1` and `! refused at bit 8: padding`.
 
-With blanks, 0x and a comment, where m.asn has that module:
-  echo '0xa0  # the number 5' | asn_tool check --type T --rules per --module m.asn --in hex
-writes `ok 1`. With --stats standard error has, after the answers, how many octets the messages have, how many messages
-there are of each alternative of a CHOICE, and how many are refused for each reason, a line each, as `octets: 1`,
-`alternative cam: 12` and `refused padding: 1`. Until then, where standard error is a terminal, a line tells there how many
-messages are answered so far, and how many that is a second.";
+With blanks, 0x and a comment, with the same module in m.asn:
+  echo '0xa0  # the number 5' |
+    asn_tool check --type T --rules per --module m.asn --in hex
+prints `ok 1`. --stats prints at the end, on standard error, how many octets the
+messages have, how many messages each alternative of a CHOICE has, and how many
+were refused for each reason: `octets: 1`, `alternative cam: 12`,
+`refused padding: 1`. On a terminal it shows how many messages are done so far.";
 
 /// Of `encode`.
 pub static ENCODE: &str = "\
-In: the text of a module, a line that is ====, and values as JSON, one a line.
-Out: for each value its octets in hexadecimal, or a line that begins with ! and tells why it is refused.
-`asn_tool --help` says what each refusal means; with --explain standard error has a line more for each.
+Input: the text of a module, a line ====, and one value a line as JSON.
+Output: for each value its octets in hexadecimal, or a refusal.
+`asn_tool --help` lists the refusals.
+A value may have 1,000,000 entries unless --budget N says otherwise. Entries are
+the value, each component (absent or not), each element and each alternative.
 
-Exit status: 0 if each value was encoded; 1 if at least one was refused; 2 if the module was refused or has no type of
-the name, which the only line of output tells, but of a refused module that --module names standard error alone; 3 if
-reading, writing or memory failed.
+Exit status: 0 every value was encoded; 1 a value was refused; 2 the module was
+refused or has no type of this name; 3 reading, writing or memory failed.
+4 if a part of a message was not looked at, and none was refused.
 
 Example:
-  printf '%s\\n' 'M DEFINITIONS AUTOMATIC TAGS ::= BEGIN' 'T ::= SEQUENCE { id INTEGER (0..7) }' END ==== '{\"id\":5}' |
+  printf '%s\\n' 'M DEFINITIONS AUTOMATIC TAGS ::= BEGIN' \\
+    'T ::= SEQUENCE { id INTEGER (0..7) }' END ==== '{\"id\":5}' |
     asn_tool encode --type T --rules per
-writes a0.
+prints a0.
 
-As octets, where m.asn has that module:
-  echo '{\"id\":5}' | asn_tool encode --type T --rules per --module m.asn --out binary >message
-leaves a file of one octet.
+As octets, with the same module in m.asn:
+  echo '{\"id\":5}' |
+    asn_tool encode --type T --rules per --module m.asn --out binary >message
+writes a file of one octet.
 
-With --newer the lines are those of `newer --json`: the value of one of which nothing was skipped is encoded, and any other
-is refused, since the octets of additions that the type does not have would be lost. Members of such an object other than
-value and skipped are passed over:
+With --newer the lines are those of `newer --json`. A value is encoded if
+nothing was skipped in it; otherwise it is refused, since its additions would be
+lost.
+Members other than value and skipped are ignored:
   asn_tool encode --type T --rules per --module m.asn --newer <lines
-writes a0 for {\"value\":{\"id\":5},\"skipped\":[]}.";
+prints a0 for {\"value\":{\"id\":5},\"skipped\":[]}.";
 
 /// Of `convert`.
 pub static CONVERT: &str = "\
-In: the text of a module, a line that is ====, and messages in hexadecimal, one a line, in the encoding rules named.
-Out: for each message the octets of the same value in the other encoding rules, in hexadecimal, or a line that begins
-with ! and tells why it is refused.
-`asn_tool --help` says what each refusal means; with --explain standard error has a line more for each.
-With --budget N a message is refused whose value takes more than N entries, or more than N octets of strings: an entry for
-itself, for each component, absent or not, each element and the alternative, and an octet for each octet, character or
-bit of a string. What it takes is counted without building it, and told. A line that is no encoding is read as without.
+Input: the text of a module, a line ====, and one message a line in hexadecimal,
+in the encoding rules of --rules.
+Output: for each message the octets of the same value in the other encoding
+rules, in hexadecimal, or a refusal. `asn_tool --help` lists the refusals.
+--budget N refuses a message whose value takes more than N entries, or N octets
+of strings. Entries are the value, each component (absent or not), each element
+and each alternative; octets are the octets, characters or bits of strings.
 
-Exit status: 0 if each message was converted; 1 if at least one was refused; 2 if the module was refused or has no type
-of the name, which the only line of output tells, but of a refused module that --module names standard error alone; 3 if
-reading, writing or memory failed.
+Exit status: 0 every message was converted; 1 a message was refused; 2 the
+module was refused or has no type of this name; 3 reading, writing or memory
+failed.
+4 if a part of a message was not looked at, and none was refused.
 
 Example:
-  printf '%s\\n' 'M DEFINITIONS AUTOMATIC TAGS ::= BEGIN' 'T ::= SEQUENCE { id INTEGER (0..7) }' END ==== a0 |
+  printf '%s\\n' 'M DEFINITIONS AUTOMATIC TAGS ::= BEGIN' \\
+    'T ::= SEQUENCE { id INTEGER (0..7) }' END ==== a0 |
     asn_tool convert --type T --rules per
-writes 05.
+prints 05.
 
-In Base64, where m.asn has that module:
-  echo oA== | asn_tool convert --type T --rules per --module m.asn --in base64 --out base64
-writes BQ==.";
+In Base64, with the same module in m.asn:
+  echo oA== | asn_tool convert --type T --rules per --module m.asn \\
+    --in base64 --out base64
+prints BQ==.";
 
 /// Of `newer`.
 pub static NEWER: &str = "\
-In: the text of a module, a line that is ====, and messages in hexadecimal, one a line, of senders whose types have more
-or fewer extension additions than those of the module.
-Out: for each message its value as JSON, without the additions that the module does not have, of each of which then
-stand a space, +, its number among the additions of its type, from 0, a colon and its octets in hexadecimal; or a line
-that begins with ! and tells why it is refused.
-`asn_tool --help` says what each refusal means; with --explain standard error has a line more for each.
+Input: the text of a module, a line ====, and one message a line in hexadecimal,
+from senders whose types have more or fewer extension additions.
+Output: for each message its value as JSON, without the additions that the
+module does not have. For each of those follow a space, +, its index among the
+additions of its type, from 0, a colon and its octets in hexadecimal. Or a
+refusal; `asn_tool --help` lists them.
 
-Exit status: 0 if each message was shown; 1 if at least one was refused; 2 if the module was refused or has no type of
-the name, which the only line of output tells, but of a refused module that --module names standard error alone; 3 if
-reading, writing or memory failed.
+Exit status: 0 every message was shown; 1 a message was refused; 2 the module
+was refused or has no type of this name; 3 reading, writing or memory failed.
 
 Example:
-  printf '%s\\n' 'M DEFINITIONS AUTOMATIC TAGS ::= BEGIN' 'T ::= SEQUENCE { a BOOLEAN, ... }' END ==== c04041c0 |
+  printf '%s\\n' 'M DEFINITIONS AUTOMATIC TAGS ::= BEGIN' \\
+    'T ::= SEQUENCE { a BOOLEAN, ... }' END ==== c04041c0 |
     asn_tool newer --type T --rules per
-writes {\"a\":true} +0:07. With --pretty each member stands on a line of its own.
+prints {\"a\":true} +0:07.
 
-With --json each line is an object: the value, and of each addition that was skipped the path to the SEQUENCE or CHOICE that
-has it, its number, and its octets. Of the same line, newer --type T --rules per --json writes
+With --json each line is an object: the value, and for each addition that was
+skipped the path to its SEQUENCE or CHOICE, its index, and its octets. For the
+same line, newer --type T --rules per --json prints
   {\"value\":{\"a\":true},\"skipped\":[{\"path\":\"$\",\"addition\":0,\"octets\":\"07\"}]}
-`encode --newer` takes such lines back, where nothing was skipped.";
+`encode --newer` encodes such lines if nothing was skipped.";
 
 /// Of `fields`.
 pub static FIELDS: &str = "\
-In: the text of a module, a line that is ====, and messages in hexadecimal, one a line; or as --module, --messages, --in
-and --split say, of which `asn_tool --help` tells.
-Out: for each message a line for each field: its first and last bit (OER: octet), counted from 1; the octets in which it
-lies, and in PER the bits of the field, where these are in one or two octets; the path of the part of the value; the type;
-and the value, or what else the field is, as X.691 and X.696 call it: a presence bitmap, a length determinant, padding. A
-component that is absent has a hyphen for its bits, and its DEFAULT. Octets that are no message are shown up to where they
-are refused, and a last line tells why. An empty line stands between messages.
-With --html one page in their place, which needs no script: the bits of all messages in colours, and the lines of their
-fields in the same colours.
+Input: the text of a module, a line ====, and one message a line in hexadecimal.
+Output: for each message one line for each field. It has the first and last bit
+(OER: octet), counted from 1, and the octets. In PER it has the bits if the
+field is in one or two octets. Then come the path, the type and the value. Other
+fields have the words of X.691 and X.696: presence bitmap, length determinant,
+padding. An absent component has a hyphen, and its DEFAULT. Octets that are no
+message are shown up to the refused bit, and the last line is the refusal. An
+empty line separates messages.
+--html prints one page without scripts: the bits of each message in colours, and
+the lines of its fields in the same colours.
+A message may have 100,000 fields unless --budget N says otherwise.
 
-Exit status: 0 if each line is a message; 1 if at least one is not; 2 if the module was refused or has no type of the
-name; 3 if reading, writing or memory failed.
+Exit status: 0 every message is an encoding; 1 a message was refused; 2 the
+module was refused or has no type of this name; 3 reading, writing or memory
+failed.
 
 Example:
-  printf '%s\\n' 'M DEFINITIONS AUTOMATIC TAGS ::= BEGIN' 'T ::= SEQUENCE { id INTEGER (0..7) }' END ==== a0 |
+  printf '%s\\n' 'M DEFINITIONS AUTOMATIC TAGS ::= BEGIN' \\
+    'T ::= SEQUENCE { id INTEGER (0..7) }' END ==== a0 |
     asn_tool fields --type T --rules per
-writes
-  1-3          A0 101.....               $.id                          INTEGER (0..7)                5
-  4-8          A0 ...00000               $                                                           padding
+prints a line for `id` (bits 1-3, octet A0, bits 101, value 5) and one for the
+padding (bits 4-8).
 
-A page of the messages of a file, where m.asn has that module:
-  asn_tool fields --type T --rules per --module m.asn --messages m.bin --in binary --html >m.html";
+A page of the message of a file, with the same module in m.asn:
+  asn_tool fields --type T --rules per --module m.asn --messages m.bin \\
+    --in binary --html >m.html";
 
 /// Of `types`.
 pub static TYPES: &str = "\
-In: the text of a module. Lines after one that is ==== are ignored. With --module nothing is read of standard input.
-Out: the names of its types, one a line, in order. With NAME that type: a line for each part, with the type of the part
-and the least and the greatest size of its values, in PER in bits and in OER in octets. A size without a greatest number,
-or with one past 2^64, has none, and a least one past 2^64 is told as 2^64 - 1. The last line has the least and the
-greatest size of a message in PER, in octets. Of published modules the types that are refused are left out, of which
-`flatten` tells.
+Input: the text of a module. Lines after a line ==== are ignored. With --module
+standard input is not read.
+Output: the names of its types, one a line, in order. With NAME that type: one
+line for each part, with its type and the least and the greatest size of its
+values, in PER in bits and in OER in octets. A size without a greatest number,
+or with one past 2^64, has none; a least one past 2^64 is printed as 2^64 - 1.
+The last line has the least and the greatest size of a message in PER, in
+octets.
 
-Exit status: 0; 2 if the module was refused or has no type of the name; 3 if reading, writing or memory failed.
+Exit status: 0 success; 1 types of published modules were left out of the names;
+2 the module was refused or has no type of this name; 3 reading, writing or
+memory failed.
 
 Example:
-  echo 'M DEFINITIONS AUTOMATIC TAGS ::= BEGIN T ::= SEQUENCE OF U U ::= BOOLEAN END' | asn_tool types
-writes
+  echo 'M DEFINITIONS AUTOMATIC TAGS ::= BEGIN
+    T ::= SEQUENCE OF U U ::= BOOLEAN END' | asn_tool types
+prints
   T
   U
-and, where m.asn has that module, `asn_tool types T --module m.asn` writes
-                                                                  PER bits        OER octets
-  T                               SEQUENCE OF                     8..             2..
-    []                            BOOLEAN                         1               1
-  a message in PER has 1.. octets";
+and `asn_tool types T --module m.asn`, with the same module in m.asn, prints
+that T has 8 or more bits in PER and 2 or more octets in OER.";
 
 /// Of `example`.
 pub static EXAMPLE: &str = "\
-In: the text of a module. Lines after one that is ==== are ignored. With --module nothing is read of standard input.
-Out: a value of the type as JSON, a line that `encode` reads: of each part the least, without the components that are
-OPTIONAL. With --seed N another, always the same of the same N: of 0 the greatest of each part, with all components; of
-other numbers the least, the greatest and anything between. With --count N so many values, a line each, of the seed and
-the numbers after it, from 0 where none is given. Both numbers are at most 4294967295.
+Input: the text of a module. Lines after a line ==== are ignored. With --module
+standard input is not read.
+Output: a value of the type as JSON, a line that `encode` reads: the least value
+of each part, without OPTIONAL components. --seed N gives another value, always
+the same for the same N: for 0 the greatest of each part, with all components.
+--count N gives N values, one a line, of the seed and the numbers after it, from
+0 without a seed.
+A value may have 1,000,000 components, elements and items of strings, all
+together, unless --budget N says otherwise.
 
-Exit status: 0; 2 if the module was refused or has no type of the name; 3 if reading, writing or memory failed.
+Exit status: 0 success; 1 a value has too many parts; 2 the module was refused
+or has no type of this name; 3 reading, writing or memory failed.
 
 Example:
-  echo 'M DEFINITIONS AUTOMATIC TAGS ::= BEGIN T ::= SEQUENCE { id INTEGER (3..7) } END' | asn_tool example --type T
-writes {\"id\":3}.
+  echo 'M DEFINITIONS AUTOMATIC TAGS ::= BEGIN
+    T ::= SEQUENCE { id INTEGER (3..7) } END' | asn_tool example --type T
+prints {\"id\":3}.
 
-Messages for a test, where m.asn has that module:
-  asn_tool example --type T --module m.asn --count 1000 | asn_tool encode --type T --rules per --module m.asn";
+Messages for a test, with the same module in m.asn:
+  asn_tool example --type T --module m.asn --count 1000 |
+    asn_tool encode --type T --rules per --module m.asn";

@@ -43,7 +43,7 @@ pub fn rules_option<'a>(alloc: Global) -> Arg<'a>
         .required(true)
         .action(ArgAction::Set)
         .value_parser(RULES.as_slice())
-        .help("The encoding rules of the octets that are read, or that `encode` writes")
+        .help("The encoding rules")
 }
 
 /// The command with the options for the module, and for why something is refused.
@@ -55,28 +55,32 @@ pub fn with_source<'a>(alloc: Global, command: Command<'a>) -> Result<Command<'a
     let files = files_option(
         alloc,
         "module",
-        "The texts of the module, or of the published modules, in place of standard input's",
+        "The files of the module, or of published modules,\ninstead of standard input",
     );
-    let explain = flag(
-        alloc,
-        "explain",
-        "Tells on standard error why a message, or the module, is refused, and in which component",
-    );
+    let explain = flag(alloc, "explain", "Explains each refusal on standard error");
     command.arg(files)?.arg(explain)
 }
 
 /// The command with the options for the messages and the forms of their octets.
-pub fn with_forms<'a>(alloc: Global, command: Command<'a>) -> Result<Command<'a>, AllocError>
+pub fn with_forms<'a>(
+    alloc: Global,
+    command: Command<'a>,
+    name: &str,
+) -> Result<Command<'a>, AllocError>
     ensures shape { IfOk result (λ c. (p : _) × (q : _) × TakesNames given_names p × TakesNames written_names q
         × (app_of c ≡ with_rules (app_of command.entry) (form_rules p q))) }
     ensures local { (out-Command command.entry).has_globals ≡ false
         → IfOk result (λ c. (out-Command c).has_globals ≡ false) }
 {
-    with_messages(alloc, command)?.arg(written_option(alloc))
+    with_messages(alloc, command, name)?.arg(written_option(alloc, name))
 }
 
 /// The command with the options for the messages and the form in which their octets are given.
-pub fn with_messages<'a>(alloc: Global, command: Command<'a>) -> Result<Command<'a>, AllocError>
+pub fn with_messages<'a>(
+    alloc: Global,
+    command: Command<'a>,
+    name: &str,
+) -> Result<Command<'a>, AllocError>
     ensures shape { IfOk result (λ c. (p : _) × TakesNames given_names p
         × (app_of c ≡ with_rules (app_of command.entry) (message_rules p))) }
     ensures local { (out-Command command.entry).has_globals ≡ false
@@ -85,18 +89,22 @@ pub fn with_messages<'a>(alloc: Global, command: Command<'a>) -> Result<Command<
     let files = files_option(
         alloc,
         "messages",
-        "The messages, in place of those on standard input",
+        "The files of the messages, instead of standard input",
     );
-    let split = flag(
+    let split = shown_flag(
         alloc,
         "split",
-        "Each text has messages one after the other: each begins where the last ended",
+        "Each text has messages one after the other",
+        name,
     );
-    command.arg(files)?.arg(given_option(alloc))?.arg(split)
+    command
+        .arg(files)?
+        .arg(given_option(alloc, name))?
+        .arg(split)
 }
 
 /// The option for the form of the octets that are given.
-fn given_option<'a>(alloc: Global) -> Arg<'a>
+fn given_option<'a>(alloc: Global, name: &str) -> Arg<'a>
     ensures rule { (p : _) × TakesNames given_names p × (rule_of result ≡ names_rule (codes "in") p) }
     ensures local { result.global ≡ false }
 {
@@ -104,12 +112,15 @@ fn given_option<'a>(alloc: Global) -> Arg<'a>
         .long("in")
         .value_name("FORM")
         .action(ArgAction::Set)
+        .hide(!is_taken(name, "in"))
         .value_parser(GIVEN.as_slice())
-        .help("How octets are given [default: a line of hexadecimal digits, two an octet]")
+        .help(
+            "The form of the octets that are read, by default\nhexadecimal digits and nothing else\n",
+        )
 }
 
 /// The option for the form of the octets that are written.
-fn written_option<'a>(alloc: Global) -> Arg<'a>
+fn written_option<'a>(alloc: Global, name: &str) -> Arg<'a>
     ensures rule { (p : _) × TakesNames written_names p × (rule_of result ≡ names_rule (codes "out") p) }
     ensures local { result.global ≡ false }
 {
@@ -117,52 +128,75 @@ fn written_option<'a>(alloc: Global) -> Arg<'a>
         .long("out")
         .value_name("FORM")
         .action(ArgAction::Set)
+        .hide(!is_taken(name, "out"))
         .value_parser(WRITTEN.as_slice())
-        .help("How `encode` and `convert` write octets [default: hex]")
+        .help("The form of the octets that are written,\ndefault: hex")
 }
 
-/// The command with the options for the layout of JSON, and for what is counted.
-pub fn with_answers<'a>(alloc: Global, command: Command<'a>) -> Result<Command<'a>, AllocError>
+/// The command with the options for the layout of JSON, for what is counted, and for what is not looked at.
+pub fn with_answers<'a>(
+    alloc: Global,
+    command: Command<'a>,
+    name: &str,
+) -> Result<Command<'a>, AllocError>
     ensures shape { IfOk result (λ c. (p : _) × TakesNames member_names p
         × (app_of c ≡ with_rules (app_of command.entry) (answer_rules p))) }
     ensures local { (out-Command command.entry).has_globals ≡ false
         → IfOk result (λ c. (out-Command c).has_globals ≡ false) }
 {
-    let pretty = flag(
+    let pretty = shown_flag(
         alloc,
         "pretty",
-        "`show` and `newer` write a line for each member and element",
+        "Prints each member and element on a line of its own",
+        name,
     );
-    let stats = flag(
+    let stats = shown_flag(
         alloc,
         "stats",
-        "`check` counts on standard error the messages, their octets, alternatives and refusals",
+        "Counts messages, octets, alternatives and refusals\non standard error",
+        name,
     );
-    let command = command.arg(pretty)?.arg(members_option(alloc))?.arg(stats)?;
-    with_versions(alloc, command)
+    let wider = shown_flag(
+        alloc,
+        "accept-wider",
+        "Answers a message plainly even if a part of it is\nnot looked at",
+        name,
+    );
+    let command = command
+        .arg(pretty)?
+        .arg(members_option(alloc, name))?
+        .arg(stats)?
+        .arg(wider)?;
+    with_versions(alloc, command, name)
 }
 
 /// The command with the options for messages of other versions of a type.
-fn with_versions<'a>(alloc: Global, command: Command<'a>) -> Result<Command<'a>, AllocError>
+fn with_versions<'a>(
+    alloc: Global,
+    command: Command<'a>,
+    name: &str,
+) -> Result<Command<'a>, AllocError>
     ensures shape { IfOk result (λ c. app_of c ≡ with_rules (app_of command.entry) version_rules) }
     ensures local { (out-Command command.entry).has_globals ≡ false
         → IfOk result (λ c. (out-Command c).has_globals ≡ false) }
 {
-    let json = flag(
+    let json = shown_flag(
         alloc,
         "json",
-        "`newer` writes an object with the value, and with what is skipped by path, addition and octets",
+        "Prints an object with the value and what is skipped",
+        name,
     );
-    let newer = flag(
+    let newer = shown_flag(
         alloc,
         "newer",
-        "`encode` takes such objects, passes over other members, and refuses one of which something was skipped",
+        "Reads the objects that `newer --json` prints",
+        name,
     );
     command.arg(json)?.arg(newer)
 }
 
 /// The option for the order of the members of JSON.
-fn members_option<'a>(alloc: Global) -> Arg<'a>
+fn members_option<'a>(alloc: Global, name: &str) -> Arg<'a>
     ensures rule { (p : _) × TakesNames member_names p × (rule_of result ≡ names_rule (codes "order") p) }
     ensures local { result.global ≡ false }
 {
@@ -170,8 +204,9 @@ fn members_option<'a>(alloc: Global) -> Arg<'a>
         .long("order")
         .value_name("ORDER")
         .action(ArgAction::Set)
+        .hide(!is_taken(name, "order"))
         .value_parser(MEMBERS.as_slice())
-        .help("In which order `show` and `newer` write the members of objects [default: name]")
+        .help("The order of the members of objects\n[default: name]")
 }
 
 /// An option for files.
@@ -196,19 +231,28 @@ pub fn with_leave<'a>(alloc: Global, command: Command<'a>) -> Result<Command<'a>
     let plain_bits = flag(
         alloc,
         "plain-bits",
-        "Named bits without a fixed size are a BIT STRING; the writer trims the last zeros",
+        "Reads named bits without a fixed size as BIT STRING;\nthe writer has to trim the last zeros",
     );
     let octets = flag(
         alloc,
         "octets",
-        "OBJECT IDENTIFIER, REAL and strings of other characters are an OCTET STRING of their content",
+        "Reads OBJECT IDENTIFIER, REAL and strings of other\ncharacters as OCTET STRING of their content",
     );
     let levels = number_option(
         alloc,
         "levels",
-        "How many levels of a recursive type there are, below which is NULL [default: 0, which refuses it]",
+        "Reads a recursive type to N levels and refuses\ndeeper messages [default: 0, which refuses the type]",
     );
-    command.arg(plain_bits)?.arg(octets)?.arg(levels)
+    let strict = flag(
+        alloc,
+        "strict",
+        "Refuses types that differ from the published ones",
+    );
+    command
+        .arg(plain_bits)?
+        .arg(octets)?
+        .arg(levels)?
+        .arg(strict)
 }
 
 /// An option whose value is a number of 32 bits.
@@ -233,4 +277,27 @@ pub fn flag<'a>(alloc: Global, name: &'a str, help: &'a str) -> Arg<'a>
         .long(name)
         .action(ArgAction::SetTrue)
         .help(help)
+}
+
+/// An option without a value, which help lists only if the subcommand takes it.
+fn shown_flag<'a>(alloc: Global, name: &'a str, help: &'a str, subcommand: &str) -> Arg<'a>
+    ensures rule { rule_of result ≡ flag_rule name.entry.now }
+    ensures local { result.global ≡ false }
+{
+    flag(alloc, name, help).hide(!is_taken(subcommand, name))
+}
+
+/// Whether a subcommand takes an option, of those that only some take. The others refuse it with a word of their own.
+fn is_taken(subcommand: &str, option: &str) -> bool {
+    match option {
+        "in" => subcommand != "encode",
+        "split" => subcommand != "encode" && subcommand != "newer",
+        "out" => subcommand == "encode" || subcommand == "convert",
+        "pretty" | "order" => subcommand == "show" || subcommand == "newer",
+        "stats" => subcommand == "check",
+        "accept-wider" => subcommand != "newer",
+        "json" => subcommand == "newer",
+        "newer" => subcommand == "encode",
+        _ => true,
+    }
 }

@@ -23,7 +23,7 @@ fn bare<'a>(alloc: Global) -> Result<Command<'a>, AllocError>
 {
     Command::new(alloc, "asn_tool")
         .version("0.1.0")
-        .about("Shows, checks, encodes and converts messages of the types of ASN.1 modules")
+        .about("Shows, checks, encodes and converts ASN.1 messages in UPER and COER")
         .after_help(help::PROGRAM)
         .no_binary_name(true)
         .subcommand_required(true)
@@ -47,7 +47,7 @@ fn with_orders<'a>(alloc: Global, tool: Command<'a>) -> Result<Command<'a>, Allo
 {
     tool.subcommand(reading(alloc, "show", "Shows messages as JSON", help::SHOW)?)?
         .subcommand(reading(alloc, "check", "Checks messages", help::CHECK)?)?
-        .subcommand(order(alloc, "encode", "Encodes JSON", help::ENCODE)?)?
+        .subcommand(reading(alloc, "encode", "Encodes JSON", help::ENCODE)?)?
         .subcommand(reading(
             alloc,
             "convert",

@@ -54,7 +54,7 @@ pub enum Request<'a> {
     },
 }
 
-/// How it is told what became of the types of published modules.
+/// How the report on the types of published modules is written.
 #[derive(Clone, Copy)]
 pub enum Form {
     /// A line for each status: how many types have it.
@@ -79,10 +79,11 @@ pub enum LineFault {
 /// What the words ask for, which are those after the program's name: that of the subcommand, of its files and of the
 /// values of its options that `clap` finds in them.
 ///
-/// `Line` comes where the command does not take the words: no subcommand or one that it does not have, an option that
-/// it does not have, that is missing, has no value or comes twice, rules that are neither `per` nor `oer`, levels that
-/// are no number. It comes too where the words ask for help or the version, which is the text of the error then. It
-/// comes for no other words. `Memory` comes where an allocation failed.
+/// # Errors
+/// `Line` exactly where the command does not take the words, or where they ask for help or the version, which is the
+/// text of the error then. The command does not take a missing or unknown subcommand or option, an option without a
+/// value or twice, rules other than `per` and `oer`, or levels that are no number. `Memory` where an allocation
+/// failed.
 pub fn request_of<'a>(alloc: Global, words: &'a [&'a str]) -> Result<Request<'a>, LineFault>
     ensures request { IfOk result (λ asked. Asks (map (λ w. w.now) words.entry.now) asked) }
     ensures fault { IfErr result (λ fault. Told (map (λ w. w.now) words.entry.now) fault) }
@@ -197,7 +198,7 @@ fn files_in<'a>(
     }
 }
 
-/// What becomes of types that the profile does not have as they are. A subcommand without `--strict` is not strict.
+/// What becomes of types that the profile does not have as they are.
 fn options_in(options: &ArgMatches<'_>) -> Options
     ensures { AreOptions (rows_of (found_of options.now)) result }
 {
@@ -222,6 +223,7 @@ fn asking_in<'a>(alloc: Global, options: &ArgMatches<'a>) -> Result<Asking<'a>, 
         versions: versions_in(options),
         is_counted: options.get_flag("stats"),
         budget: budget_in(options),
+        is_wider_taken: options.get_flag("accept-wider"),
     })
 }
 

@@ -2,7 +2,7 @@
 ghost use Rattle.std.specs.Prelude.{◌≡◌, IfOk, codes, false, true};
 ghost use Rattle.clap.specs.Words.{app_of, rule_of, shape_of};
 ghost use Rattle.clap.specs.declared.builder.Command.TheViews.{out-Command};
-ghost use Rattle.asn_request.specs.Command.{IsFields, IsFlatten, IsOrder, IsOrderApp, TakesNames, example_shape, file_rule, module_shape, name_rule, names_rule, option_rule, report_names, types_shape};
+ghost use Rattle.asn_request.specs.Command.{IsFields, IsFlatten, IsOrder, IsOrderApp, TakesNames, example_shape, file_rule, module_shape, name_rule, names_rule, number_rule, option_rule, report_names, types_shape};
 
 use crate::help;
 use crate::options::{
@@ -20,18 +20,12 @@ pub fn flatten<'a>(alloc: Global) -> Result<Command<'a>, AllocError>
     ensures shape { IfOk result (λ c. IsFlatten (shape_of c)) }
     ensures local { IfOk result (λ c. (out-Command c).has_globals ≡ false) }
 {
-    let strict = flag(
-        alloc,
-        "strict",
-        "Refuses a type that is not the same as the published one",
-    );
     let command = Command::new(alloc, "flatten")
-        .about("Writes published modules as one module of the profile")
+        .about("Writes published modules as one module")
         .after_help(help::FLATTEN)
         .arg(file_argument(alloc))?
         .arg(report_option(alloc))?
-        .arg(one_type_option(alloc))?
-        .arg(strict)?;
+        .arg(one_type_option(alloc))?;
     with_leave(alloc, command)
 }
 
@@ -45,7 +39,7 @@ fn file_argument<'a>(alloc: Global) -> Arg<'a>
         .required(true)
         .num_args(1..)
         .action(ArgAction::Append)
-        .help("The texts of the modules")
+        .help("The files of the modules")
 }
 
 /// The option for the one type that is written, with those that it leads to.
@@ -57,7 +51,7 @@ fn one_type_option<'a>(alloc: Global) -> Arg<'a>
         .long("type")
         .value_name("NAME")
         .action(ArgAction::Set)
-        .help("Writes this type alone, by its name in the module, and those that it leads to")
+        .help("Writes only this type and those that it refers to")
 }
 
 /// The option for the form of the report.
@@ -70,7 +64,7 @@ fn report_option<'a>(alloc: Global) -> Arg<'a>
         .value_name("FORM")
         .action(ArgAction::Set)
         .value_parser(REPORTS.as_slice())
-        .help("What standard error tells of the types [default: summary]")
+        .help("The form of the report on standard error\n[default: summary]")
 }
 
 /// The subcommand of the module.
@@ -79,7 +73,7 @@ pub fn module<'a>(alloc: Global) -> Result<Command<'a>, AllocError>
     ensures local { IfOk result (λ c. (out-Command c).has_globals ≡ false) }
 {
     let command = Command::new(alloc, "module")
-        .about("Prints the module, each reference followed")
+        .about("Prints the module, with references followed")
         .after_help(help::MODULE);
     let command = with_source(alloc, command)?;
     with_leave(alloc, command)
@@ -93,7 +87,7 @@ pub fn fields<'a>(alloc: Global) -> Result<Command<'a>, AllocError>
     let html = flag(
         alloc,
         "html",
-        "Writes one page of HTML, without a script, with the bits in colours",
+        "Prints one page of HTML, with the bits in colours",
     );
     let command = Command::new(alloc, "fields")
         .about("Shows messages field by field")
@@ -101,7 +95,10 @@ pub fn fields<'a>(alloc: Global) -> Result<Command<'a>, AllocError>
         .arg(type_option(alloc))?
         .arg(rules_option(alloc))?;
     let command = with_source(alloc, command)?;
-    let command = with_messages(alloc, command)?.arg(html)?;
+    let budget = budget_option(alloc, "The most fields of a message [default: 100000]");
+    let command = with_messages(alloc, command, "fields")?
+        .arg(html)?
+        .arg(budget)?;
     with_leave(alloc, command)
 }
 
@@ -111,7 +108,7 @@ pub fn types<'a>(alloc: Global) -> Result<Command<'a>, AllocError>
     ensures local { IfOk result (λ c. (out-Command c).has_globals ≡ false) }
 {
     let command = Command::new(alloc, "types")
-        .about("Shows the names of the types, or one type with the sizes of its parts")
+        .about("Shows the names of the types, or the parts of one type")
         .after_help(help::TYPES)
         .arg(name_argument(alloc))?;
     let command = with_source(alloc, command)?;
@@ -137,24 +134,37 @@ pub fn example<'a>(alloc: Global) -> Result<Command<'a>, AllocError>
     let seed = number_option(
         alloc,
         "seed",
-        "Gives the value that N determines, of 0 the greatest [default: the least value]",
+        "Prints the value that N determines; 0: the greatest\n[default: the least value]",
     );
     let count = number_option(
         alloc,
         "count",
-        "Gives N values, a line each, of one seed after the other [default: 1]",
+        "Prints N values, of one seed after the other\n[default: 1]",
+    );
+    let budget = budget_option(
+        alloc,
+        "The most parts and items of strings of a value\n[default: 1000000]",
     );
     let command = Command::new(alloc, "example")
-        .about("Writes values of a type as JSON")
+        .about("Prints values of a type as JSON")
         .after_help(help::EXAMPLE)
         .arg(type_option(alloc))?
         .arg(seed)?
-        .arg(count)?;
+        .arg(count)?
+        .arg(budget)?;
     let command = with_source(alloc, command)?;
     with_leave(alloc, command)
 }
 
-/// The subcommand of an order whose lines are encodings of the type, with the option for what their values may take.
+/// The option for what a value may take, or a message.
+fn budget_option<'a>(alloc: Global, help: &'a str) -> Arg<'a>
+    ensures rule { rule_of result ≡ number_rule (codes "budget") }
+    ensures local { result.global ≡ false }
+{
+    number_option(alloc, "budget", help)
+}
+
+/// The subcommand of an order whose values may take no more than is said.
 pub fn reading<'a>(
     alloc: Global,
     name: &'a str,
@@ -164,10 +174,9 @@ pub fn reading<'a>(
     ensures shape { IfOk result (λ c. IsOrder (name.entry.now, true) (shape_of c)) }
     ensures local { IfOk result (λ c. (out-Command c).has_globals ≡ false) }
 {
-    let budget = number_option(
+    let budget = budget_option(
         alloc,
-        "budget",
-        "Refuses a message whose value takes more than N entries, or N octets of strings",
+        "Refuses a value of more than N entries, or N octets\nof strings",
     );
     order(alloc, name, about, help)?.arg(budget)
 }
@@ -188,7 +197,7 @@ pub fn order<'a>(
         .arg(type_option(alloc))?
         .arg(rules_option(alloc))?;
     let command = with_source(alloc, command)?;
-    let command = with_forms(alloc, command)?;
-    let command = with_answers(alloc, command)?;
+    let command = with_forms(alloc, command, name)?;
+    let command = with_answers(alloc, command, name)?;
     with_leave(alloc, command)
 }

@@ -20,7 +20,7 @@ pub fn viability_is_prefix_closed()
     ensures { (r : Fielding) (whole : Shape → Datum → List Chunk) → LiveIsClosed r whole }
 {}
 
-/// Rules whose whole encodings tell their values by their units keep the laws: an encoding has one
+/// Rules whose whole encodings determine their values by their units keep the laws: an encoding has one
 /// value, a value that fits has one encoding, and no encoding begins another.
 pub fn laws_from_units()
     ensures { (r : Ruling) → WholesTell r → RulesLaws r }
@@ -52,12 +52,12 @@ pub fn are_octets(octets: &[u8])
 /// - `encodes_again`: a value that was decoded has the octets that were given as its encoding, and
 ///   no others. `only_memory`: an encoder that gives none for it had no memory.
 /// - `equal_exactly`: two values are equal exactly where their octets are.
-/// - `begins`: where octets follow an encoding, the decoder tells where it ends. `one_front`: where
-///   the decoder tells so, the first `used` octets are the encoding of a value, and no other prefix
+/// - `begins`: where octets follow an encoding, the decoder reports where it ends. `one_front`: where
+///   the decoder reports so, the first `used` octets are the encoding of a value, and no other prefix
 ///   is an encoding.
 /// - `cut`: to each proper prefix of an encoding the decoder answers that it is cut short, and
 ///   the number of units it has.
-/// - `one_answer`: two answers to the same octets, neither being `Memory`, say the same, but for the
+/// - `one_answer`: two answers to the same octets, neither being `Memory`, say the same, except the
 ///   reason of a refusal.
 pub fn codec_laws()
     ensures decodes { (r : Ruling) → RulesLaws r → DecodesTheEncoded r }
@@ -70,8 +70,9 @@ pub fn codec_laws()
     ensures one_answer { (r : Ruling) → RulesLaws r → DecodersAgree r }
 {}
 
-/// What follows from the clauses of `Rules::open` and `Rules::feed` for a session that takes a whole list of pieces, so
-/// that a caller need not put those of single calls together. The call does nothing: its clauses are what proofs cite.
+/// What follows from the clauses of `Rules::open` and `Rules::feed` for a session that takes a whole list of pieces,
+/// so that a caller need not put those of single calls together. The call does nothing: its clauses are what proofs
+/// cite.
 ///
 /// - `keeps_all`: as long as `More` is answered, the session has taken the octets of all pieces, one after the other,
 ///   and no others.
@@ -79,8 +80,8 @@ pub fn codec_laws()
 /// - `settles_later`: the first answer that is not `More` settles what is answered to every later piece: `Spent` after
 ///   `Done` and `Memory`, the same fault after `Refused` and `TooLong`.
 /// - `cuts_do_not_matter`: two sessions of a type whose pieces are the same octets, cut otherwise, answer the same to
-///   the last of them, where neither answers `Memory`: the same value that ends at the same octet of the message, or the
-///   same fault, but for the reason of a refusal.
+///   the last of them, where neither answers `Memory`. That is the same value that ends at the same octet of the
+///   message, or the same fault, except the reason of a refusal.
 pub fn session_laws<R: Rules>()
     ensures keeps_all { KeepsAllOctets R.ruling R.took }
     ensures answers_all { AnswersAllOctets R.ruling R.took }

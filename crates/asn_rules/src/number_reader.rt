@@ -13,7 +13,7 @@ use crate::stop::Stop;
 use asn_bits::internal::try_number_of;
 use asn_bits::{BitCursor, FieldState, Intervals, NumberField};
 
-/// The numbers from `low` to `high`, but for `excluded`.
+/// The numbers from `low` to `high`, except `excluded`.
 #[derive(Clone, Copy)]
 pub struct NumberSet {
     pub low: u64,
@@ -217,8 +217,8 @@ fn try_short_number(k: u32, set: NumberSet, bits: &mut BitCursor<'_>) -> Option<
     None
 }
 
-/// Reads a number of the intervals in `k` bits that could not be taken in one step: where they are cut, in one step too,
-/// else bit by bit.
+/// Reads a number of the intervals in `k` bits that could not be taken in one step: where they are cut, in one step
+/// too, else bit by bit.
 #[cold]
 fn read_slowly(
     k: u32,
@@ -275,8 +275,8 @@ fn read_number_by_bits(
     }
 }
 
-/// Whether fewer than `k` bits are left, and some number of the intervals begins with them. May be `false` where 64 bits
-/// or more are left.
+/// Whether fewer than `k` bits are left, and some number of the intervals begins with them. May be `false` where 64
+/// bits or more are left.
 fn is_cut(k: u32, numbers: &Intervals, bits: &BitCursor<'_>) -> bool
     requires few { k ≤ 72 }
     ensures { IsTrue result → (length bits.now < k) × Begins k (λ n. Among numbers.now n) bits.now }

@@ -15,7 +15,7 @@ use asn_bits::internal::octet_count;
 use asn_bits::{BitCursor, Counts, FieldState, OctetLengths};
 use std::alloc::Global;
 
-/// Reads a length from `low` to `high` (X.696, "length determinant"): in one step if one octet tells it.
+/// Reads a length from `low` to `high` (X.696, "length determinant"): in one step if it has one octet.
 ///
 /// # Errors
 /// `Short` if the octets end before the length does. `Refused`, with the reason `Length`, at the first octet after
@@ -36,7 +36,7 @@ pub fn read_length(low: u64, high: u64, units: &mut BitCursor<'_>) -> Result<u64
     read_length_by_octets(low, high, units)
 }
 
-/// Fast path: a length from `low` to `high` that one octet tells, or one to four octets after the first one where eight
+/// Fast path: a length from `low` to `high` of one octet, or of one to four octets after the first one where eight
 /// octets are left; otherwise takes nothing.
 #[inline(always)]
 pub fn try_length(low: u64, high: u64, units: &mut BitCursor<'_>) -> Option<u64>

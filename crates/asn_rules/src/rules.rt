@@ -24,7 +24,7 @@ use std::alloc::Global;
 ///
 /// The laws are the contracts. `keep_laws`: an encoding has one value, a value that fits its type has one encoding,
 /// and no encoding begins another. `feed`: what a session answers depends on all octets so far alone, however they were
-/// cut, and a refusal is told at the first unit after which no encoding can follow.
+/// cut, and a refusal is reported at the first unit after which no encoding can follow.
 pub trait Rules {
     /// What is kept of a message whose octets come in pieces.
     type Session: Drop;
@@ -69,8 +69,8 @@ pub trait Rules {
             (output.new ≡ output.old) (state_held (O.held output.old)) (state_held (O.held output.new))) }
         ensures through { (O.held output.new).through ≡ (O.held output.old).through };
 
-    /// How many octets the encoding of a value of the type has: as many as `encode` gives. It takes no memory: the value is
-    /// walked once, and nothing is written.
+    /// How many octets the encoding of a value of the type has: as many as `encode` gives. It takes no memory: the
+    /// value is walked once, and nothing is written.
     ///
     /// # Errors
     /// `NotOfType` where the value does not fit the type, `TooLong` where it fits and its encoding has more than
@@ -149,24 +149,24 @@ pub trait Rules {
         ensures ticked { TicksOn ruling took ticked session.old session.new piece.now result }
         ensures few { GivesFewOf took session.old result };
 
-    /// How many units the levels of the session took: the message is a level, and the content of each open type field is
-    /// one, which is read when the last octet of it has come. As many as the units that are seen, at least, and at most
-    /// so often as the type has levels; seen are the units of the octets so far, up to the end of the value or the
-    /// refused unit. Takes no memory.
+    /// How many units the levels of the session took: the message is a level, and the content of each open type field
+    /// is one, which is read when the last octet of it has come. As many as the units that are seen, at least, and at
+    /// most so often as the type has levels; seen are the units of the octets so far, up to the end of the value or
+    /// the refused unit. Takes no memory.
     fn ticks(session: &Self::Session) -> u64
         ensures count { result ≡ ticked session.now }
         ensures seen { Counts ruling took session.now result };
 
-    /// The octets that the session keeps of those that it took: the content so far, in whole octets, of the open type field
-    /// or the UTF8String in which they end; none where they end in no such field, or where the session does not go on.
-    /// Takes no memory.
+    /// The octets that the session keeps of those that it took: the content so far, in whole octets, of the open type
+    /// field or the UTF8String in which they end; none where they end in no such field, or where the session does not
+    /// go on. Takes no memory.
     fn kept(session: &Self::Session) -> &[u8]
         ensures { Keeps ruling took session.now result.now };
 
-    /// How much of a message the session holds: one for each node of the value that has begun, one for each value that is
-    /// built in it, each absent entry and each item of a string, and each octet that it keeps. At most as many as the type
-    /// has places, a string counting two, for each bit of the octets so far, or once; none where the session does not go
-    /// on. Takes no memory.
+    /// How much of a message the session holds: one for each node of the value that has begun, one for each value that
+    /// is built in it, each absent entry and each item of a string, and each octet that it keeps. At most as many as
+    /// the type has places, a string counting two, for each bit of the octets so far, or once; none where the session
+    /// does not go on. Takes no memory.
     fn held(session: &Self::Session) -> u64
         ensures count { result ≡ holds session.now }
         ensures few { HoldsFew took session.now result };
@@ -180,9 +180,9 @@ pub trait Rules {
     fn finish(session: Self::Session) -> Result<(), Truncated>
         ensures { (t : Shape) (past : Past) → took session t past → Finished ruling t past result };
 
-    /// The rules keep the laws: an encoding has one value, a value that fits has one encoding, no encoding begins another,
-    /// and a value is no larger than the bits of its encoding allow. The call does nothing: its clauses are what proofs
-    /// cite.
+    /// The rules keep the laws: an encoding has one value, a value that fits has one encoding, no encoding begins
+    /// another, and a value is no larger than the bits of its encoding allow. The call does nothing: its clauses are
+    /// what proofs cite.
     fn keep_laws()
         ensures laws { RulesLaws ruling }
         ensures tells { RulesTell ruling }

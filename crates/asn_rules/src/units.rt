@@ -24,7 +24,7 @@ impl Unit {
     }
 }
 
-/// A fault beside the unit of the rules that found it, to be displayed: `refused at bit 6: default`.
+/// A fault with the unit of the rules that found it, to be displayed: `refused at bit 6: default`.
 #[derive(Clone, Copy, Debug, PartialEq, Eq)]
 pub struct CountedFault {
     pub fault: DecodeFault,

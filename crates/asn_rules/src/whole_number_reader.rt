@@ -15,7 +15,7 @@ use asn_bits::internal::{octet_count, wide_octet_count, width, width_up_to};
 /// One more than the highest number of 64 bits.
 const WORD: u128 = 1 << 64;
 
-/// Reads a number from 0 to `high`, but for `excluded`, in the fewest bits that hold `high` (X.691, "constrained
+/// Reads a number from 0 to `high`, except `excluded`, in the fewest bits that hold `high` (X.691, "constrained
 /// whole number").
 ///
 /// # Errors
@@ -41,7 +41,7 @@ pub fn read_constrained(
     read_number(width_up_to(high), set, why, bits)
 }
 
-/// Reads a number from 0 to `high`, but for `excluded`, in the fewest octets after their count in an octet (X.691,
+/// Reads a number from 0 to `high`, except `excluded`, in the fewest octets after their count in an octet (X.691,
 /// "semi-constrained whole number").
 ///
 /// # Errors

@@ -9,7 +9,7 @@ ghost use Rattle.asn_bits.specs.Sink.{bit_of};
 use asn_bits::internal::{last_octets, least_signed_parts, next_length, octet_count, word_of_bits};
 use asn_limits::BLOCK;
 
-/// How the length of an open type field is told.
+/// How the length of an open type field is written.
 #[derive(Clone, Copy, Debug, PartialEq, Eq)]
 pub enum Framing {
     /// By general length determinants, in fragments from 16,384 octets on (X.691, "open type fields").
@@ -20,9 +20,9 @@ pub enum Framing {
 
 /// What an encoder writes into: a vector that grows, a count, or a few octets before a writer.
 ///
-/// `pushes` says that bits were taken. Open type fields may stand inside one another: `stands` says which bits were taken
-/// so far of the innermost one (or of the encoding, outside of them all), and which are still to come of it. So a contract
-/// speaks of no bit that stands elsewhere, and a sink before a writer, which lets go of what it has written, can keep it.
+/// `pushes` says that bits were taken. Open type fields may lie inside one another: `stands` says which bits were
+/// taken so far of the innermost one (or of the encoding, outside of them all), and which are still to come of it. So
+/// a contract speaks of no bit elsewhere, and a sink before a writer, which drops what it has written, can keep it.
 pub trait Sink {
     ghost use Rattle.asn_sinks.specs.Sink.{Standing, Pushes, Fills, Begins, Ends};
 
@@ -89,7 +89,7 @@ pub trait Sink {
         self.push_number(1, bit as u64)
     }
 
-    /// Adds the last `count` octets of `n`, whatever stands before them.
+    /// Adds the low `count` octets of `n`, and ignores the others.
     #[inline(always)]
     fn push_low_octets(&mut self, count: u32, n: u64) -> Result<(), Self::Fault>
         requires few { count ≤ 8 }

@@ -8,7 +8,7 @@ ghost use Rattle.asn_source.specs.Parts.{HasParts, first_entry, first_element};
 
 use asn_values::Value;
 
-/// A value, or a part of one, in a form from which it can be written: it tells its parts one after the other. No call
+/// A value, or a part of one, in a form from which it can be written: it returns its parts one after the other. No call
 /// allocates.
 pub trait Source: Copy {
     /// The entries of a SEQUENCE, or some of them.

@@ -1,13 +1,19 @@
 //! The answer to one message, in the form and the layout that is asked for, while standard error tells why it is refused.
 use crate::budget::{Answered, answer_within};
+use crate::marking::answer_marked;
 use asn_convert::{Job, Order, RuleName, RunFault, answer_line};
-use asn_jobs::{CountFault, OctetForm, Place, Progress, octets_in, place_text, text_of};
+use asn_jobs::{CountFault, OFFSETS, OctetForm, Place, Progress, octets_in, place_text, text_of};
 use asn_json_layout::Layout;
-use asn_look::{Counts, TakenBack, laid_text, newer_line, over_words, taken_back, why_refused};
+use asn_look::{
+    Counts, MOST_ENTRIES, TakenBack, json_over, laid_text, newer_line, over_words, taken_back,
+    why_refused, widest_of,
+};
 use asn_plan::Planned;
+use asn_published::Marks;
 use asn_request::asking::{Asking, Forms, Versions};
 use asn_rules::Counted;
 use asn_values::Checked;
+use std::alloc::AllocError;
 use std::io::Write;
 
 /// What is made of messages.
@@ -20,17 +26,28 @@ pub struct Asked<'t> {
     pub forms: Forms,
     pub layout: Layout,
     pub versions: Versions,
-    /// Whether standard error tells why a message is refused.
+    /// Whether standard error says why a message is refused.
     pub is_explained: bool,
     /// Whether messages are counted.
     pub is_counted: bool,
     /// The most that a value may take, if there is a bound.
     pub budget: Option<u32>,
+    /// What is not looked at of values, where the answers say so.
+    pub marks: Option<&'t Marks>,
+    /// Whether a message is answered plainly though a part of it is not looked at.
+    pub is_wider_taken: bool,
+    /// That of `asn_look::widest_of` for the type.
+    pub widest: u64,
 }
 
 impl<'t> Asked<'t> {
     /// What is made of the messages of a job, for the type of the plan; `None` where the module is to be printed.
-    pub fn of(asking: &Asking<'_>, job: &Job, planned: &'t Planned) -> Option<Asked<'t>> {
+    pub fn of(
+        asking: &Asking<'_>,
+        job: &Job,
+        planned: &'t Planned,
+        marks: Option<&'t Marks>,
+    ) -> Option<Asked<'t>> {
         let Job::Lines { order, rules, .. } = job else {
             return None;
         };
@@ -44,6 +61,9 @@ impl<'t> Asked<'t> {
             is_explained: asking.is_explained,
             is_counted: asking.is_counted,
             budget: asking.budget,
+            marks,
+            is_wider_taken: asking.is_wider_taken,
+            widest: widest_of(planned.get().get()),
         })
     }
 
@@ -73,9 +93,11 @@ pub struct Answers<W> {
     pub output: Counted<W>,
     pub counts: Counts,
     pub progress: Progress,
+    /// Whether a part of a message is not looked at.
+    pub has_unlooked: bool,
 }
 
-/// Answers one line of hexadecimal or JSON, and tells whether that is no refusal.
+/// Answers one line of hexadecimal or JSON, and returns whether that is no refusal.
 ///
 /// # Errors
 /// `Write` where the writer answered a fault, `Memory` where an allocation failed.
@@ -109,6 +131,14 @@ fn answer_line_of<W: Write>(
     line: &[u8],
     asked: Asked<'_>,
 ) -> Result<bool, RunFault> {
+    if let Some(entries) = over_by_json(rt, line, asked)? {
+        return refuse_json(rt, answers, place, entries, asked);
+    }
+    if let Some(marks) = asked.marks {
+        if asked.order != Order::Newer {
+            return answer_marked(rt, answers, place, line, asked, marks);
+        }
+    }
     let answered = if asked.is_as_it_is() {
         answer_to(rt, &mut answers.output, line, asked)?
     } else {
@@ -116,19 +146,61 @@ fn answer_line_of<W: Write>(
     };
     let is_good = matches!(answered, Answered::Line(true));
     if !is_good && asked.is_explained {
-        let words = match &answered {
-            Answered::Over(taken) => over_words(rt.alloc(), taken)?,
-            Answered::Line(_) => {
-                why_refused(rt.alloc(), asked.ty(), asked.order, asked.rules, line)?
-            }
-        };
-        tell(rt, place, words.as_str())?;
+        tell_why(rt, place, line, &answered, asked)?;
     }
     Ok(is_good)
 }
 
+/// Says on standard error why a line was refused.
+pub fn tell_why(
+    rt: &HostRuntime,
+    place: Place<'_>,
+    line: &[u8],
+    answered: &Answered,
+    asked: Asked<'_>,
+) -> Result<(), RunFault> {
+    let words = match answered {
+        Answered::Over(taken) => over_words(rt.alloc(), taken)?,
+        Answered::Line(_) => why_refused(rt.alloc(), asked.ty(), asked.order, asked.rules, line)?,
+    };
+    tell(rt, place, words.as_str())
+}
+
+/// How many entries the value of a line of JSON takes, if these are too many.
+fn over_by_json(
+    rt: &HostRuntime,
+    line: &[u8],
+    asked: Asked<'_>,
+) -> Result<Option<u64>, AllocError> {
+    if asked.order != Order::Encode {
+        return Ok(None);
+    }
+    let most = u64::from(asked.budget.unwrap_or(MOST_ENTRIES));
+    json_over(rt.alloc(), asked.ty(), line, asked.widest, most)
+}
+
+/// Refuses a line of JSON whose value takes so many entries.
+fn refuse_json<W: Write>(
+    rt: &HostRuntime,
+    answers: &mut Answers<W>,
+    place: Place<'_>,
+    entries: u64,
+    asked: Asked<'_>,
+) -> Result<bool, RunFault> {
+    let refusal = format!(in rt.alloc(); "! over budget: {entries} entries\n")?;
+    put_refusal(rt, answers, place, refusal.as_bytes(), asked)?;
+    if asked.is_explained {
+        let most = asked.budget.unwrap_or(MOST_ENTRIES);
+        let words = format!(in rt.alloc();
+            "the value takes {entries} entries, and at most {most} are allowed; --budget N allows N"
+        )?;
+        tell(rt, place, words.as_str())?;
+    }
+    Ok(false)
+}
+
 /// Answers one line of hexadecimal or JSON by a line, as it is answered where nothing but a bound is asked for.
-fn answer_to<W: Write>(
+pub fn answer_to<W: Write>(
     rt: &HostRuntime,
     output: &mut Counted<W>,
     line: &[u8],
@@ -166,6 +238,21 @@ fn answer_otherwise<W: Write>(
         put_refusal(rt, answers, place, answer.as_slice(), asked)?;
     }
     Ok(answered)
+}
+
+/// Writes the answer to a line that is no refusal, as it is or otherwise.
+pub fn put_answer<W: Write>(
+    rt: &HostRuntime,
+    answers: &mut Answers<W>,
+    line: &[u8],
+    answer: &[u8],
+    asked: Asked<'_>,
+) -> Result<(), RunFault> {
+    if asked.is_as_it_is() {
+        put(&mut answers.output, answer)
+    } else {
+        put_good(rt, answers, line, answer, asked)
+    }
 }
 
 /// Writes the answer to a line that is no refusal, laid out, in another form or counted.
@@ -262,9 +349,9 @@ fn put_octets<W: Write>(
     put(output, text.as_slice())
 }
 
-/// Writes this line of a refusal; on standard error, with its place, where octets alone are written. Counts it, if that is
-/// asked for.
-fn put_refusal<W: Write>(
+/// Writes this line of a refusal; on standard error, with its place, where octets alone are written. Counts it, if
+/// that is asked for.
+pub fn put_refusal<W: Write>(
     rt: &HostRuntime,
     answers: &mut Answers<W>,
     place: Place<'_>,
@@ -284,14 +371,29 @@ fn put_refusal<W: Write>(
 }
 
 /// What a line has, without its LF.
-fn text_in(line: &[u8]) -> &[u8] {
+pub fn text_in(line: &[u8]) -> &[u8] {
     match line {
         [text @ .., b'\n'] => text,
         _ => line,
     }
 }
 
-/// Refuses a text in which no octets of its form stand.
+/// Refuses a text of hexadecimal digits that may be a dump with offsets.
+///
+/// # Errors
+/// `Write` if the writer reported an error, `Memory` if an allocation failed.
+pub fn refuse_dump<W: Write>(
+    rt: &HostRuntime,
+    answers: &mut Answers<W>,
+    place: Place<'_>,
+    asked: Asked<'_>,
+) -> Result<bool, RunFault> {
+    put_refusal(rt, answers, place, "! hex\n".as_bytes(), asked)?;
+    tell(rt, place, OFFSETS)?;
+    Ok(false)
+}
+
+/// Refuses a text that has no octets of its form.
 ///
 /// # Errors
 /// `Write` where the writer answered a fault, `Memory` where an allocation failed.
@@ -303,8 +405,8 @@ pub fn refuse_text<W: Write>(
     asked: Asked<'_>,
 ) -> Result<bool, RunFault> {
     let (refusal, words) = match form {
-        OctetForm::Base64 => ("! base64\n", "no Base64 (RFC 4648), with its padding"),
-        _ => ("! hex\n", "no hexadecimal digits, two an octet"),
+        OctetForm::Base64 => ("! base64\n", "not Base64 (RFC 4648) with padding"),
+        _ => ("! hex\n", "not hexadecimal digits, two an octet"),
     };
     put_refusal(rt, answers, place, refusal.as_bytes(), asked)?;
     if asked.is_explained {
@@ -321,8 +423,8 @@ fn put<W: Write>(output: &mut Counted<W>, octets: &[u8]) -> Result<(), RunFault>
     }
 }
 
-/// Tells on standard error of the message that stands there.
-fn tell(rt: &HostRuntime, place: Place<'_>, words: &str) -> Result<(), RunFault> {
+/// Writes these words, with the place of the message, to standard error.
+pub fn tell(rt: &HostRuntime, place: Place<'_>, words: &str) -> Result<(), RunFault> {
     let told = place_text(rt.alloc(), place)?;
     let _ = eprintln!(rt; "{told}: {words}");
     Ok(())

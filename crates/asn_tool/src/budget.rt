@@ -21,10 +21,10 @@ pub enum Answered {
     Over(Taken),
 }
 
-/// Answers one line, without its LF, for the type of the plan: as `answer_line` does, unless the order has octets of the
-/// type and those of the line are the encoding of a value that takes more than `most` entries, or `most` octets of
-/// strings, as `asn_plan::Taken` counts them. Such a line is refused in words of its own, with what the value takes, and
-/// no value of it is built. The writer is not flushed.
+/// Answers one line, without its LF, for the type of the plan, as `answer_line` does, unless its value takes too much.
+/// That is where the order has octets of the type, and those of the line are the encoding of a value that takes more
+/// than `most` entries, or `most` octets of strings. `asn_plan::Taken` counts them. Such a line is refused in words of
+/// its own, with what the value takes, and no value of it is built. The writer is not flushed.
 ///
 /// # Errors
 /// `Write` only where the writer answered a fault, and `Memory` where an allocation failed: what was written is a

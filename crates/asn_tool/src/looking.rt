@@ -2,7 +2,9 @@
 use crate::running::run_on;
 use asn_convert::{Job, Order, cut_input, read_all};
 use asn_look::{ShowFault, show_of};
-use asn_module_files::{Stop, input_given, input_of_files, module_of, tell_text, tells_of_module};
+use asn_module_files::{
+    Input, Stop, input_given, input_of_files, module_of, tell_text, tells_of_module,
+};
 use asn_published::Options;
 use asn_request::asking::Asking;
 use asn_request::look::{Look, Looking};
@@ -53,7 +55,11 @@ fn show_given<'a>(
 ) -> Result<u8, Stop<'a>> {
     let is_told = tells_of_module(rt, asking);
     let given = read_all(rt.alloc(), &mut Counted::new(rt.reader()))?;
-    let octets = input_given(rt, given, options, job, is_told)?;
+    let Input {
+        octets,
+        is_whole,
+        ..
+    } = input_given(rt, given, options, job, is_told)?;
     let (text, lines) = cut_input(octets.as_slice());
     if is_told {
         let is_all = text.len() == octets.len()
@@ -62,7 +68,8 @@ fn show_given<'a>(
         tell_of(rt, look, job, text, options, is_all)?;
     }
     let mut lines = lines;
-    show_or_refuse(rt, look, job, text, asking, &mut lines)
+    let status = show_or_refuse(rt, look, job, text, asking, &mut lines)?;
+    Ok(listed(look, status, is_whole))
 }
 
 /// Shows what is asked for, the module being that of the files.
@@ -75,17 +82,34 @@ fn show_with_files<'a>(
     asking: &Asking<'a>,
 ) -> Result<u8, Stop<'a>> {
     let is_told = tells_of_module(rt, asking);
-    let Some(head) = input_of_files(rt, files, options, job, is_told)? else {
+    let Some(
+        Input {
+            octets,
+            is_whole,
+            ..
+        },
+    ) = input_of_files(rt, files, options, job, is_told)?
+    else {
         return Ok(2);
     };
-    let (text, _) = cut_input(head.as_slice());
+    let (text, _) = cut_input(octets.as_slice());
     if is_told {
         tell_of(rt, look, job, text, options, false)?;
     }
     let Ok(mut lines) = BufReader::new(rt.alloc(), rt.reader()) else {
         return Err(Stop::Memory);
     };
-    show_or_refuse(rt, look, job, text, asking, &mut lines)
+    let status = show_or_refuse(rt, look, job, text, asking, &mut lines)?;
+    Ok(listed(look, status, is_whole))
+}
+
+/// The exit status of what was shown: 1 where all was well, and a list of the types leaves some out.
+fn listed(look: &Look, status: u8, is_whole: bool) -> u8 {
+    if status == 0 && look.type_name.is_none() && !is_whole {
+        1
+    } else {
+        status
+    }
 }
 
 /// Tells on standard error why the text of the module is refused, or has not the type that is named, and where all of

@@ -5,6 +5,8 @@
 mod answering;
 mod budget;
 mod looking;
+mod marked;
+mod marking;
 mod messages;
 mod running;
 mod streaming;
@@ -20,7 +22,7 @@ use std::{env, io};
 
 /// Does what the words after the program's name ask for. The exit status is 0 where all is well, after help and the
 /// version too; 1 where a line or a type is refused; 2 where the words, a text or the module is; and 3 where reading,
-/// writing or memory failed.
+/// writing or memory failed; and 4 where no line is refused, and of one a part is not looked at.
 fn main(rt: HostRuntime) -> ExitCode {
     match words_of(&rt) {
         Ok(words) => do_words(&rt, words.as_slice()),

@@ -1,12 +1,12 @@
 //! Messages that are answered one after the other.
-use crate::answering::{Answers, Asked, answer_one, refuse_text};
+use crate::answering::{Answers, Asked, answer_one, refuse_dump, refuse_text};
 use crate::streaming::answer_stream;
-use asn_jobs::{OctetForm, Place, RunFault, next_text, octets_in};
+use asn_jobs::{OctetForm, Place, RunFault, is_dump, next_text, octets_in};
 use asn_look::front_len;
 use std::io::{BufRead, Write};
 
-/// Answers the messages of an input, whose name is that of its file, or empty for standard input. Tells whether no answer
-/// is a refusal.
+/// Answers the messages of an input, whose name is that of its file, or empty for standard input. Returns whether no
+/// answer is a refusal.
 ///
 /// # Errors
 /// `Read` where the reader answered a fault, `Write` where the writer did, `Memory` where an allocation failed.
@@ -55,6 +55,9 @@ fn answer_text<W: Write>(
             return Ok(is_good);
         }
     };
+    if is_dump(form, text) {
+        return refuse_dump(rt, answers, place, asked);
+    }
     match octets_in(rt.alloc(), form, text)? {
         Some(octets) => {
             if asked.forms.is_split {

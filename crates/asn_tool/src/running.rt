@@ -1,13 +1,15 @@
 //! Jobs on standard input and output.
 use crate::answering::{Answers, Asked};
 use crate::messages::answer_input;
-use asn_convert::{Job, RunFault, Status, cut_input, read_all, run, run_on_lines};
+use asn_convert::{Job, Order, RunFault, Status, cut_input, read_all, run, run_on_lines};
 use asn_jobs::{Piped, Progress, ending};
 use asn_look::Counts;
 use asn_module::Module;
-use asn_module_files::{Stop, input_given, input_of_files, module_of, tell_text, tells_of_module};
+use asn_module_files::{
+    Input, Stop, input_given, input_of_files, module_of, tell_text, tells_of_module,
+};
 use asn_plan::Planned;
-use asn_published::Options;
+use asn_published::{Marks, Options};
 use asn_request::asking::Asking;
 use asn_rules::Counted;
 use asn_values::Checked;
@@ -45,8 +47,14 @@ fn run_given<'a>(
     asking: &Asking<'a>,
 ) -> Result<u8, Stop<'a>> {
     let given = read_all(rt.alloc(), &mut Counted::new(rt.reader()))?;
-    let octets = input_given(rt, given, options, job, tells_of_module(rt, asking))?;
-    run_text(rt, job, octets.as_slice(), options, asking)
+    let Input { octets, marks, .. } = input_given(
+        rt,
+        given,
+        options,
+        job,
+        tells_of_module(rt, asking),
+    )?;
+    run_text(rt, job, octets.as_slice(), options, asking, &marks)
 }
 
 /// Does the job on these octets, the text of the module and the lines after the mark.
@@ -56,6 +64,7 @@ fn run_text<'a>(
     octets: &[u8],
     options: Options,
     asking: &Asking<'a>,
+    marks: &Option<Marks>,
 ) -> Result<u8, Stop<'a>> {
     let (text, lines) = cut_input(octets);
     if tells_of_module(rt, asking) {
@@ -63,7 +72,7 @@ fn run_text<'a>(
         tell_text(rt, text, options, job, is_all)?;
     }
     let mut lines = lines;
-    match run_asked(rt, job, text, asking, &mut lines)? {
+    match run_asked(rt, job, text, asking, marks, &mut lines)? {
         Some(status) => Ok(status),
         None => run_on(rt, job, octets),
     }
@@ -76,18 +85,40 @@ fn run_asked<'a, R: BufRead>(
     job: &Job,
     text: &[u8],
     asking: &Asking<'a>,
+    marks: &Option<Marks>,
     lines: &mut R,
 ) -> Result<Option<u8>, Stop<'a>> {
-    if asking.is_plain() {
+    let marks = marks_asked(asking, marks);
+    if is_plain(job, asking) && marks.is_none() {
         return Ok(None);
     }
     let Some(module) = module_of(rt.alloc(), text)? else {
         return Ok(None);
     };
     match type_for(job, &module) {
-        Some(ty) => run_for(rt, job, ty, asking, lines),
+        Some(ty) => run_for(rt, job, ty, asking, marks, lines),
         None => Ok(None),
     }
+}
+
+/// The marks that the answers use: with `--accept-wider` those of a recursive type alone.
+fn marks_asked<'m>(asking: &Asking<'_>, marks: &'m Option<Marks>) -> Option<&'m Marks> {
+    match marks {
+        Some(marks) if !asking.is_wider_taken || marks.levels().is_some() => Some(marks),
+        _ => None,
+    }
+}
+
+/// Whether the job is done as it is. Values of JSON have a bound on what they take.
+fn is_plain(job: &Job, asking: &Asking<'_>) -> bool {
+    let is_encode = matches!(
+        job,
+        Job::Lines {
+            order: Order::Encode,
+            ..
+        }
+    );
+    asking.is_plain() && !is_encode
 }
 
 /// The same for this type, by a plan of it.
@@ -96,10 +127,11 @@ fn run_for<'a, R: BufRead>(
     job: &Job,
     ty: &Checked,
     asking: &Asking<'a>,
+    marks: Option<&Marks>,
     lines: &mut R,
 ) -> Result<Option<u8>, Stop<'a>> {
     let planned = Planned::new(rt.alloc(), ty.copy()?)?;
-    match Asked::of(asking, job, &planned) {
+    match Asked::of(asking, job, &planned, marks) {
         Some(asked) => Ok(Some(answer_all(rt, asking, asked, lines)?)),
         None => Ok(None),
     }
@@ -124,6 +156,7 @@ fn answer_all<'a, R: BufRead>(
         output: Counted::new(Piped::new(io::writer(rt))),
         counts: Counts::new(rt.alloc()),
         progress: Progress::new(rt, asking.is_counted),
+        has_unlooked: false,
     };
     let files = asking.messages.as_slice();
     let answer = if files.is_empty() {
@@ -136,7 +169,13 @@ fn answer_all<'a, R: BufRead>(
     if asking.is_counted && answer.is_ok() {
         tell_counts(rt, &answers.counts)?;
     }
-    Ok(ended(rt, &answer, answers.output.into_inner().is_closed()))
+    let has_unlooked = answers.has_unlooked;
+    let status = ended(rt, &answer, answers.output.into_inner().is_closed());
+    Ok(if status == 0 && has_unlooked {
+        4
+    } else {
+        status
+    })
 }
 
 /// Tells on standard error what was counted.
@@ -205,7 +244,9 @@ fn run_with_files<'a>(
     asking: &Asking<'a>,
 ) -> Result<u8, Stop<'a>> {
     match input_of_files(rt, files, options, job, tells_of_module(rt, asking))? {
-        Some(head) => run_coming(rt, job, head.as_slice(), options, asking),
+        Some(Input { octets, marks, .. }) => {
+            run_coming(rt, job, octets.as_slice(), options, asking, &marks)
+        }
         None => Ok(2),
     }
 }
@@ -218,16 +259,17 @@ fn run_coming<'a>(
     head: &[u8],
     options: Options,
     asking: &Asking<'a>,
+    marks: &Option<Marks>,
 ) -> Result<u8, Stop<'a>> {
     let (text, _) = cut_input(head);
     if tells_of_module(rt, asking) {
         tell_text(rt, text, options, job, false)?;
     }
-    if !asking.is_plain() {
+    if !is_plain(job, asking) || marks.is_some() {
         let Ok(mut lines) = BufReader::new(rt.alloc(), rt.reader()) else {
             return Err(Stop::Memory);
         };
-        if let Some(status) = run_asked(rt, job, text, asking, &mut lines)? {
+        if let Some(status) = run_asked(rt, job, text, asking, marks, &mut lines)? {
             return Ok(status);
         }
     }

@@ -6,7 +6,7 @@ use asn_look::{Next, next_message};
 use std::io::{BufRead, Write};
 
 /// Answers the messages of an input, each as soon as its last octet is there. Of the input no more is kept than the
-/// message that has begun and what was read at once with it. After octets that are refused nothing is read. Tells
+/// message that has begun and what was read at once with it. After octets that are refused nothing is read. Returns
 /// whether no answer is a refusal.
 ///
 /// # Errors

@@ -23,8 +23,8 @@ impl AsnType {
     /// The fault that `Checked::new` answers for this type, and the path to where it is; None where the type is of the
     /// profile. Allocates the path. The fault is never `Memory`.
     ///
-    /// A type that is too deep is told by the path to its first type at level 33, one that has too many types inside by
-    /// that to the 10,001st.
+    /// The path of a type that is too deep leads to its first type at level 33; of one with too many types inside,
+    /// to the 10,001st.
     ///
     /// # Errors
     /// `AllocError` where an allocation failed.

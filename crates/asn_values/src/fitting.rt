@@ -19,9 +19,9 @@ pub fn fits(ty: &Checked, value: &Value) -> bool
     type_has(ty.get(), value, false)
 }
 
-/// Whether the value is one that a receiver of the type may be given of a message of a newer sender: one of the type as
-/// in [`fits`], but that an `UnknownItem` may stand for an item of an ENUMERATED with an extension marker, and an
-/// `UnknownAlternative` for an alternative of such a CHOICE. Allocates nothing.
+/// Whether the value is one that a receiver of the type may be given of a message of a newer sender. It is one of the
+/// type as in [`fits`], with two exceptions. An `UnknownItem` may replace an item of an ENUMERATED with an extension
+/// marker, and an `UnknownAlternative` an alternative of such a CHOICE. Allocates nothing.
 pub fn fits_received(ty: &Checked, value: &Value) -> bool
     ensures { IsTrue result ↔ FitsReceived (shape_of ty.now) (datum_of value.now) }
 {

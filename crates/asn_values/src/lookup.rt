@@ -51,7 +51,7 @@ pub fn additions<T>(ext: &Option<Vec<T>>) -> &[T]
     }
 }
 
-/// What stands at an index, root before additions.
+/// The part at an index, root before additions.
 pub fn part_at<'a, T>(root: &'a [T], ext: &'a Option<Vec<T>>, index: usize) -> Option<&'a T>
     ensures { option_map (λ t. t.now) result ≡ slice_get (root.now ++ added ext.now) index }
 {

@@ -6,10 +6,10 @@ use crate::types::{Alt, AsnType, Field, Item};
 use crate::value::Value;
 use std::fmt;
 
-/// A value beside its type, to be displayed: `{ id 5, list { TRUE, FALSE }, side left : NULL }`.
+/// A value with its type, to be displayed: `{ id 5, list { TRUE, FALSE }, side left : NULL }`.
 ///
-/// Components, items and alternatives stand by their names; by their index, counted from 0 as written, root then
-/// additions, where the type has none there. A string stands in quotation marks, each of its own twice.
+/// Components, items and alternatives have their names; or their index, counted from 0 as written, root then
+/// additions, where the type has none there. A string is in quotation marks, and each of its own is doubled.
 #[derive(Debug, Clone, Copy, Drop)]
 pub struct Notation<'v, 't> {
     pub value: &'v Value,

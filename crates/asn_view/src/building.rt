@@ -14,8 +14,8 @@ use asn_values::internal::part_at;
 use asn_values::{Alt, AsnType, Field, Item, Need, Value};
 use std::alloc::Global;
 
-/// Values built by the names of a type. The bounds of numbers, lengths and characters are not looked at: `misfit` tells
-/// where one is passed, and an encoder refuses what does not fit.
+/// Values built by the names of a type. The bounds of numbers, lengths and characters are not examined: `misfit`
+/// reports where one is passed, and an encoder refuses what does not fit.
 pub trait ByName: Sized {
     /// The value of the type that is given: an item of an ENUMERATED is given by its name, a string by its text.
     ///

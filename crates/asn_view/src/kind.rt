@@ -5,7 +5,7 @@ ghost use Rattle.asn_view.specs.Kinds.{kind_of};
 
 use asn_values::{AsnType, TextKind};
 
-/// A kind of type (X.680), as a view tells it.
+/// A kind of type (X.680), as a view returns it.
 #[derive(Clone, Copy, Debug, PartialEq, Eq)]
 pub enum Kind {
     /// BOOLEAN

@@ -9,10 +9,11 @@ use crate::view::View;
 const MAX_DIGITS: usize = 9;
 
 impl<'a> View<'a> {
-    /// The part at a path, as `coreData.speed` or `path[3].x`. The path is cut at each `.`, `[` and `]`; an empty piece
-    /// is passed over, one of at most nine digits is the index of an element, counted from 0, and any other the name of a
-    /// component or of the chosen alternative, as `get` takes it. A `$` in front is passed over, so a path may be one that
-    /// `misfit` or `explain` tells. None where a step has none. Allocates nothing.
+    /// The part at a path, as `coreData.speed` or `path[3].x`. `None` where a step leads nowhere. Allocates nothing.
+    ///
+    /// The path is cut at each `.`, `[` and `]`, and an empty piece is passed over. A piece of at most nine digits is
+    /// the index of an element, counted from 0. Any other is the name of a component or of the chosen alternative, as
+    /// `get` takes it. A `$` in front is passed over, so a path may be one that `misfit` or `explain` returns.
     pub fn at(&self, path: &str) -> Option<View<'a>>
         ensures { option_map seen result ≡ value_at_path path.now (seen self.now) }
     {

@@ -11,7 +11,7 @@ use crate::parts::{Components, Elements, item_at, of_alternative, value_at_name}
 use asn_values::internal::part_at;
 use asn_values::{AsnType, Checked, Value};
 
-/// A value beside its type, whose parts are reached by their names. It is two references, and is copied.
+/// A value with its type, whose parts are reached by their names. It is two references, and is copied.
 #[derive(Clone, Copy, Debug)]
 pub struct View<'a> {
     pub ty: &'a AsnType,
@@ -20,7 +20,7 @@ pub struct View<'a> {
 
 /// Types of which values can be viewed.
 pub trait Viewed {
-    /// The value beside this type. Whether it is one of the type does not matter: a part that the type has not is not
+    /// The value with this type. Whether it is one of the type does not matter: a part that the type has not is not
     /// found. Allocates nothing.
     fn view<'a>(&'a self, value: &'a Value) -> View<'a>;
 }

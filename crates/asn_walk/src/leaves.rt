@@ -18,7 +18,7 @@ use asn_rules::internal::Stop;
 use asn_values::{AsnType, Size, Value};
 use std::alloc::Global;
 
-/// What stands before the components of a SEQUENCE (X.691, "encoding the sequence type"; X.696, "preamble").
+/// What precedes the components of a SEQUENCE (X.691, "encoding the sequence type"; X.696, "preamble").
 #[derive(Clone, Copy)]
 pub struct Preamble {
     /// The extension bit: whether some extension addition is present.

@@ -41,7 +41,7 @@ pub fn counts_of(size: &Size) -> NumberSet
 }
 
 /// Reads how many octets a string of this size has: as many as the size says, or, where it leaves more than one count,
-/// the length that stands before them (X.696, "length determinant").
+/// the length before them (X.696, "length determinant").
 ///
 /// # Errors
 /// As `read_length`.

@@ -26,7 +26,7 @@ use asn_values::{AsnType, Bounds, Size, Value};
 pub trait WriteLeaves {
     ghost rules: { Coding };
 
-    /// How the length of an open type field is told.
+    /// How the length of an open type field is written.
     ghost framed_by: { sinks.Framing };
 
     /// Where a writer of a list stands between its fragments.
@@ -34,7 +34,7 @@ pub trait WriteLeaves {
 
     ghost rest: { Self.Fragments → List (List Chunk) → List Chunk };
 
-    /// How the length of an open type field is told.
+    /// How the length of an open type field is written.
     fn framing() -> Framing
         ensures { result ≡ framed_by };
 

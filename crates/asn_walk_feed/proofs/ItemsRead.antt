@@ -3,7 +3,7 @@ use Rattle.std.proofs.Common.{◌≡◌, ◌≤◌, ◌<◌, ◌+◌, ◌*◌, i
 use Rattle.std.proofs.lemmas.List.{map_push, length-append}
 use Rattle.std.proofs.Math.Nat.{mul-add}
 use Rattle.asn_rules.specs.Chunks.{Chunk}
-use Rattle.asn_rules.specs.Languages.{Spells, Short, Inhabited, Lawful}
+use Rattle.asn_rules.specs.Languages.{Spells, Short, Inhabited, Lawful, Row}
 use Rattle.asn_rules.specs.Stops.{Stops}
 use Rattle.asn_rules.specs.declared.stop.Stop.{Stop}
 use Rattle.asn_rules.specs.declared.stop.Stop.TheVariants as stop
@@ -17,8 +17,8 @@ use Rattle.asn_walk_feed.specs.Items.{InFragment, Stands, NextPart, ItemsGoOn}
 use Rattle.asn_walk_feed.specs.Weights.{total, Weighs}
 use Rattle.asn_walk_feed.specs.declared.frame.Frame.{Frame}
 use Rattle.asn_walk_feed.specs.declared.frame.Elements.{Elements}
-use Rattle.asn_walk_feed.proofs.Weights.{total-last, spells_weigh, spells_fewer, still_light}
-use Rattle.asn_walk_feed.proofs.ListsRead.{next_is, next_some, next_nearer, list_next_stops, element_stops, element_done, fragment_begins}
+use Rattle.asn_walk_feed.proofs.Weights.{total-append, total-last, row_weighs, spells_weigh, spells_fewer, still_light}
+use Rattle.asn_walk_feed.proofs.ListsRead.{next_is, next_some, next_nearer, list_next_stops, element_stops, element_done, row_done, fragment_begins}
 
 module _ {F A V : Type 0} (c : Coding) (laws : Laws c) (feeds : FeedLaws c) (ahead : F → Ahead) (between : F → Type 0) (S : List A → List Chunk → Type 0) (L : A → List Chunk → Type 0) (T : List A → List Chunk → Type 0) (seen : V → A) (some : Inhabited L) (law : Lawful L) (Element : List ℕ → List (Frame F) → List ℕ → Type 0) (fresh : (b : List ℕ) → b ≡ [] → Element b [] []) where
   abbrev R : Elements F V → List (Frame F) → List ℕ → List ℕ → Type 0
@@ -177,6 +177,45 @@ module _ {F A V : Type 0} (c : Coding) (laws : Laws c) (feeds : FeedLaws c) (ahe
                   light = rw (ei, map_push seen q.elements.items v) (light_more vs (seen v) us r all k h.light);
                   inner = rw (pl, ef, eg) (part_begins n p.next_part (ahead q.fragments) eh);
                 });
+          }
+
+  -- ---- elements in a row
+
+  -- they weigh what their units allow
+  light_row : (vs row : List A) (n : ℕ) (us r all : List ℕ) → Spells c.ruling.fielding (Row L n) row us r → Light vs (length us) (length all) → Light (vs ++ row) (length r) (length all)
+  light_row vs row n us r all sp h w k f g =
+      let sum = total-append w vs row in
+      let more = spells_weigh c.ruling.fielding (Row L n) (total w) k (row_weighs c.ruling.fielding L w k g n) row us r sp in
+      let before = h w k f g in
+      omega (arith, sum, more, before)
+
+  -- where nothing has come of the next element, k elements are read at once
+  pub elements_row : (q p : Elements F V) (fs : List (Frame F)) (all units r : List ℕ) (k : ℕ) (row : List A) → 0 < q.left → R q fs all units
+      → ((come : List ℕ) → Element q.next_part fs come → come ≡ [])
+      → p.left + k ≡ q.left → p.fragments ≡ q.fragments → p.next_part ≡ [] → map seen p.elements.items ≡ map seen q.elements.items ++ row
+      → Spells c.ruling.fielding (Row L k) row units r → R p [] all r
+  elements_row q p fs all units r k row l h none el ef eh ei sp = go q.left refl l
+    where
+      go : (n : ℕ) → q.left ≡ n → 0 < n → R p [] all r
+      go zero e l = absurd (omega (arith, l))
+      go (suc n) e l =
+          let vs = map seen q.elements.items in
+          let a = ahead q.fragments in
+          let i : Element q.next_part fs h.come = rw e at h.inner in
+          let z : h.come ≡ [] = none h.come i in
+          let sum : suc n ≡ p.left + k = sym (el ∙ e) in
+          let st : (more : List ℕ) → Stands c L T (suc n) a vs (all ++ more) ((h.come ++ units) ++ more) = λ more. rw e at h.stands more in
+          let at : (more : List ℕ) → InFragment c L T (suc n) a vs (all ++ more) (units ++ more) = λ more. subst (λ (xs : List ℕ). InFragment c L T (suc n) a vs (all ++ more) ((xs ++ units) ++ more)) z (st more) in
+          let next : (more : List ℕ) → Stands c L T p.left a (vs ++ row) (all ++ more) (([] ++ r) ++ more) =
+          λ more. row_done c laws L some law p.left k a vs row (all ++ more) (units ++ more) (r ++ more) (subst (λ (m : ℕ). InFragment c L T m a vs (all ++ more) (units ++ more)) sum (at more)) (done_stays more sp) in
+          let light : Light vs (length units) (length all) = subst (λ (xs : List ℕ). Light vs (length (xs ++ units)) (length all)) z h.light in
+          record {
+            come = [];
+            between_is = subst between (sym ef) h.between_is;
+            some = subst (λ (f : F). SomeAhead (ahead f)) (sym ef) h.some;
+            stands = λ more. rw (ef, ei) (next more);
+            light = rw ei (light_row vs row k units r all sp light);
+            inner = rw ef (part_begins p.left p.next_part (ahead q.fragments) eh);
           }
 
   -- ---- lengths come nearer to the end

@@ -178,6 +178,24 @@ module _ {A : Type 0} (c : Coding) (laws : Laws c) (L : A → List Chunk → Typ
     going = s.going;
   })
 
+  -- elements in a row more
+  pub row_done : (n k : ℕ) (ahead : Ahead) (es row : List A) (us come r : List ℕ) → InFragment c L T (n + k) ahead es us come
+      → Spells c.ruling.fielding (Row L k) row come r → Stands c L T n ahead (es ++ row) us r
+  row_done n k ahead es row us come r s h =
+      let more : Appends c.ruling.fielding L k es (es ++ row) come r = record { row = row; same = refl; spelt = h } in
+      stands_at n ahead (es ++ row) us r (record {
+        before = s.before;
+        was = s.was;
+        done = s.done + k;
+        count = s.count;
+        rest = s.rest;
+        first = s.first;
+        sum = omega (arith, s.sum);
+        next = s.next;
+        so_far = appends_more s.done k (s.done + k) refl s.so_far more;
+        going = s.going;
+      })
+
   -- a fragment begins
   pub fragment_begins : (k : ℕ) (a new : Ahead) (es : List A) (us q r : List ℕ) → Going c L T us a es q
       → Next c.ruling.fielding a (Some k) new q r → Stands c L T k new es us r

@@ -1,5 +1,5 @@
 -- How octets that stand in fragments and may be cut go on.
-use Rattle.std.proofs.Common.{◌≡◌, ◌<◌, ◌+◌, inl, inr, ℕ, List, [], ◌∷◌, ◌++◌, length, Option, Some, None, refl, sym, ap, subst, ◌∙◌}
+use Rattle.std.proofs.Common.{◌≡◌, ◌<◌, ◌+◌, inl, inr, ℕ, List, [], ◌∷◌, ◌++◌, length, map, Option, Some, None, refl, sym, ap, subst, ◌∙◌}
 use mathlib.Core.List.{map-id}
 use Rattle.asn_rules.specs.Chunks.{Chunk}
 use Rattle.asn_rules.specs.Languages.{Spells, Short, Inhabited, Then}
@@ -16,7 +16,7 @@ use Rattle.asn_rules.proofs.Numbers.General.{general_inhabited}
 use Rattle.asn_walk.specs.Ahead.{Ahead, items, lengths, end, Remaining, SomeAhead}
 use Rattle.asn_walk.specs.Coding.{Coding}
 use Rattle.asn_walk.specs.Laws.{Laws}
-use Rattle.asn_walk.proofs.Listing.{Going, steps_left}
+use Rattle.asn_walk.proofs.Listing.{Appends, Going, steps_left}
 use Rattle.asn_walk.proofs.Parts.{fields_part_of}
 use Rattle.asn_walk_feed.specs.Feeding.{Waits, FeedLaws, NextOf, HasBegun}
 use Rattle.asn_walk_feed.specs.Octets.{OctetCoding, FirstOf, all_octets, OctetsOf, OctetLaws, OctetTook, OctetsGoOn, OctetsTook}
@@ -139,6 +139,15 @@ module _ {F : Type 0} (c : Coding) (laws : Laws c) (feeds : FeedLaws c) (f : Oct
             x.kept p [] units' el ef ee z (refl, record { come = eh ∙ same; at_unit = at; begins = inr short }));
         more = λ p o r el ef eh ei k. x.more p [] o r el ef eh ei refl (subst (λ (us : List ℕ). Spells c.ruling.fielding f.octet o us r) same k);
       }
+
+  -- k octets are read at once, where nothing has come of the next
+  pub octets_row : (q p : Elements F ℕ) (all units r : List ℕ) (k : ℕ) → 0 < q.left → R q all units → q.next_part ≡ []
+      → p.left + k ≡ q.left → p.fragments ≡ q.fragments → p.next_part ≡ []
+      → Appends c.ruling.fielding f.octet k q.elements.items p.elements.items units r → R p all r
+  octets_row q p all units r k l h e el ef eh row =
+      let none : (come : List ℕ) → OctetTook {F = F} c f q.next_part [] come → come ≡ [] = λ come t. sym t.1.come ∙ ap c.to_units e ∙ feeds.none in
+      let items : map (λ (o : ℕ). o) p.elements.items ≡ map (λ (o : ℕ). o) q.elements.items ++ row.row = map-id p.elements.items ∙ row.same ∙ ap (λ (os : List ℕ). os ++ row.row) (sym (map-id q.elements.items)) in
+      listed.elements_row c laws feeds ahead between (FirstOf f) f.octet Whole (λ o. o) parts.some parts.octet (OctetTook c f) none_came q p [] all units r k row.row l h none el ef eh items row.spelt
 
   -- an octet has a unit, and the piece has none of the next
   pub octets_wait : (q : Elements F ℕ) (all units : List ℕ) → 0 < q.left → R q all units → q.next_part ≡ []

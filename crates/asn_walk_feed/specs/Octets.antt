@@ -8,6 +8,7 @@ use Rattle.asn_rules.specs.declared.stop.Stop.{Stop}
 use Rattle.asn_rules.specs.declared.stop.Stop.TheVariants as stop
 use Rattle.asn_walk.specs.Ahead.{Ahead, Remaining, SomeAhead}
 use Rattle.asn_walk.specs.Coding.{Coding}
+use Rattle.asn_walk.proofs.Listing.{Appends}
 use Rattle.asn_walk_feed.specs.Feeding.{IsBrief, Waits}
 use Rattle.asn_walk_feed.specs.Items.{ItemsGoOn}
 use Rattle.asn_walk_feed.specs.declared.frame.Elements.{Elements}
@@ -57,6 +58,10 @@ pub record OctetLaws (c : Coding) (f : OctetCoding) : Type 0 where
   pub some : Inhabited f.octet
   pub brief_start : IsBrief c f.start
   pub brief_octet : IsBrief c f.octet
+
+-- this many of them are taken from the units, and are put after those that were there
+abbrev pub TakesRow : Coding → (ℕ → List Chunk → Type 0) → ℕ → List ℕ → List ℕ → List ℕ → List ℕ → Type 0
+TakesRow c L n before after old new = Appends c.ruling.fielding L n before after (c.to_units old) (c.to_units new)
 
 -- ---- octets that are read so far
 

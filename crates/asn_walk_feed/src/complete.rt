@@ -25,9 +25,9 @@ use std::alloc::Global;
 /// Takes its units and no others, a tick each.
 ///
 /// # Errors
-/// `Refused` at the first unit after which no complete encoding can follow, which is the last that is taken; `Short`
-/// where all units of the piece belong to it and more are wanted, and then the nodes tell where it goes on; `Memory`
-/// where an allocation failed.
+/// `Refused` at the first unit after which no complete encoding can follow, which is the last that is taken. `Short`
+/// where all units of the piece belong to it and more are needed; then the nodes keep where it goes on. `Memory` where
+/// an allocation failed.
 pub fn feed_complete<R: FeedLeaves>(
     alloc: Global,
     ty: &AsnType,

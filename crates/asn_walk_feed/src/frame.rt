@@ -41,19 +41,19 @@ pub struct Elements<F, T> {
     pub elements: Vec<T>,
     /// How many elements of the fragment are still to be read.
     pub left: usize,
-    /// What stands after the fragment.
+    /// What follows the fragment.
     pub fragments: F,
-    /// What has come of the length that stands next, where no element of the fragment is left; of the next octet; and of
+    /// What has come of the next length, where no element of the fragment is left; of the next octet; and of
     /// the next element, where that is a row of numbers.
     pub next_part: Begun,
 }
 
-/// What stands before the octets of an open type field or the items of a string, up to the first length.
+/// What precedes the octets of an open type field or the items of a string, up to the first length.
 #[derive(Drop)]
 pub struct ItemsStart<F> {
-    /// The first of them, where it stands there: what it is may decide which others there can be.
+    /// The first of them, if it is there: what it is may decide which others there can be.
     pub first: Option<u8>,
-    /// What stands after it.
+    /// What follows it.
     pub fragments: F,
 }
 
@@ -120,16 +120,16 @@ impl<F: Drop> Frames<F> {
         Ok(())
     }
 
-    /// The octets that are kept of a value of the type, of which these nodes have begun: those of the open type field or
-    /// the UTF8String in which its units end. Takes no memory.
+    /// The octets that are kept of a value of the type, of which these nodes have begun: those of the open type field
+    /// or the UTF8String in which its units end. Takes no memory.
     pub fn kept(&self, ty: &AsnType) -> &[u8]
         ensures { result.now ≡ kept_in (nodes self.now) (shape_of ty.now) }
     {
         kept_in(ty, self.stack.as_slice())
     }
 
-    /// How much these nodes hold: one each, the cells of the parts of the value that they have, and the octets that they
-    /// keep; at most `u64::MAX`. Takes no memory.
+    /// How much these nodes hold: one each, the cells of the parts of the value that they have, and the octets that
+    /// they keep; at most `u64::MAX`. Takes no memory.
     pub fn held(&self) -> u64
         ensures { result ≡ counted (held_in (nodes self.now)) }
     {

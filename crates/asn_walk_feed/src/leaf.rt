@@ -9,7 +9,7 @@ ghost use Rattle.asn_rules.specs.Padding.{Fixed};
 ghost use Rattle.asn_rules.specs.Stops.{Stops};
 ghost use Rattle.asn_rules.specs.declared.stop.Stop.TheVariants.{Memory};
 ghost use Rattle.asn_walk.specs.Reading.{Reads, ReadsValue, StopsAt, ValuesOf};
-ghost use Rattle.asn_walk_feed.specs.Octets.{OctetsOf, start_seen};
+ghost use Rattle.asn_walk_feed.specs.Octets.{OctetsOf, TakesRow, start_seen};
 ghost use Rattle.asn_walk_feed.specs.OpenFields.{FieldCoding, FieldLaws, StopsAfter};
 ghost use Rattle.asn_walk_feed.specs.Holding.{HoldLaws};
 ghost use Rattle.asn_walk_feed.specs.Keeping.{KeepLaws};
@@ -23,9 +23,9 @@ use asn_bits::BitCursor;
 use asn_rules::internal::Stop;
 use asn_values::{AsnType, Value};
 use asn_walk::ReadLeaves;
-use std::alloc::Global;
+use std::alloc::{AllocError, Global};
 
-/// What a set of encoding rules gives to a reader of messages in pieces, beside its parts.
+/// What a set of encoding rules gives to a reader of messages in pieces, in addition to its parts.
 ///
 /// At `Ok` a method has taken exactly the units of what it gives.
 ///
@@ -72,6 +72,22 @@ pub trait FeedLeaves: ReadLeaves {
         ensures done { IfOk result (λ o. Reads Self.rules fields.open_type.octet o units.old units.new) }
         ensures stop { IfErr result (λ why. StopsAt Self.rules fields.open_type.octet units.old why) };
 
+    /// Takes octets of an open type field that have come whole, at most `most` of them, and appends them: many at once.
+    /// Gives how many they are, which may be none.
+    ///
+    /// # Errors
+    /// `AllocError` where an allocation failed.
+    fn take_octets(
+        most: usize,
+        into: &mut Vec<u8>,
+        units: &mut BitCursor<'_>,
+    ) -> Result<usize, AllocError>
+        requires at_unit { Self.rules.at_unit units.old }
+        ensures at_unit { OnOk result (Self.rules.at_unit units.new) }
+        ensures few { IfOk result (λ n. n ≤ most) }
+        ensures done { IfOk result (λ n. TakesRow Self.rules fields.open_type.octet n
+            into.old.items into.new.items units.old units.new) };
+
     /// Reads what stands before the items of a string of this type, up to the first length, and the first item where
     /// it stands there.
     fn start_string(
@@ -99,6 +115,25 @@ pub trait FeedLeaves: ReadLeaves {
             Reads Self.rules (fields.string (shape_of ty.now)).octet o units.old units.new) }
         ensures stop { IfErr result (λ why.
             StopsAt Self.rules (fields.string (shape_of ty.now)).octet units.old why) };
+
+    /// Takes items of a string of this type that have come whole, as `read_item` reads each, at most `most` of them,
+    /// and appends them: many at once. Gives how many they are, which may be none.
+    ///
+    /// # Errors
+    /// `AllocError` where an allocation failed.
+    fn take_items(
+        ty: &AsnType,
+        most: usize,
+        into: &mut Vec<u8>,
+        units: &mut BitCursor<'_>,
+    ) -> Result<usize, AllocError>
+        requires of_profile { InProfile (shape_of ty.now) }
+        requires string { IsString (shape_of ty.now) }
+        requires at_unit { Self.rules.at_unit units.old }
+        ensures at_unit { OnOk result (Self.rules.at_unit units.new) }
+        ensures few { IfOk result (λ n. n ≤ most) }
+        ensures done { IfOk result (λ n. TakesRow Self.rules (fields.string (shape_of ty.now)).octet n
+            into.old.items into.new.items units.old units.new) };
 
     /// The string of this type that has these items, after which this many units are left.
     ///
@@ -148,8 +183,8 @@ pub trait FeedLeaves: ReadLeaves {
     fn keep_kept_laws()
         ensures { KeepLaws Self.rules fields };
 
-    /// An element of a list has a unit, and items of strings have bits. The call does nothing: its clause is what proofs
-    /// cite.
+    /// An element of a list has a unit, and items of strings have bits. The call does nothing: its clause is what
+    /// proofs cite.
     fn keep_hold_laws()
         ensures { HoldLaws Self.rules fields };
 }

@@ -11,6 +11,7 @@ mod choices;
 mod complete;
 mod frame;
 mod held;
+mod in_fragments;
 mod kept;
 mod leaf;
 mod lists;

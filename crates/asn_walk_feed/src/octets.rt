@@ -1,110 +1,23 @@
 //! The reader of octets that stand in fragments, which goes on where it stopped: those of an open type field, and the
 //! items of a string, each of which is held as an octet.
-ghost use Rattle.std.specs.Prelude.{◌≡◌, ◌≤◌, ◌<◌, ◌+◌, ◌^◌, ◌++◌, ℕ, List, [], length, IfOk, IfErr, OnOk, IsNone, IsTrue, Err, ⊤};
-ghost use Rattle.asn_values.specs.Profile.{InProfile};
-ghost use Rattle.asn_values.specs.View.{shape_of};
+ghost use Rattle.std.specs.Prelude.{◌≡◌, ◌≤◌, ◌<◌, ◌+◌, ◌^◌, ◌++◌, ℕ, List, [], length, IfOk, IfErr, OnOk, IsNone, IsTrue, Err};
 ghost use Rattle.asn_rules.specs.Languages.{Spells};
 ghost use Rattle.asn_rules.specs.Stops.{Stops};
 ghost use Rattle.asn_rules.specs.declared.stop.Stop.TheVariants.{Short, Memory};
-ghost use Rattle.asn_walk.specs.Reading.{Reads, StopsAt};
 ghost use Rattle.asn_walk_feed.specs.Feeding.{Waits, Ticked, StandsAfter};
 ghost use Rattle.asn_walk_feed.specs.Nodes.{nodes};
-ghost use Rattle.asn_walk_feed.specs.Octets.{OctetCoding, OctetLaws, OctetsOf, OctetsGoOn, ReadsOctetsOn, StopsOctetsOn, OctetsGoOnTo, OctetsTook, KeepsOctets, ReadsOctetsFrom, StopsOctetsFrom, KeepsOctetsFrom, first_octets, start_seen};
-ghost use Rattle.asn_walk_feed.specs.Strings.{IsString};
+ghost use Rattle.asn_walk_feed.specs.Octets.{OctetsOf, OctetsGoOn, ReadsOctetsOn, StopsOctetsOn, OctetsGoOnTo, OctetsTook, KeepsOctets, ReadsOctetsFrom, StopsOctetsFrom, KeepsOctetsFrom, first_octets};
 ghost use Rattle.asn_walk_feed.specs.Taken.{with_node};
 
 use crate::begun::Begun;
-use crate::frame::{Elements, Frame, Frames, ItemsStart};
-use crate::leaf::{FeedLeaves, feed_leaf};
+use crate::frame::{Elements, Frame, Frames};
+use crate::in_fragments::InFragments;
+use crate::leaf::{FeedLeaves, feed_leaf, take_to};
 use crate::lists::next_fragment;
 use crate::parts::{Octet, OctetsStart};
 use crate::units::{Ticks, Units};
-use asn_bits::BitCursor;
 use asn_rules::internal::Stop;
-use asn_values::AsnType;
-use std::alloc::Global;
-
-/// What stands as octets in fragments.
-///
-/// At `Ok` a method has taken exactly the units of what it gives.
-///
-/// # Errors
-/// `Short` where the units end before the part does, `Refused` at the first unit after which none
-/// can follow, `Memory` where an allocation failed.
-pub trait InFragments<R: FeedLeaves> {
-    ghost coding: { Self → OctetCoding };
-
-    ghost good: { Self → Type 0 };
-
-    /// Reads what stands before the octets, up to the first length, and the first of them where it stands there.
-    fn start(&self, units: &mut BitCursor<'_>) -> Result<ItemsStart<R::Fragments>, Stop>
-        requires good { good self.now }
-        requires at_unit { R.rules.at_unit units.old }
-        ensures at_unit { OnOk result (R.rules.at_unit units.new) }
-        ensures between { IfOk result (λ s. R.is_between s.fragments) }
-        ensures done { IfOk result (λ s.
-            Reads R.rules (coding self.now).start (start_seen R.ahead s) units.old units.new) }
-        ensures stop { IfErr result (λ why. StopsAt R.rules (coding self.now).start units.old why) };
-
-    /// Reads an octet.
-    fn read_octet(&self, units: &mut BitCursor<'_>) -> Result<u8, Stop>
-        requires good { good self.now }
-        requires at_unit { R.rules.at_unit units.old }
-        ensures at_unit { OnOk result (R.rules.at_unit units.new) }
-        ensures done { IfOk result (λ o. Reads R.rules (coding self.now).octet o units.old units.new) }
-        ensures stop { IfErr result (λ why. StopsAt R.rules (coding self.now).octet units.old why) };
-
-    /// The parts keep their laws. The call does nothing: its clause is what proofs cite.
-    fn keep_octet_laws(&self)
-        requires good { good self.now }
-        ensures { OctetLaws R.rules (coding self.now) };
-}
-
-/// The octets of an open type field.
-#[derive(Drop)]
-pub struct OpenType {}
-
-impl<R: FeedLeaves> InFragments<R> for OpenType {
-    ghost coding = { λ s. R.fields.open_type };
-
-    ghost good = { λ s. ⊤ };
-
-    fn start(&self, units: &mut BitCursor<'_>) -> Result<ItemsStart<R::Fragments>, Stop> {
-        R::start_octets(units)
-    }
-
-    fn read_octet(&self, units: &mut BitCursor<'_>) -> Result<u8, Stop> {
-        R::read_octet(units)
-    }
-
-    fn keep_octet_laws(&self) {
-        R::keep_field_laws();
-    }
-}
-
-/// The items of a string of this type.
-#[derive(Drop)]
-pub struct StringItems<'a> {
-    pub ty: &'a AsnType,
-}
-
-impl<'a, R: FeedLeaves> InFragments<R> for StringItems<'a> {
-    ghost coding = { λ s. R.fields.string (shape_of s.ty.now) };
-
-    ghost good = { λ s. InProfile (shape_of s.ty.now) × IsString (shape_of s.ty.now) };
-
-    fn start(&self, units: &mut BitCursor<'_>) -> Result<ItemsStart<R::Fragments>, Stop> {
-        R::start_string(self.ty, units)
-    }
-
-    fn read_octet(&self, units: &mut BitCursor<'_>) -> Result<u8, Stop> {
-        R::read_item(self.ty, units)
-    }
-
-    fn keep_octet_laws(&self) {
-        R::keep_string_laws();
-    }
-}
+use std::alloc::{AllocError, Global};
 
 /// Reads what is left of octets that stand in fragments, without their lengths, of which these nodes have begun.
 pub(crate) fn feed_octets<R: FeedLeaves, K: InFragments<R>>(
@@ -378,7 +291,49 @@ fn feed_fragment<R: FeedLeaves, K: InFragments<R>>(
         if all_are_taken(octets.left, some, units) {
             return Err(Stop::Short);
         }
+        take_run::<R, K>(kind, octets, units, ticks)?;
     }
+    Ok(())
+}
+
+/// How many octets a piece has left at least where octets are taken many at once.
+const LEAST: usize = 8;
+
+/// Takes octets of a fragment that the piece has whole, many at once, and puts them after those that were read, a tick
+/// for each of their units. No unit of the next octet has come before. Takes none where the piece has few octets left.
+///
+/// # Errors
+/// `AllocError` where an allocation failed.
+fn take_run<R: FeedLeaves, K: InFragments<R>>(
+    kind: &K,
+    octets: &mut Elements<R::Fragments, u8>,
+    units: &mut Units<'_>,
+    ticks: &mut Ticks,
+) -> Result<(), AllocError>
+    requires good { K.good kind.now }
+    requires fresh { octets.old.next_part ≡ [] }
+    requires at_unit { R.rules.at_unit units.old }
+    requires few { ticks.old.taken + length (R.rules.to_units units.old) < 2 ^ 64 }
+    ensures at_unit { R.rules.at_unit units.new }
+    ensures done { OnOk result (OctetsGoOnTo R.rules (K.coding kind.now) R.ahead R.is_between octets.old units.old
+        octets.new units.new) }
+    ensures fewer { octets.new.left ≤ octets.old.left }
+    ensures fragments { octets.new.fragments ≡ octets.old.fragments }
+    ensures shorter { length (R.rules.to_units units.new) ≤ length (R.rules.to_units units.old) }
+    ensures ticked { Ticked R.rules units.old ticks.old.taken units.new ticks.new.taken }
+    ensures rising { ticks.old.taken ≤ ticks.new.taken }
+    ensures inside { ticks.new.inside ≡ ticks.old.inside }
+{
+    R::keep_laws();
+    R::keep_feed_laws();
+    kind.keep_octet_laws();
+    let mut ahead = units.ahead();
+    if octets.left == 0 || R::octets_left(&ahead) < LEAST {
+        return Ok(());
+    }
+    let count = kind.take_row(octets.left, &mut octets.elements, &mut ahead)?;
+    octets.left -= count;
+    take_to::<R>(units, ahead, ticks);
     Ok(())
 }
 

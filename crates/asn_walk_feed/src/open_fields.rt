@@ -19,8 +19,9 @@ ghost use Rattle.asn_walk_feed.specs.Octets.{OctetsTook, KeepsOctetsFrom};
 ghost use Rattle.asn_walk_feed.specs.OpenFields.{ReadsFieldOn, StopsFieldOn, HoldsValue, HoldsNone, StopsAfter};
 
 use crate::frame::Frames;
+use crate::in_fragments::OpenType;
 use crate::leaf::{FeedLeaves, take_to};
-use crate::octets::{OpenType, feed_octets};
+use crate::octets::feed_octets;
 use crate::units::{Ticks, Units};
 use crate::values::feed;
 use asn_rules::Why;

@@ -14,8 +14,8 @@ ghost use Rattle.asn_walk_feed.specs.Feeding.{IsScalar, NextOf};
 ghost use Rattle.asn_walk_feed.specs.Octets.{start_seen};
 
 use crate::frame::ItemsStart;
+use crate::in_fragments::InFragments;
 use crate::leaf::{FeedLeaves, Leaf};
-use crate::octets::InFragments;
 use asn_bits::BitCursor;
 use asn_rules::internal::Stop;
 use asn_values::{AsnType, Size, Value};
@@ -53,8 +53,8 @@ impl<'a, R: FeedLeaves> Leaf<R> for Scalar<'a> {
     }
 }
 
-/// Reads a value of a type that is neither SEQUENCE, SEQUENCE OF nor CHOICE: in one step where the rules have one for it
-/// and its units are there.
+/// Reads a value of a type that is neither SEQUENCE, SEQUENCE OF nor CHOICE: in one step where the rules have one for
+/// it and its units are there.
 pub(crate) fn read_at_hand<R: FeedLeaves>(
     alloc: Global,
     ty: &AsnType,
@@ -74,7 +74,7 @@ pub(crate) fn read_at_hand<R: FeedLeaves>(
     R::read_simple(alloc, ty, units)
 }
 
-/// What stands before the elements of a SEQUENCE OF, up to the first length.
+/// What precedes the elements of a SEQUENCE OF, up to the first length.
 #[derive(Drop)]
 pub struct ListStart<'a> {
     pub size: &'a Size,
@@ -102,7 +102,7 @@ impl<'a, R: FeedLeaves> Leaf<R> for ListStart<'a> {
     }
 }
 
-/// The length of the next fragment of a SEQUENCE OF, where one stands there.
+/// The length of the next fragment of a SEQUENCE OF, if there is one.
 #[derive(Drop)]
 pub struct NextLength<'a, F> {
     pub fragments: &'a F,
@@ -224,7 +224,7 @@ impl<R: FeedLeaves> Leaf<R> for AdditionBitmap {
     }
 }
 
-/// What tells the alternative of a CHOICE: of this many in the root, and of this many extension additions where there
+/// What selects the alternative of a CHOICE: of this many in the root, and of this many extension additions where there
 /// is an extension mark.
 #[derive(Drop)]
 pub struct Indexed {
@@ -254,7 +254,7 @@ impl<R: FeedLeaves> Leaf<R> for Indexed {
     }
 }
 
-/// What stands before octets in fragments, up to the first length.
+/// What precedes octets in fragments, up to the first length.
 #[derive(Drop)]
 pub struct OctetsStart<'a, K> {
     pub kind: &'a K,

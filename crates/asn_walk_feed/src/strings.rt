@@ -13,8 +13,9 @@ ghost use Rattle.asn_walk_feed.specs.Strings.{IsString};
 ghost use Rattle.asn_walk_feed.specs.Taken.{Took, ReadsOn, StopsOn, KeepsOn};
 
 use crate::frame::Frames;
+use crate::in_fragments::StringItems;
 use crate::leaf::FeedLeaves;
-use crate::octets::{StringItems, feed_octets};
+use crate::octets::feed_octets;
 use crate::units::{Ticks, Units};
 use asn_rules::internal::Stop;
 use asn_values::{AsnType, Value};

@@ -29,9 +29,9 @@ use std::alloc::Global;
 /// its units and no others, a tick each.
 ///
 /// # Errors
-/// `Refused` at the first unit after which no value can follow, which is the last that is taken; `Short` where all
-/// units of the piece belong to the value and more are wanted, and then the nodes tell where it goes on; `Memory` where
-/// an allocation failed.
+/// `Refused` at the first unit after which no value can follow, which is the last that is taken. `Short` where all
+/// units of the piece belong to the value and more are needed; then the nodes keep where it goes on. `Memory` where an
+/// allocation failed.
 #[cycle(feeder)]
 pub fn feed<R: FeedLeaves>(
     alloc: Global,

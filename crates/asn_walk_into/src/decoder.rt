@@ -46,7 +46,7 @@ pub fn decode_into<R: ReadLeaves>(
 /// encoding has. Those that follow it are not looked at.
 ///
 /// # Errors
-/// As `decode_into`, but for `Rest`.
+/// As `decode_into`, except `Rest`.
 #[inline(always)]
 pub fn decode_front_into<R: ReadLeaves>(
     alloc: Global,

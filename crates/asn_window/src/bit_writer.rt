@@ -59,7 +59,7 @@ impl BitWriter {
         self.count = left;
     }
 
-    /// Adds the last `count` octets of `n`, whatever stands before them.
+    /// Adds the low `count` octets of `n`, and ignores the others.
     #[inline(always)]
     pub(crate) fn put_low<O: Output>(&mut self, count: u32, n: u64, output: &mut O)
         requires { count ≤ 8 }

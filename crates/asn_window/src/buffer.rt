@@ -79,8 +79,8 @@ impl Buffer {
         self.count = start + count;
     }
 
-    /// Adds octets, for which there is room, after the low `count` bits of `pending`, and gives in whose low `count` bits
-    /// what is left over stands.
+    /// Adds octets, for which there is room, after the low `count` bits of `pending`, and returns a word in whose low
+    /// `count` bits what is left over lies.
     #[inline(always)]
     pub fn extend_shifted(&mut self, count: u32, pending: u64, octets: &[u8]) -> u64
         requires some { 0 < count }

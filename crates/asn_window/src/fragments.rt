@@ -11,7 +11,7 @@ use asn_bits::internal::{next_length, octet_count};
 use asn_rules::Output;
 use asn_values::profile::BLOCK;
 
-/// Where the open type fields around stand in their fragments, the outermost first. An open type field begins anywhere
+/// Where the open type fields around are in their fragments, the outermost first. An open type field begins anywhere
 /// in an octet of the one around it, so these are counts of bits.
 #[derive(Drop)]
 pub struct Fragments {

@@ -8,7 +8,7 @@ use asn_rules::Output;
 use asn_rules::laws::are_octets;
 
 /// Octets that wait before a writer, and how many it has taken. After a fault of the writer nothing is written any
-/// more, and what comes is let go.
+/// more, and what comes is dropped.
 #[derive(Drop)]
 pub struct OctetWriter {
     pub buffer: Buffer,

@@ -23,8 +23,8 @@ pub struct Phase {
 
 /// What an encoder has made and a writer has not yet taken: 4096 octets at most, and fewer than 64 bits after them.
 ///
-/// No call of it fails. After a fault of the writer nothing is written any more, and what comes is let go; `finish` then
-/// tells how many octets were written. It takes no memory.
+/// No call of it fails. After a fault of the writer nothing is written any more, and what comes is dropped; `finish`
+/// then reports how many octets were written. It takes no memory.
 #[derive(Drop)]
 pub struct Window<'a, O> {
     pub output: &'a mut O,

@@ -9,21 +9,23 @@ ghost use Rattle.asn_rules.specs.Delivered.{Encoded, NotDelivered};
 ghost use Rattle.asn_rules.specs.Faults.{state_of};
 
 use asn_newer::{NewerAt, NewerFault, ReadNewer};
-use asn_rules::{Counted, DecodeFault, EncodeToFault, Newer, Rules, decode};
+use asn_plan::{PlanRules, check_exactly};
+use asn_rules::{Counted, DecodeFault, EncodeToFault, Newer, Rules};
 use asn_values::{Checked, Value};
 use std::alloc::Global;
 use std::io::Write;
 
-/// Whether the octets are the complete encoding of a value of the type by the rules R.
+/// Whether the octets are the complete encoding of a value of the type by the rules R. No value is built, whatever the
+/// octets are: what is taken for the time of the call is one string or open type field of the message.
 ///
 /// # Errors
 /// As `decode`: they are none, or an allocation failed.
-pub fn check<R: Rules>(alloc: Global, ty: &Checked, octets: &[u8]) -> Result<(), DecodeFault>
+pub fn check<R: PlanRules>(alloc: Global, ty: &Checked, octets: &[u8]) -> Result<(), DecodeFault>
     ensures done { OnOk result ((d : Datum) × IsEncoding R.ruling (shape_of ty.now) d octets.now) }
     ensures fault { IfErr result (λ why. Decoded R.ruling (Err why) (shape_of ty.now) octets.now) }
 {
-    match decode::<R>(alloc, ty, octets) {
-        Ok(_) => Ok(()),
+    match check_exactly::<R>(alloc, ty, octets) {
+        Ok(()) => Ok(()),
         Err(fault) => Err(fault),
     }
 }

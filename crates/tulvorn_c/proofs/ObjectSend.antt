@@ -1,6 +1,6 @@
--- What a handle may hold may cross threads, since the parts of each variant may.
-use denote.Param.Send.{IsSend, sendable}
-use denote.Param.SendFields.{variants_send}
+-- What a handle may hold may cross threads, and threads may read it at once, since so it is of the parts of each variant.
+use denote.Param.Send.{IsSend, IsSync, sendable}
+use denote.Param.SendFields.{variants_send, variants_sync}
 use Rattle.std.proofs.Crossing.{crosses}
 use Rattle.std.proofs.MapsCrossing as maps
 use Rattle.asn_values.specs.contracts.checked.Checked as types
@@ -58,6 +58,53 @@ object_send = variants_send object.enum (
           (
             (type_send, (search (sendable, crosses, per_send) depth 40, tt)),
             ((type_send, (search (sendable, crosses, oer_send) depth 40, tt)), tt),
+          ),
+        ),
+      ),
+    ),
+  ),
+)
+
+-- ---- threads that read it at once
+
+value_sync : IsSync values.the_row
+value_sync = search (crosses, inside_values.crosses, sendable) depth 60 fits 20000
+
+type_sync : IsSync types.the_row
+type_sync = search (crosses, inside_types.crosses_both, inside_values.crosses_both, sendable) depth 60 fits 20000
+
+module_sync : IsSync modules.the_row
+module_sync = search (maps.crosses, crosses, type_sync, sendable) depth 60 fits 20000
+
+field_sync : IsSync fields.the_row
+field_sync = search (crosses, sendable) depth 60 fits 20000
+
+per_kept_sync : IsSync per_sessions.the_row
+per_kept_sync = search (crosses, inside_types.crosses_both, inside_values.crosses_both, type_sync, value_sync, sendable) depth 60 fits 20000
+
+oer_kept_sync : IsSync oer_sessions.the_row
+oer_kept_sync = search (crosses, inside_types.crosses_both, inside_values.crosses_both, type_sync, value_sync, sendable) depth 60 fits 20000
+
+per_sync : IsSync (sessions.the_row per.the_row per_sessions.the_row)
+per_sync = session.the_sync per.the_row per_sessions.the_row per_kept_sync
+
+oer_sync : IsSync (sessions.the_row oer.the_row oer_sessions.the_row)
+oer_sync = session.the_sync oer.the_row oer_sessions.the_row oer_kept_sync
+
+pub object_sync : IsSync object.the_row
+object_sync = variants_sync object.enum (
+  (search (sendable, crosses, module_sync) depth 40, tt),
+  (
+    (type_sync, tt),
+    (
+      (type_sync, (value_sync, tt)),
+      (
+        (search (sendable, crosses) depth 40, tt),
+        (
+          (search (sendable, crosses, field_sync) depth 40, tt),
+          (
+            (type_sync, (search (sendable, crosses, per_sync) depth 40, tt)),
+            ((type_sync, (search (sendable, crosses, oer_sync) depth 40, tt)), tt),
           ),
         ),
       ),

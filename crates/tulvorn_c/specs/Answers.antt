@@ -21,7 +21,7 @@ use Rattle.asn_rules.specs.declared.fault.LengthFault.{LengthFault}
 use Rattle.asn_rules.specs.declared.fault.EncodeIntoFault.{EncodeIntoFault}
 use Rattle.asn_per.specs.Rules.{per_ruling}
 use Rattle.asn_oer.specs.Rules.{oer_ruling}
-use Rattle.asn_convert.specs.Answers.{IsJson, IsNoJson}
+use Rattle.asn_json.specs.Texts.{IsJson, IsNoJson, RepeatsKey}
 use Rattle.asn_convert.specs.Converted.{Converts, Converted}
 use Rattle.asn_convert.specs.declared.conversion.ConvertFault.{ConvertFault}
 use Rattle.asn_json.specs.Written.{json_of}
@@ -201,10 +201,14 @@ pub record HoldsShown (t : Shape) (j : Data) (new : Option Object) : Type 0 wher
 abbrev pub IsNotShown : Shape → Data → Fault → Type 0
 IsNotShown t j fault = (why : JsonFault) × (fault ≡ of_json why) × Refused t j why
 
+-- the text is refused before a type is asked: 12 where it is no JSON that is read, 13 where an object has a key twice
+abbrev pub IsRefusedText : List ℕ → Fault → Type 0
+IsRefusedText text fault = ((fault ≡ plain 12) × IsNoJson text) ⊎ ((fault ≡ plain 13) × RepeatsKey text)
+
 abbrev pub ReadsJson : List ℕ → Option Object → Option Object → Shape → Fault → Type 0
 ReadsJson text old new t fault =
     ((fault ≡ done) × (j : Data) × IsJson text j × HoldsShown t j new)
-    ⊎ ((new ≡ old) × (((fault ≡ plain 12) × IsNoJson text) ⊎ (fault ≡ no_memory)
+    ⊎ ((new ≡ old) × (IsRefusedText text fault ⊎ (fault ≡ no_memory)
     ⊎ ((j : Data) × IsJson text j × IsNotShown t j fault)))
 
 -- ---- octets

@@ -13,6 +13,8 @@ use Rattle.asn_rules.specs.declared.fault.EncodeIntoFault.TheVariants as into
 use Rattle.asn_rules.specs.declared.session.FeedFault.{FeedFault}
 use Rattle.asn_rules.specs.declared.session.FeedFault.TheVariants as feed
 use Rattle.asn_rules.specs.declared.session.Truncated.{Truncated}
+use Rattle.asn_plan.specs.declared.budget.WithinFault.{WithinFault}
+use Rattle.asn_plan.specs.declared.budget.WithinFault.TheVariants as within
 use Rattle.asn_convert.specs.declared.conversion.ConvertFault.{ConvertFault}
 use Rattle.asn_convert.specs.declared.conversion.ConvertFault.TheVariants as convert
 use Rattle.asn_json.specs.declared.fault.JsonFault.{JsonFault}
@@ -68,6 +70,10 @@ of_decode (decode.Truncated taken) = placed 4 taken
 of_decode (decode.Rest used) = placed 5 used
 of_decode decode.TooLong = too_long
 of_decode decode.Memory = no_memory
+
+abbrev pub of_within : WithinFault → Fault
+of_within (within.Decode why) = of_decode why
+of_within within.OverBudget = plain 22
 
 abbrev pub of_encode : EncodeFault → Fault
 of_encode encode.NotOfType = not_of_type

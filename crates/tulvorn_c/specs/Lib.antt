@@ -5,5 +5,7 @@ pub mod Kept
 pub mod Misfits
 pub mod Newer
 pub mod Parts
+pub mod Paths
 pub mod Sessions
+pub mod Within
 pub mod Words

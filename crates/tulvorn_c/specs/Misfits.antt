@@ -5,7 +5,7 @@ use Rattle.asn_values.specs.Datum.{Datum}
 use Rattle.asn_values.specs.Shape.{Shape}
 use Rattle.asn_values.specs.Fits.{Fits}
 use Rattle.asn_view.specs.Typed.{Typed}
-use Rattle.asn_convert.specs.Answers.{IsJson, IsNoJson}
+use Rattle.asn_json.specs.Texts.{IsJson, IsNoJson, RepeatsKey}
 use Rattle.asn_json.specs.Errors.{Shown, Refused}
 use Rattle.asn_json.specs.declared.fault.JsonFault.{JsonFault}
 use Rattle.asn_json.specs.declared.fault.JsonFault.TheVariants as json
@@ -46,7 +46,14 @@ pub record HoldsFault (t : Shape) (j : Data) (new : Option Object) : Type 0 wher
   pub told : why ≡ json.Memory → ⊥
   pub refused : Refused t j why
 
+-- the handle then holds a text that is not empty
+pub record HoldsWords (new : Option Object) : Type 0 where
+  pub words : List ℕ
+  pub held : held_octets new ≡ Some words
+  pub some : words ≡ [] → ⊥
+
 abbrev pub TellsJson : List ℕ → Option Object → Option Object → Shape → Fault → Type 0
 TellsJson text old new t fault =
     ((fault ≡ done) × (j : Data) × IsJson text j × (HoldsNoFault t j new ⊎ HoldsFault t j new))
+    ⊎ ((fault ≡ done) × RepeatsKey text × HoldsWords new)
     ⊎ ((new ≡ old) × (((fault ≡ plain 12) × IsNoJson text) ⊎ (fault ≡ no_memory)))

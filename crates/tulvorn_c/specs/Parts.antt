@@ -10,10 +10,13 @@ use Rattle.asn_view.specs.declared.kind.Kind.TheVariants as kind
 use Rattle.tulvorn_c.specs.declared.fault.Fault.{Fault}
 use Rattle.tulvorn_c.specs.Faults.{plain, done}
 use Rattle.tulvorn_c.specs.Answers.{Asked, Copies, AreAsBefore}
+use Rattle.tulvorn_c.specs.Paths.{shape_at_path, code_without}
 
--- the path is not UTF-8, or the value has no part there
+-- the path is not UTF-8, or the value has no part there, as no value of the type has, or as others have
 abbrev pub HasNoPart : List ℕ → Typed → Fault → Type 0
-HasNoPart path v fault = ((fault ≡ plain 8) × ¬ IsUtf8 path) ⊎ ((fault ≡ plain 14) × (value_at_path path v ≡ None))
+HasNoPart path v fault =
+    ((fault ≡ plain 8) × ¬ IsUtf8 path)
+    ⊎ ((fault ≡ plain (code_without (shape_at_path path v.shape))) × (value_at_path path v ≡ None))
 
 -- the answer is told of the part at the path; where there is none, what the call writes stays as it was
 abbrev pub TellsPart : List ℕ → Type 0 → (Typed → Fault → Type 0) → Typed → Fault → Type 0

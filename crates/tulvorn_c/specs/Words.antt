@@ -55,10 +55,11 @@ words_of_code n =
     else if nat_eq n 7 then codes "too short" else if nat_eq n 8 then codes "not UTF-8"
     else if nat_eq n 9 then codes "no module" else if nat_eq n 10 then codes "no such name"
     else if nat_eq n 11 then codes "not of the type" else if nat_eq n 12 then codes "no JSON"
-    else if nat_eq n 13 then codes "not of the type's shape" else if nat_eq n 14 then codes "nothing at the path"
+    else if nat_eq n 13 then codes "not of the type's shape" else if nat_eq n 14 then codes "no such path"
     else if nat_eq n 15 then codes "another kind" else if nat_eq n 16 then codes "no message"
     else if nat_eq n 17 then codes "cut short" else if nat_eq n 18 then codes "too many additions"
     else if nat_eq n 19 then codes "more octets wanted" else if nat_eq n 20 then codes "session spent"
+    else if nat_eq n 21 then codes "absent" else if nat_eq n 22 then codes "over budget"
     else codes "unknown code"
 
 abbrev pub words_by : Unit → ℕ → Option DecodeFault → List ℕ

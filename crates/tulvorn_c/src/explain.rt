@@ -14,9 +14,9 @@ ghost use Rattle.tulvorn_c.specs.Words.{
 use crate::fault::{DONE, MISUSE, NO_MEMORY};
 use crate::handle::Handle;
 use crate::object::Object;
+use crate::shown::Shown;
 use asn_walk::ReadLeaves;
 use std::alloc::{AllocError, Global};
-use std::mem::replace;
 use tulvorn::{Checked, Explanation, Oer, Per, Rules, Unit, explain};
 
 /// Puts into `words` why the octets are not the encoding of a value of the type, and the component in which that shows;
@@ -24,28 +24,25 @@ use tulvorn::{Checked, Explanation, Oer, Per, Rules, Unit, explain};
 #[unsafe(no_mangle)]
 pub extern "C" fn tulvorn_explain(
     alloc: Global,
-    ty: &mut Handle,
+    ty: &Shown,
     rules: u32,
     octets: &[u8],
     words: &mut Handle,
 ) -> u32
-    ensures kept { ty.new.kept ≡ ty.old.kept }
-    ensures told { AskedBy (held_type ty.old.kept) (ruling_of rules) (words.new.kept ≡ words.old.kept)
+    ensures told { AskedBy (held_type ty.now.kept) (ruling_of rules) (words.new.kept ≡ words.old.kept)
         (TellsExplanation (unit_in rules) octets.now words.old.kept words.new.kept) (plain result) }
 {
-    let Some(it) = replace(ty, Handle::none(alloc)).into_box() else {
+    let Some(it) = ty.object() else {
         return MISUSE;
     };
-    let code = match it.as_ref() {
+    match it {
         Object::Checked(ty) => match rules {
             0 => explain_by::<Per>(alloc, ty, octets, Unit::Bit, words),
             1 => explain_by::<Oer>(alloc, ty, octets, Unit::Octet, words),
             _ => MISUSE,
         },
         _ => MISUSE,
-    };
-    ty.give_back(it);
-    code
+    }
 }
 
 fn explain_by<R: Rules + ReadLeaves>(

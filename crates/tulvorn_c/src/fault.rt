@@ -4,7 +4,7 @@ ghost use Rattle.tulvorn_c.specs.Faults as faults;
 
 use tulvorn::{
     ConvertFault, DecodeFault, EncodeFault, EncodeIntoFault, FeedFault, JsonFault, LengthFault,
-    ModuleFault, NewerFault, Truncated, Why,
+    ModuleFault, NewerFault, Truncated, Why, WithinFault,
 };
 
 /// The call did what it was asked for.
@@ -46,10 +46,10 @@ const NOT_OF_TYPE: u32 = 11;
 /// The text is no JSON, or has what is not read: half of a surrogate pair, a number past 1e308, more than 127 levels.
 pub(crate) const NO_JSON: u32 = 12;
 
-/// The JSON is not of the shape of the type.
-const SHAPE: u32 = 13;
+/// The JSON is not of the shape of the type, or an object in it has a key twice.
+pub(crate) const SHAPE: u32 = 13;
 
-/// The value has no part at the path.
+/// No value of the type has a part at the path.
 pub(crate) const NO_PATH: u32 = 14;
 
 /// The part at the path is of another kind.
@@ -69,6 +69,12 @@ pub(crate) const MORE: u32 = 19;
 
 /// The session has given its value, or wanted memory.
 const SPENT: u32 = 20;
+
+/// The value has no part at the path, and other values of the type have one.
+pub(crate) const ABSENT: u32 = 21;
+
+/// The value takes more than the budget.
+const OVER_BUDGET: u32 = 22;
 
 /// What a call answered: a code, and, as the code says, a reason and a place.
 #[repr(C)]
@@ -118,6 +124,15 @@ impl Fault {
             DecodeFault::Rest { used } => Fault::placed(REST, used as u64),
             DecodeFault::TooLong => Fault::plain(TOO_LONG),
             DecodeFault::Memory => Fault::plain(NO_MEMORY),
+        }
+    }
+
+    pub(crate) fn of_within(fault: WithinFault) -> Fault
+        ensures { result ≡ faults.of_within fault }
+    {
+        match fault {
+            WithinFault::Decode(fault) => Fault::of_decode(fault),
+            WithinFault::OverBudget => Fault::plain(OVER_BUDGET),
         }
     }
 

@@ -10,36 +10,34 @@ ghost use Rattle.asn_json.specs.Errors.{Refused};
 ghost use Rattle.tulvorn_c.specs.Answers.{Asked, WritesJson, ReadsJson, HoldsShown};
 ghost use Rattle.tulvorn_c.specs.Held.{held_type, held_value, held_octets};
 
-use crate::fault::{DONE, Fault, MISUSE, NO_JSON, NO_MEMORY};
+use crate::fault::{DONE, Fault, MISUSE, NO_JSON, NO_MEMORY, SHAPE};
 use crate::handle::Handle;
 use crate::object::Object;
+use crate::shown::Shown;
 use serde_json::Value as Json;
 use std::alloc::{AllocError, Global};
-use std::mem::replace;
-use tulvorn::{Checked, JsonFault, Value, from_json, to_json};
+use tulvorn::{Checked, JsonFault, TextFault, Value, from_json, json_in, to_json};
 
 /// The text of the JSON of a value: see `tulvorn::to_json`.
 #[unsafe(no_mangle)]
 pub extern "C" fn tulvorn_to_json(
     alloc: Global,
-    value: &mut Handle,
+    value: &Shown,
     json: &mut Handle,
     fault: &mut Fault,
 ) -> u32
-    ensures kept { value.new.kept ≡ value.old.kept }
-    ensures told { Asked (held_value value.old.kept) (json.new.kept ≡ json.old.kept)
+    ensures told { Asked (held_value value.now.kept) (json.new.kept ≡ json.old.kept)
         (WritesJson json.old.kept json.new.kept) fault.new }
     ensures code { result ≡ fault.new.code }
 {
-    let Some(it) = replace(value, Handle::none(alloc)).into_box() else {
+    let Some(it) = value.object() else {
         *fault = Fault::plain(MISUSE);
         return MISUSE;
     };
-    *fault = match it.as_ref() {
+    *fault = match it {
         Object::Value { ty, value } => write_json(alloc, ty, value, json),
         _ => Fault::plain(MISUSE),
     };
-    value.give_back(it);
     fault.code
 }
 
@@ -82,43 +80,37 @@ fn json_text(alloc: Global, ty: &Checked, value: &Value) -> Result<String, JsonF
 #[unsafe(no_mangle)]
 pub extern "C" fn tulvorn_from_json(
     alloc: Global,
-    ty: &mut Handle,
+    ty: &Shown,
     json: &[u8],
     value: &mut Handle,
     fault: &mut Fault,
 ) -> u32
-    ensures kept { ty.new.kept ≡ ty.old.kept }
-    ensures told { Asked (held_type ty.old.kept) (value.new.kept ≡ value.old.kept)
+    ensures told { Asked (held_type ty.now.kept) (value.new.kept ≡ value.old.kept)
         (ReadsJson json.now value.old.kept value.new.kept) fault.new }
     ensures code { result ≡ fault.new.code }
 {
-    let Some(it) = replace(ty, Handle::none(alloc)).into_box() else {
+    let Some(it) = ty.object() else {
         *fault = Fault::plain(MISUSE);
         return MISUSE;
     };
-    *fault = match it.as_ref() {
+    *fault = match it {
         Object::Checked(ty) => read_json(alloc, ty, json, value),
         _ => Fault::plain(MISUSE),
     };
-    ty.give_back(it);
     fault.code
 }
 
 fn read_json(alloc: Global, ty: &Checked, text: &[u8], out: &mut Handle) -> Fault
     ensures { ReadsJson text.now out.old.kept out.new.kept (shape_of ty.now) result }
 {
-    match Json::from_slice(alloc, text) {
+    match json_in(alloc, text) {
         Ok(json) => match put_shown(alloc, ty, &json, out) {
             Ok(()) => Fault::plain(DONE),
             Err(fault) => Fault::of_json(&fault),
         },
-        Err(fault) => {
-            if fault.is_memory() {
-                Fault::plain(NO_MEMORY)
-            } else {
-                Fault::plain(NO_JSON)
-            }
-        }
+        Err(TextFault::NotJson) => Fault::plain(NO_JSON),
+        Err(TextFault::KeyTwice { .. }) => Fault::plain(SHAPE),
+        Err(TextFault::Memory) => Fault::plain(NO_MEMORY),
     }
 }
 

@@ -16,5 +16,8 @@ mod object;
 mod octets;
 mod part_octets;
 mod parts;
+mod paths;
 mod sessions;
+mod shown;
+mod within;
 mod words;

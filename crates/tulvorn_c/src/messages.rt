@@ -19,63 +19,47 @@ ghost use Rattle.tulvorn_c.specs.Answers.{
   ConvertsExactly,
   HoldsConverted,
 };
-ghost use Rattle.tulvorn_c.specs.Faults.{misuse, no_memory, of_convert};
+ghost use Rattle.tulvorn_c.specs.Faults.{no_memory, of_convert};
 ghost use Rattle.tulvorn_c.specs.Held.{held_type, held_value, held_octets};
 
 use crate::fault::{DONE, Fault, MISUSE};
 use crate::handle::Handle;
 use crate::object::Object;
+use crate::shown::Shown;
 use std::alloc::Global;
-use std::mem::replace;
 use tulvorn::{
-    Checked, ConvertFault, DecodeFault, EncodeFault, Oer, Per, Rules, Value, check, convert,
-    decode, encode, encode_into, encoded_len,
+    Checked, ConvertFault, DecodeFault, EncodeFault, Oer, Per, PlanRules, Rules, Value, check,
+    convert, decode, encode, encode_into, encoded_len,
 };
 
 /// Whether the octets are the encoding of a value of the type: see `tulvorn::check`.
 #[unsafe(no_mangle)]
 pub extern "C" fn tulvorn_check(
     alloc: Global,
-    ty: &mut Handle,
+    ty: &Shown,
     rules: u32,
     octets: &[u8],
     fault: &mut Fault,
 ) -> u32
-    ensures kept { ty.new.kept ≡ ty.old.kept }
-    ensures told { AskedBy (held_type ty.old.kept) (ruling_of rules) ⊤ (Checks octets.now) fault.new }
+    ensures told { AskedBy (held_type ty.now.kept) (ruling_of rules) ⊤ (Checks octets.now) fault.new }
     ensures code { result ≡ fault.new.code }
 {
-    let Some(it) = replace(ty, Handle::none(alloc)).into_box() else {
+    let Some(it) = ty.object() else {
         *fault = Fault::plain(MISUSE);
         return MISUSE;
     };
-    *fault = match it.as_ref() {
+    *fault = match it {
         Object::Checked(checked) => match rules {
             0 => check_by::<Per>(alloc, checked, octets),
             1 => check_by::<Oer>(alloc, checked, octets),
-            _ => return misused(ty, it, fault),
+            _ => Fault::plain(MISUSE),
         },
-        _ => return misused(ty, it, fault),
+        _ => Fault::plain(MISUSE),
     };
-    ty.give_back(it);
     fault.code
 }
 
-/// Gives the box back, and tells misuse. It is a function of its own, so that what each call does is not in its way.
-#[cold]
-#[inline(never)]
-fn misused(handle: &mut Handle, it: Box<Object>, fault: &mut Fault) -> u32
-    requires { handle.old.kept ≡ None }
-    ensures kept { handle.new.kept ≡ Some it.value }
-    ensures told { fault.new ≡ misuse }
-    ensures code { result ≡ 2 }
-{
-    handle.give_back(it);
-    *fault = Fault::plain(MISUSE);
-    MISUSE
-}
-
-fn check_by<R: Rules>(alloc: Global, ty: &Checked, octets: &[u8]) -> Fault
+fn check_by<R: PlanRules>(alloc: Global, ty: &Checked, octets: &[u8]) -> Fault
     ensures { Checks octets.now R.ruling (shape_of ty.now) result }
 {
     match check::<R>(alloc, ty, octets) {
@@ -88,22 +72,21 @@ fn check_by<R: Rules>(alloc: Global, ty: &Checked, octets: &[u8]) -> Fault
 #[unsafe(no_mangle)]
 pub extern "C" fn tulvorn_decode(
     alloc: Global,
-    ty: &mut Handle,
+    ty: &Shown,
     rules: u32,
     octets: &[u8],
     value: &mut Handle,
     fault: &mut Fault,
 ) -> u32
-    ensures kept { ty.new.kept ≡ ty.old.kept }
-    ensures told { AskedBy (held_type ty.old.kept) (ruling_of rules) (value.new.kept ≡ value.old.kept)
+    ensures told { AskedBy (held_type ty.now.kept) (ruling_of rules) (value.new.kept ≡ value.old.kept)
         (Decodes octets.now value.old.kept value.new.kept) fault.new }
     ensures code { result ≡ fault.new.code }
 {
-    let Some(it) = replace(ty, Handle::none(alloc)).into_box() else {
+    let Some(it) = ty.object() else {
         *fault = Fault::plain(MISUSE);
         return MISUSE;
     };
-    *fault = match it.as_ref() {
+    *fault = match it {
         Object::Checked(ty) => match rules {
             0 => decode_by::<Per>(alloc, ty, octets, value),
             1 => decode_by::<Oer>(alloc, ty, octets, value),
@@ -111,7 +94,6 @@ pub extern "C" fn tulvorn_decode(
         },
         _ => Fault::plain(MISUSE),
     };
-    ty.give_back(it);
     fault.code
 }
 
@@ -145,21 +127,20 @@ fn put_decoded<R: Rules>(
 #[unsafe(no_mangle)]
 pub extern "C" fn tulvorn_encode(
     alloc: Global,
-    value: &mut Handle,
+    value: &Shown,
     rules: u32,
     octets: &mut Handle,
     fault: &mut Fault,
 ) -> u32
-    ensures kept { value.new.kept ≡ value.old.kept }
-    ensures told { AskedBy (held_value value.old.kept) (ruling_of rules) (octets.new.kept ≡ octets.old.kept)
+    ensures told { AskedBy (held_value value.now.kept) (ruling_of rules) (octets.new.kept ≡ octets.old.kept)
         (Encodes octets.old.kept octets.new.kept) fault.new }
     ensures code { result ≡ fault.new.code }
 {
-    let Some(it) = replace(value, Handle::none(alloc)).into_box() else {
+    let Some(it) = value.object() else {
         *fault = Fault::plain(MISUSE);
         return MISUSE;
     };
-    *fault = match it.as_ref() {
+    *fault = match it {
         Object::Value { ty, value } => match rules {
             0 => encode_by::<Per>(alloc, ty, value, octets),
             1 => encode_by::<Oer>(alloc, ty, value, octets),
@@ -167,7 +148,6 @@ pub extern "C" fn tulvorn_encode(
         },
         _ => Fault::plain(MISUSE),
     };
-    value.give_back(it);
     fault.code
 }
 
@@ -200,22 +180,20 @@ fn put_encoded<R: Rules>(
 /// How many octets the encoding of a value has: see `tulvorn::encoded_len`. Takes no memory.
 #[unsafe(no_mangle)]
 pub extern "C" fn tulvorn_encoded_len(
-    alloc: Global,
-    value: &mut Handle,
+    value: &Shown,
     rules: u32,
     len: &mut usize,
     fault: &mut Fault,
 ) -> u32
-    ensures kept { value.new.kept ≡ value.old.kept }
-    ensures told { AskedBy (held_value value.old.kept) (ruling_of rules) (len.new ≡ len.old)
+    ensures told { AskedBy (held_value value.now.kept) (ruling_of rules) (len.new ≡ len.old)
         (Measures len.old len.new) fault.new }
     ensures code { result ≡ fault.new.code }
 {
-    let Some(it) = replace(value, Handle::none(alloc)).into_box() else {
+    let Some(it) = value.object() else {
         *fault = Fault::plain(MISUSE);
         return MISUSE;
     };
-    *fault = match it.as_ref() {
+    *fault = match it {
         Object::Value { ty, value } => match rules {
             0 => measure_by::<Per>(ty, value, len),
             1 => measure_by::<Oer>(ty, value, len),
@@ -223,7 +201,6 @@ pub extern "C" fn tulvorn_encoded_len(
         },
         _ => Fault::plain(MISUSE),
     };
-    value.give_back(it);
     fault.code
 }
 
@@ -242,23 +219,21 @@ fn measure_by<R: Rules>(ty: &Checked, value: &Value, len: &mut usize) -> Fault
 /// Puts the encoding of a value into the first of the caller's octets: see `tulvorn::encode_into`. Takes no memory.
 #[unsafe(no_mangle)]
 pub extern "C" fn tulvorn_encode_into(
-    alloc: Global,
-    value: &mut Handle,
+    value: &Shown,
     rules: u32,
     into: &mut [u8],
     len: &mut usize,
     fault: &mut Fault,
 ) -> u32
-    ensures kept { value.new.kept ≡ value.old.kept }
-    ensures told { AskedBy (held_value value.old.kept) (ruling_of rules) ((into.new ≡ into.old) × (len.new ≡ len.old))
-        (Places into.old into.new len.old len.new) fault.new }
+    ensures told { AskedBy (held_value value.now.kept) (ruling_of rules)
+        ((into.new ≡ into.old) × (len.new ≡ len.old)) (Places into.old into.new len.old len.new) fault.new }
     ensures code { result ≡ fault.new.code }
 {
-    let Some(it) = replace(value, Handle::none(alloc)).into_box() else {
+    let Some(it) = value.object() else {
         *fault = Fault::plain(MISUSE);
         return MISUSE;
     };
-    *fault = match it.as_ref() {
+    *fault = match it {
         Object::Value { ty, value } => match rules {
             0 => place_by::<Per>(ty, value, into, len),
             1 => place_by::<Oer>(ty, value, into, len),
@@ -266,7 +241,6 @@ pub extern "C" fn tulvorn_encode_into(
         },
         _ => Fault::plain(MISUSE),
     };
-    value.give_back(it);
     fault.code
 }
 
@@ -286,24 +260,23 @@ fn place_by<R: Rules>(ty: &Checked, value: &Value, into: &mut [u8], len: &mut us
 #[unsafe(no_mangle)]
 pub extern "C" fn tulvorn_convert(
     alloc: Global,
-    ty: &mut Handle,
+    ty: &Shown,
     rules: u32,
     octets: &[u8],
     other: &mut Handle,
     fault: &mut Fault,
 ) -> u32
-    ensures kept { ty.new.kept ≡ ty.old.kept }
-    ensures told { AskedBy (held_type ty.old.kept) (ruling_of rules) (other.new.kept ≡ other.old.kept)
+    ensures told { AskedBy (held_type ty.now.kept) (ruling_of rules) (other.new.kept ≡ other.old.kept)
         (ConvertsTo (other_ruling_of rules) octets.now other.old.kept other.new.kept) fault.new }
-    ensures exact { AskedBy (held_type ty.old.kept) (ruling_of rules) ⊤
+    ensures exact { AskedBy (held_type ty.now.kept) (ruling_of rules) ⊤
         (ConvertsExactly (other_ruling_of rules) octets.now other.new.kept) fault.new }
     ensures code { result ≡ fault.new.code }
 {
-    let Some(it) = replace(ty, Handle::none(alloc)).into_box() else {
+    let Some(it) = ty.object() else {
         *fault = Fault::plain(MISUSE);
         return MISUSE;
     };
-    *fault = match it.as_ref() {
+    *fault = match it {
         Object::Checked(ty) => match rules {
             0 => convert_by::<Per, Oer>(alloc, ty, octets, other),
             1 => convert_by::<Oer, Per>(alloc, ty, octets, other),
@@ -311,7 +284,6 @@ pub extern "C" fn tulvorn_convert(
         },
         _ => Fault::plain(MISUSE),
     };
-    ty.give_back(it);
     fault.code
 }
 

@@ -1,5 +1,5 @@
 //! Where a value or JSON is none of a type.
-ghost use Rattle.std.specs.Prelude.{◌≡◌, ◌⊎◌, ◌↔◌, [], IfOk, IsNone, string_bytes};
+ghost use Rattle.std.specs.Prelude.{◌≡◌, ◌⊎◌, ◌↔◌, [], IfOk, IfErr, IsNone, string_bytes};
 ghost use Rattle.serde_json.specs.View.{view};
 ghost use Rattle.asn_values.specs.View.{shape_of, datum_of};
 ghost use Rattle.tulvorn_c.specs.Answers.{Asked};
@@ -13,56 +13,50 @@ ghost use Rattle.tulvorn_c.specs.Misfits.{
   HoldsNoFault,
   HoldsFault,
   text_of_json,
+  HoldsWords,
 };
 
 use crate::fault::{DONE, MISUSE, NO_JSON, NO_MEMORY};
 use crate::handle::Handle;
 use crate::object::Object;
+use crate::shown::Shown;
 use serde_json::Value as Json;
 use std::alloc::{AllocError, Global};
-use std::mem::replace;
-use tulvorn::{Checked, JsonFault, Value, WrongPart, from_json, misfit};
+use tulvorn::{Checked, JsonFault, TextFault, Value, WrongPart, from_json, json_in, misfit};
 
 /// Puts into `words` the first part of the value that does not fit the type, and why; no octets where the value fits:
 /// see `tulvorn::misfit`.
 #[unsafe(no_mangle)]
 pub extern "C" fn tulvorn_misfit(
     alloc: Global,
-    ty: &mut Handle,
-    value: &mut Handle,
+    ty: &Shown,
+    value: &Shown,
     words: &mut Handle,
 ) -> u32
-    ensures type_kept { ty.new.kept ≡ ty.old.kept }
-    ensures value_kept { value.new.kept ≡ value.old.kept }
-    ensures told { AskedOf (held_type ty.old.kept) (held_value value.old.kept) (words.new.kept ≡ words.old.kept)
+    ensures told { AskedOf (held_type ty.now.kept) (held_value value.now.kept) (words.new.kept ≡ words.old.kept)
         (λ t v. TellsMisfit words.old.kept words.new.kept t v.datum) (plain result) }
 {
-    let Some(it) = replace(ty, Handle::none(alloc)).into_box() else {
+    let Some(it) = ty.object() else {
         return MISUSE;
     };
-    let code = match it.as_ref() {
+    match it {
         Object::Checked(ty) => misfit_in(alloc, ty, value, words),
         _ => MISUSE,
-    };
-    ty.give_back(it);
-    code
+    }
 }
 
 /// The same of the value that a handle holds.
-fn misfit_in(alloc: Global, ty: &Checked, value: &mut Handle, words: &mut Handle) -> u32
-    ensures kept { value.new.kept ≡ value.old.kept }
-    ensures told { Asked (held_value value.old.kept) (words.new.kept ≡ words.old.kept)
+fn misfit_in(alloc: Global, ty: &Checked, value: &Shown, words: &mut Handle) -> u32
+    ensures told { Asked (held_value value.now.kept) (words.new.kept ≡ words.old.kept)
         (λ v. TellsMisfit words.old.kept words.new.kept (shape_of ty.now) v.datum) (plain result) }
 {
-    let Some(it) = replace(value, Handle::none(alloc)).into_box() else {
+    let Some(it) = value.object() else {
         return MISUSE;
     };
-    let code = match it.as_ref() {
+    match it {
         Object::Value { ty: _, value } => misfit_of(alloc, ty, value, words),
         _ => MISUSE,
-    };
-    value.give_back(it);
-    code
+    }
 }
 
 fn misfit_of(alloc: Global, ty: &Checked, value: &Value, out: &mut Handle) -> u32
@@ -108,44 +102,53 @@ fn wrong_text(alloc: Global, path: &str, reason: &str) -> Result<String, AllocEr
 #[unsafe(no_mangle)]
 pub extern "C" fn tulvorn_explain_json(
     alloc: Global,
-    ty: &mut Handle,
+    ty: &Shown,
     json: &[u8],
     words: &mut Handle,
 ) -> u32
-    ensures kept { ty.new.kept ≡ ty.old.kept }
-    ensures told { Asked (held_type ty.old.kept) (words.new.kept ≡ words.old.kept)
+    ensures told { Asked (held_type ty.now.kept) (words.new.kept ≡ words.old.kept)
         (TellsJson json.now words.old.kept words.new.kept) (plain result) }
 {
-    let Some(it) = replace(ty, Handle::none(alloc)).into_box() else {
+    let Some(it) = ty.object() else {
         return MISUSE;
     };
-    let code = match it.as_ref() {
+    match it {
         Object::Checked(ty) => explain_json(alloc, ty, json, words),
         _ => MISUSE,
-    };
-    ty.give_back(it);
-    code
+    }
 }
 
 fn explain_json(alloc: Global, ty: &Checked, text: &[u8], out: &mut Handle) -> u32
     ensures { TellsJson text.now out.old.kept out.new.kept (shape_of ty.now) (plain result) }
 {
-    match Json::from_slice(alloc, text) {
-        Ok(json) => match json_explained(alloc, ty, &json) {
-            Ok(held) => {
-                *out = held;
-                DONE
-            }
-            Err(_) => NO_MEMORY,
-        },
-        Err(fault) => {
-            if fault.is_memory() {
-                NO_MEMORY
-            } else {
-                NO_JSON
-            }
-        }
+    match json_in(alloc, text) {
+        Ok(json) => put_held(json_explained(alloc, ty, &json), out),
+        Err(TextFault::KeyTwice { path }) => put_held(key_explained(alloc, path.as_str()), out),
+        Err(TextFault::NotJson) => NO_JSON,
+        Err(TextFault::Memory) => NO_MEMORY,
     }
+}
+
+/// Puts the new handle in place of the old one.
+fn put_held(held: Result<Handle, AllocError>, out: &mut Handle) -> u32
+    ensures done { IfOk held (λ h. (result ≡ DONE) × (out.new.kept ≡ h.kept)) }
+    ensures memory { IfErr held (λ _. (result ≡ NO_MEMORY) × (out.new.kept ≡ out.old.kept)) }
+{
+    match held {
+        Ok(held) => {
+            *out = held;
+            DONE
+        }
+        Err(_) => NO_MEMORY,
+    }
+}
+
+/// A handle of the text that says which key an object has twice.
+fn key_explained(alloc: Global, path: &str) -> Result<Handle, AllocError>
+    ensures { IfOk result (λ h. HoldsWords h.kept) }
+{
+    let words = wrong_text(alloc, path, "the object has this key twice")?;
+    Handle::holding(alloc, Object::Octets(words.into_bytes()))
 }
 
 /// A handle of the text of what is wrong with the JSON.

@@ -22,8 +22,8 @@ ghost use Rattle.asn_module.specs.Accepted.{Accepted, ModuleTypes};
 use crate::fault::{DONE, Fault, MISUSE, NO_MEMORY, NO_NAME, NOT_TEXT};
 use crate::handle::Handle;
 use crate::object::Object;
+use crate::shown::Shown;
 use std::alloc::{AllocError, Global};
-use std::mem::replace;
 use tulvorn::{Checked, Module, ModuleFault, RefusedText, read, read_explained};
 
 /// Reads the text of a module: see `tulvorn::read`.
@@ -150,25 +150,23 @@ fn some_words(alloc: Global, words: String) -> Result<String, AllocError>
 #[unsafe(no_mangle)]
 pub extern "C" fn tulvorn_type(
     alloc: Global,
-    held: &mut Handle,
+    held: &Shown,
     name: &[u8],
     ty: &mut Handle,
     fault: &mut Fault,
 ) -> u32
-    ensures kept { held.new.kept ≡ held.old.kept }
-    ensures told { Asked (held_module held.old.kept) (ty.new.kept ≡ ty.old.kept)
+    ensures told { Asked (held_module held.now.kept) (ty.new.kept ≡ ty.old.kept)
         (FindsType name.now ty.old.kept ty.new.kept) fault.new }
     ensures code { result ≡ fault.new.code }
 {
-    let Some(it) = replace(held, Handle::none(alloc)).into_box() else {
+    let Some(it) = held.object() else {
         *fault = Fault::plain(MISUSE);
         return MISUSE;
     };
-    *fault = match it.as_ref() {
+    *fault = match it {
         Object::Module(module) => put_type_of(alloc, module.as_ref(), name, ty),
         _ => Fault::plain(MISUSE),
     };
-    held.give_back(it);
     fault.code
 }
 
@@ -208,15 +206,14 @@ fn type_held(alloc: Global, ty: &Checked) -> Result<Handle, AllocError>
 
 /// Another handle of a type, which may go to another thread.
 #[unsafe(no_mangle)]
-pub extern "C" fn tulvorn_share(alloc: Global, ty: &mut Handle, other: &mut Handle) -> u32
-    ensures kept { ty.new.kept ≡ ty.old.kept }
-    ensures told { Asked (held_type ty.old.kept) (other.new.kept ≡ other.old.kept)
+pub extern "C" fn tulvorn_share(alloc: Global, ty: &Shown, other: &mut Handle) -> u32
+    ensures told { Asked (held_type ty.now.kept) (other.new.kept ≡ other.old.kept)
         (SharesType other.old.kept other.new.kept) (plain result) }
 {
-    let Some(it) = replace(ty, Handle::none(alloc)).into_box() else {
+    let Some(it) = ty.object() else {
         return MISUSE;
     };
-    let code = match it.as_ref() {
+    match it {
         Object::Checked(ty) => match type_held(alloc, ty) {
             Ok(held) => {
                 *other = held;
@@ -225,7 +222,5 @@ pub extern "C" fn tulvorn_share(alloc: Global, ty: &mut Handle, other: &mut Hand
             Err(_) => NO_MEMORY,
         },
         _ => MISUSE,
-    };
-    ty.give_back(it);
-    code
+    }
 }

@@ -12,37 +12,36 @@ use crate::fault::{DONE, Fault, MISUSE, NO_PATH};
 use crate::handle::Handle;
 use crate::object::Object;
 use crate::octets::copy;
+use crate::shown::Shown;
 use std::alloc::Global;
-use std::mem::replace;
 use tulvorn::{Checked, NewerFault, Oer, Per, ReadNewer, Skipped, read_newer};
 
 /// The value of a message of some version of the type, and the fields that the type has not: see `tulvorn::read_newer`.
 #[unsafe(no_mangle)]
 pub extern "C" fn tulvorn_read_newer(
     alloc: Global,
-    ty: &mut Handle,
+    ty: &Shown,
     rules: u32,
     octets: &[u8],
     value: &mut Handle,
     skipped: &mut Handle,
     fault: &mut Fault,
 ) -> u32
-    ensures kept { ty.new.kept ≡ ty.old.kept }
-    ensures per { rules ≡ 0 → Asked (held_type ty.old.kept)
+    ensures per { rules ≡ 0 → Asked (held_type ty.now.kept)
         (BothStay value.old.kept value.new.kept skipped.old.kept skipped.new.kept)
         (ReadsNewer per_loose octets.now value.old.kept value.new.kept skipped.old.kept skipped.new.kept) fault.new }
-    ensures oer { rules ≡ 1 → Asked (held_type ty.old.kept)
+    ensures oer { rules ≡ 1 → Asked (held_type ty.now.kept)
         (BothStay value.old.kept value.new.kept skipped.old.kept skipped.new.kept)
         (ReadsNewer oer_loose octets.now value.old.kept value.new.kept skipped.old.kept skipped.new.kept) fault.new }
     ensures other { (rules ≡ 0 → ⊥) → (rules ≡ 1 → ⊥) → (fault.new ≡ misuse)
         × BothStay value.old.kept value.new.kept skipped.old.kept skipped.new.kept }
     ensures code { result ≡ fault.new.code }
 {
-    let Some(it) = replace(ty, Handle::none(alloc)).into_box() else {
+    let Some(it) = ty.object() else {
         *fault = Fault::plain(MISUSE);
         return MISUSE;
     };
-    *fault = match it.as_ref() {
+    *fault = match it {
         Object::Checked(ty) => match rules {
             0 => read_by::<Per>(alloc, ty, octets, value, skipped),
             1 => read_by::<Oer>(alloc, ty, octets, value, skipped),
@@ -50,7 +49,6 @@ pub extern "C" fn tulvorn_read_newer(
         },
         _ => Fault::plain(MISUSE),
     };
-    ty.give_back(it);
     fault.code
 }
 
@@ -111,54 +109,43 @@ fn newer_held<R: ReadNewer>(
 
 /// How many fields were skipped.
 #[unsafe(no_mangle)]
-pub extern "C" fn tulvorn_skipped_count(
-    alloc: Global,
-    skipped: &mut Handle,
-    count: &mut usize,
-) -> u32
-    ensures kept { skipped.new.kept ≡ skipped.old.kept }
-    ensures told { Asked (held_skipped skipped.old.kept) (count.new ≡ count.old) (TellsFields count.new)
+pub extern "C" fn tulvorn_skipped_count(skipped: &Shown, count: &mut usize) -> u32
+    ensures told { Asked (held_skipped skipped.now.kept) (count.new ≡ count.old) (TellsFields count.new)
         (plain result) }
 {
-    let Some(it) = replace(skipped, Handle::none(alloc)).into_box() else {
+    let Some(it) = skipped.object() else {
         return MISUSE;
     };
-    let code = match it.as_ref() {
+    match it {
         Object::Skipped(fields) => {
             *count = fields.len();
             DONE
         }
         _ => MISUSE,
-    };
-    skipped.give_back(it);
-    code
+    }
 }
 
 /// The place of the skipped field at an index among the additions of its type, from 0, and its octets, written as
 /// `tulvorn_copy` does.
 #[unsafe(no_mangle)]
 pub extern "C" fn tulvorn_skipped(
-    alloc: Global,
-    skipped: &mut Handle,
+    skipped: &Shown,
     index: usize,
     place: &mut u32,
     into: &mut [u8],
     needed: &mut usize,
 ) -> u32
-    ensures kept { skipped.new.kept ≡ skipped.old.kept }
-    ensures told { Asked (held_skipped skipped.old.kept)
+    ensures told { Asked (held_skipped skipped.now.kept)
         ((place.new ≡ place.old) × AreAsBefore into.old into.new needed.old needed.new)
         (TellsField index place.old place.new into.old into.new needed.old needed.new) (plain result) }
 {
-    let Some(it) = replace(skipped, Handle::none(alloc)).into_box() else {
+    let Some(it) = skipped.object() else {
         return MISUSE;
     };
-    let code = match it.as_ref() {
+    match it {
         Object::Skipped(fields) => field_at(fields.as_slice(), index, place, into, needed),
         _ => MISUSE,
-    };
-    skipped.give_back(it);
-    code
+    }
 }
 
 fn field_at(

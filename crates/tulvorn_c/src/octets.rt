@@ -7,31 +7,23 @@ ghost use Rattle.tulvorn_c.specs.Held.{held_octets};
 use crate::fault::{DONE, MISUSE, TOO_SHORT};
 use crate::handle::Handle;
 use crate::object::Object;
+use crate::shown::Shown;
 use std::alloc::Global;
-use std::mem::replace;
 
 /// Writes the octets that the handle holds to the front of `into`, and how many they are to `needed`, also where `into`
 /// is too short.
 #[unsafe(no_mangle)]
-pub extern "C" fn tulvorn_copy(
-    alloc: Global,
-    octets: &mut Handle,
-    into: &mut [u8],
-    needed: &mut usize,
-) -> u32
-    ensures kept { octets.new.kept ≡ octets.old.kept }
-    ensures told { Asked (held_octets octets.old.kept) (AreAsBefore into.old into.new needed.old needed.new)
+pub extern "C" fn tulvorn_copy(octets: &Shown, into: &mut [u8], needed: &mut usize) -> u32
+    ensures told { Asked (held_octets octets.now.kept) (AreAsBefore into.old into.new needed.old needed.new)
         (Copies into.old into.new needed.new) (plain result) }
 {
-    let Some(it) = replace(octets, Handle::none(alloc)).into_box() else {
+    let Some(it) = octets.object() else {
         return MISUSE;
     };
-    let code = match it.as_ref() {
+    match it {
         Object::Octets(octets) => copy(octets.as_slice(), into, needed),
         _ => MISUSE,
-    };
-    octets.give_back(it);
-    code
+    }
 }
 
 /// Writes the octets to the front of others, and how many they are.
@@ -47,7 +39,7 @@ pub(crate) fn copy(octets: &[u8], into: &mut [u8], needed: &mut usize) -> u32
     DONE
 }
 
-/// Lets go of what the handle holds. A handle of nothing stays one.
+/// Frees what the handle holds. A handle that holds nothing stays so.
 #[unsafe(no_mangle)]
 pub extern "C" fn tulvorn_close(alloc: Global, held: &mut Handle)
     ensures { held.new.kept ≡ None }

@@ -9,36 +9,30 @@ ghost use Rattle.tulvorn_c.specs.Held.{held_value};
 ghost use Rattle.tulvorn_c.specs.Parts.{TellsPart, AskedPart, TellsOctets, octets_in, name_in, TellsText};
 
 use crate::fault::{MISUSE, OTHER_KIND};
-use crate::handle::Handle;
 use crate::object::Object;
 use crate::octets::copy;
 use crate::parts::part_at;
-use std::alloc::Global;
-use std::mem::replace;
+use crate::shown::Shown;
 use tulvorn::{Checked, Value, View};
 
 /// Writes the octets of an OCTET STRING, as `tulvorn_copy` does.
 #[unsafe(no_mangle)]
 pub extern "C" fn tulvorn_octets(
-    alloc: Global,
-    value: &mut Handle,
+    value: &Shown,
     path: &[u8],
     into: &mut [u8],
     needed: &mut usize,
 ) -> u32
-    ensures kept { value.new.kept ≡ value.old.kept }
-    ensures told { AskedPart (held_value value.old.kept) path.now (AreAsBefore into.old into.new needed.old needed.new)
+    ensures told { AskedPart (held_value value.now.kept) path.now (AreAsBefore into.old into.new needed.old needed.new)
         (TellsOctets octets_in into.old into.new needed.old needed.new) (plain result) }
 {
-    let Some(it) = replace(value, Handle::none(alloc)).into_box() else {
+    let Some(it) = value.object() else {
         return MISUSE;
     };
-    let code = match it.as_ref() {
+    match it {
         Object::Value { ty, value } => octets_at(ty, value, path, into, needed),
         _ => MISUSE,
-    };
-    value.give_back(it);
-    code
+    }
 }
 
 fn octets_at(ty: &Checked, value: &Value, path: &[u8], into: &mut [u8], needed: &mut usize) -> u32
@@ -64,25 +58,21 @@ fn octets_of(part: &View<'_>, into: &mut [u8], needed: &mut usize) -> u32
 /// Writes the characters of a character string in UTF-8, as `tulvorn_copy` does.
 #[unsafe(no_mangle)]
 pub extern "C" fn tulvorn_text(
-    alloc: Global,
-    value: &mut Handle,
+    value: &Shown,
     path: &[u8],
     into: &mut [u8],
     needed: &mut usize,
 ) -> u32
-    ensures kept { value.new.kept ≡ value.old.kept }
-    ensures told { AskedPart (held_value value.old.kept) path.now (AreAsBefore into.old into.new needed.old needed.new)
+    ensures told { AskedPart (held_value value.now.kept) path.now (AreAsBefore into.old into.new needed.old needed.new)
         (TellsText into.old into.new needed.old needed.new) (plain result) }
 {
-    let Some(it) = replace(value, Handle::none(alloc)).into_box() else {
+    let Some(it) = value.object() else {
         return MISUSE;
     };
-    let code = match it.as_ref() {
+    match it {
         Object::Value { ty, value } => text_at(ty, value, path, into, needed),
         _ => MISUSE,
-    };
-    value.give_back(it);
-    code
+    }
 }
 
 fn text_at(ty: &Checked, value: &Value, path: &[u8], into: &mut [u8], needed: &mut usize) -> u32
@@ -109,25 +99,21 @@ fn text_of(part: &View<'_>, into: &mut [u8], needed: &mut usize) -> u32
 /// the type has not (of a newer sender) has no name.
 #[unsafe(no_mangle)]
 pub extern "C" fn tulvorn_name(
-    alloc: Global,
-    value: &mut Handle,
+    value: &Shown,
     path: &[u8],
     into: &mut [u8],
     needed: &mut usize,
 ) -> u32
-    ensures kept { value.new.kept ≡ value.old.kept }
-    ensures told { AskedPart (held_value value.old.kept) path.now (AreAsBefore into.old into.new needed.old needed.new)
+    ensures told { AskedPart (held_value value.now.kept) path.now (AreAsBefore into.old into.new needed.old needed.new)
         (TellsOctets name_in into.old into.new needed.old needed.new) (plain result) }
 {
-    let Some(it) = replace(value, Handle::none(alloc)).into_box() else {
+    let Some(it) = value.object() else {
         return MISUSE;
     };
-    let code = match it.as_ref() {
+    match it {
         Object::Value { ty, value } => name_at(ty, value, path, into, needed),
         _ => MISUSE,
-    };
-    value.give_back(it);
-    code
+    }
 }
 
 fn name_at(ty: &Checked, value: &Value, path: &[u8], into: &mut [u8], needed: &mut usize) -> u32

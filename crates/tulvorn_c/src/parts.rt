@@ -19,11 +19,10 @@ ghost use Rattle.tulvorn_c.specs.Parts.{
   TellsBit,
 };
 
-use crate::fault::{DONE, MISUSE, NO_PATH, NOT_TEXT, OTHER_KIND};
-use crate::handle::Handle;
+use crate::fault::{DONE, MISUSE, NOT_TEXT, OTHER_KIND};
 use crate::object::Object;
-use std::alloc::Global;
-use std::mem::replace;
+use crate::paths::code_without;
+use crate::shown::Shown;
 use tulvorn::{Checked, Kind, Value, View, Viewed};
 
 /// The part at a path, or the code of why there is none.
@@ -38,31 +37,23 @@ pub(crate) fn part_at<'a>(ty: &'a Checked, value: &'a Value, path: &[u8]) -> Res
     };
     match ty.view(value).at(path) {
         Some(part) => Ok(part),
-        None => Err(NO_PATH),
+        None => Err(code_without(ty.get(), path)),
     }
 }
 
 /// The kind of the part's type.
 #[unsafe(no_mangle)]
-pub extern "C" fn tulvorn_kind(
-    alloc: Global,
-    value: &mut Handle,
-    path: &[u8],
-    kind: &mut u32,
-) -> u32
-    ensures kept { value.new.kept ≡ value.old.kept }
-    ensures told { AskedPart (held_value value.old.kept) path.now (kind.new ≡ kind.old)
+pub extern "C" fn tulvorn_kind(value: &Shown, path: &[u8], kind: &mut u32) -> u32
+    ensures told { AskedPart (held_value value.now.kept) path.now (kind.new ≡ kind.old)
         (TellsKind kind.new) (plain result) }
 {
-    let Some(it) = replace(value, Handle::none(alloc)).into_box() else {
+    let Some(it) = value.object() else {
         return MISUSE;
     };
-    let code = match it.as_ref() {
+    match it {
         Object::Value { ty, value } => kind_at(ty, value, path, kind),
         _ => MISUSE,
-    };
-    value.give_back(it);
-    code
+    }
 }
 
 fn kind_at(ty: &Checked, value: &Value, path: &[u8], kind: &mut u32) -> u32
@@ -102,25 +93,17 @@ fn number_of(kind: Kind) -> u32
 
 /// The value of a BOOLEAN: 0 or 1.
 #[unsafe(no_mangle)]
-pub extern "C" fn tulvorn_boolean(
-    alloc: Global,
-    value: &mut Handle,
-    path: &[u8],
-    truth: &mut u32,
-) -> u32
-    ensures kept { value.new.kept ≡ value.old.kept }
-    ensures told { AskedPart (held_value value.old.kept) path.now (truth.new ≡ truth.old)
+pub extern "C" fn tulvorn_boolean(value: &Shown, path: &[u8], truth: &mut u32) -> u32
+    ensures told { AskedPart (held_value value.now.kept) path.now (truth.new ≡ truth.old)
         (TellsTruth truth.old truth.new) (plain result) }
 {
-    let Some(it) = replace(value, Handle::none(alloc)).into_box() else {
+    let Some(it) = value.object() else {
         return MISUSE;
     };
-    let code = match it.as_ref() {
+    match it {
         Object::Value { ty, value } => boolean_at(ty, value, path, truth),
         _ => MISUSE,
-    };
-    value.give_back(it);
-    code
+    }
 }
 
 fn boolean_at(ty: &Checked, value: &Value, path: &[u8], truth: &mut u32) -> u32
@@ -151,25 +134,17 @@ fn boolean_of(part: &View<'_>, truth: &mut u32) -> u32
 
 /// The value of an INTEGER that is no more than 2^63 - 1. A greater one is of another kind: see `tulvorn_unsigned`.
 #[unsafe(no_mangle)]
-pub extern "C" fn tulvorn_integer(
-    alloc: Global,
-    value: &mut Handle,
-    path: &[u8],
-    number: &mut i64,
-) -> u32
-    ensures kept { value.new.kept ≡ value.old.kept }
-    ensures told { AskedPart (held_value value.old.kept) path.now (number.new ≡ number.old)
+pub extern "C" fn tulvorn_integer(value: &Shown, path: &[u8], number: &mut i64) -> u32
+    ensures told { AskedPart (held_value value.now.kept) path.now (number.new ≡ number.old)
         (TellsInteger number.old number.new) (plain result) }
 {
-    let Some(it) = replace(value, Handle::none(alloc)).into_box() else {
+    let Some(it) = value.object() else {
         return MISUSE;
     };
-    let code = match it.as_ref() {
+    match it {
         Object::Value { ty, value } => integer_at(ty, value, path, number),
         _ => MISUSE,
-    };
-    value.give_back(it);
-    code
+    }
 }
 
 fn integer_at(ty: &Checked, value: &Value, path: &[u8], number: &mut i64) -> u32
@@ -199,25 +174,17 @@ fn integer_of(part: &View<'_>, number: &mut i64) -> u32
 
 /// The value of an INTEGER that is not below 0. Another is of another kind: see `tulvorn_integer`.
 #[unsafe(no_mangle)]
-pub extern "C" fn tulvorn_unsigned(
-    alloc: Global,
-    value: &mut Handle,
-    path: &[u8],
-    number: &mut u64,
-) -> u32
-    ensures kept { value.new.kept ≡ value.old.kept }
-    ensures told { AskedPart (held_value value.old.kept) path.now (number.new ≡ number.old)
+pub extern "C" fn tulvorn_unsigned(value: &Shown, path: &[u8], number: &mut u64) -> u32
+    ensures told { AskedPart (held_value value.now.kept) path.now (number.new ≡ number.old)
         (TellsUnsigned number.old number.new) (plain result) }
 {
-    let Some(it) = replace(value, Handle::none(alloc)).into_box() else {
+    let Some(it) = value.object() else {
         return MISUSE;
     };
-    let code = match it.as_ref() {
+    match it {
         Object::Value { ty, value } => unsigned_at(ty, value, path, number),
         _ => MISUSE,
-    };
-    value.give_back(it);
-    code
+    }
 }
 
 fn unsigned_at(ty: &Checked, value: &Value, path: &[u8], number: &mut u64) -> u32
@@ -247,25 +214,17 @@ fn unsigned_of(part: &View<'_>, number: &mut u64) -> u32
 
 /// How many elements a SEQUENCE OF has, or bits, octets or characters a string; 0 of a value of another kind.
 #[unsafe(no_mangle)]
-pub extern "C" fn tulvorn_count(
-    alloc: Global,
-    value: &mut Handle,
-    path: &[u8],
-    count: &mut usize,
-) -> u32
-    ensures kept { value.new.kept ≡ value.old.kept }
-    ensures told { AskedPart (held_value value.old.kept) path.now (count.new ≡ count.old)
+pub extern "C" fn tulvorn_count(value: &Shown, path: &[u8], count: &mut usize) -> u32
+    ensures told { AskedPart (held_value value.now.kept) path.now (count.new ≡ count.old)
         (TellsCount count.new) (plain result) }
 {
-    let Some(it) = replace(value, Handle::none(alloc)).into_box() else {
+    let Some(it) = value.object() else {
         return MISUSE;
     };
-    let code = match it.as_ref() {
+    match it {
         Object::Value { ty, value } => count_at(ty, value, path, count),
         _ => MISUSE,
-    };
-    value.give_back(it);
-    code
+    }
 }
 
 fn count_at(ty: &Checked, value: &Value, path: &[u8], count: &mut usize) -> u32
@@ -287,26 +246,17 @@ fn count_of(part: &View<'_>, count: &mut usize) -> u32
 
 /// The bit of a BIT STRING at an index, counted from 0: 0 or 1.
 #[unsafe(no_mangle)]
-pub extern "C" fn tulvorn_bit(
-    alloc: Global,
-    value: &mut Handle,
-    path: &[u8],
-    index: usize,
-    bit: &mut u32,
-) -> u32
-    ensures kept { value.new.kept ≡ value.old.kept }
-    ensures told { AskedPart (held_value value.old.kept) path.now (bit.new ≡ bit.old)
+pub extern "C" fn tulvorn_bit(value: &Shown, path: &[u8], index: usize, bit: &mut u32) -> u32
+    ensures told { AskedPart (held_value value.now.kept) path.now (bit.new ≡ bit.old)
         (TellsBit index bit.old bit.new) (plain result) }
 {
-    let Some(it) = replace(value, Handle::none(alloc)).into_box() else {
+    let Some(it) = value.object() else {
         return MISUSE;
     };
-    let code = match it.as_ref() {
+    match it {
         Object::Value { ty, value } => bit_at(ty, value, path, index, bit),
         _ => MISUSE,
-    };
-    value.give_back(it);
-    code
+    }
 }
 
 fn bit_at(ty: &Checked, value: &Value, path: &[u8], index: usize, bit: &mut u32) -> u32

@@ -23,35 +23,28 @@ ghost use Rattle.tulvorn_c.specs.Sessions.{
 use crate::fault::{DONE, Fault, MISUSE, MORE, NO_MEMORY};
 use crate::handle::Handle;
 use crate::object::Object;
+use crate::shown::Shown;
 use std::alloc::{AllocError, Global};
 use std::mem::replace;
 use tulvorn::{Checked, Oer, Per, Rules, Session, Step, Value, open};
 
 /// A session for a value of the type, which has taken no octet: see `tulvorn::open`.
 #[unsafe(no_mangle)]
-pub extern "C" fn tulvorn_open(
-    alloc: Global,
-    ty: &mut Handle,
-    rules: u32,
-    session: &mut Handle,
-) -> u32
-    ensures kept { ty.new.kept ≡ ty.old.kept }
-    ensures told { AskedBy (held_type ty.old.kept) (ruling_of rules) (session.new.kept ≡ session.old.kept)
+pub extern "C" fn tulvorn_open(alloc: Global, ty: &Shown, rules: u32, session: &mut Handle) -> u32
+    ensures told { AskedBy (held_type ty.now.kept) (ruling_of rules) (session.new.kept ≡ session.old.kept)
         (Opens session.old.kept session.new.kept) (plain result) }
 {
-    let Some(it) = replace(ty, Handle::none(alloc)).into_box() else {
+    let Some(it) = ty.object() else {
         return MISUSE;
     };
-    let code = match it.as_ref() {
+    match it {
         Object::Checked(ty) => match rules {
             0 => open_per(alloc, ty, session),
             1 => open_oer(alloc, ty, session),
             _ => MISUSE,
         },
         _ => MISUSE,
-    };
-    ty.give_back(it);
-    code
+    }
 }
 
 fn open_per(alloc: Global, ty: &Checked, out: &mut Handle) -> u32
@@ -187,8 +180,13 @@ fn feed_by<R: Rules>(
     }
 }
 
-/// Puts the value, beside its type, into the handle.
-fn put_value(alloc: Global, ty: &Checked, value: Value, out: &mut Handle) -> Result<(), AllocError>
+/// Puts the value and its type into the handle.
+pub(crate) fn put_value(
+    alloc: Global,
+    ty: &Checked,
+    value: Value,
+    out: &mut Handle,
+) -> Result<(), AllocError>
     ensures put { IfOk result (λ _. held_value out.new.kept ≡ Some (typed (shape_of ty.now) (datum_of value))) }
     ensures stays { IfErr result (λ _. out.new.kept ≡ out.old.kept) }
 {
@@ -196,7 +194,7 @@ fn put_value(alloc: Global, ty: &Checked, value: Value, out: &mut Handle) -> Res
     out.put(alloc, Object::Value { ty, value })
 }
 
-/// Ends a session, and lets go of it: see `tulvorn::Session::finish`. After `tulvorn_feed` had no memory for the handle of
+/// Ends a session and frees it: see `tulvorn::Session::finish`. After `tulvorn_feed` had no memory for the handle of
 /// the value, the octets that were taken are an encoding, though no value was given. Takes no memory.
 #[unsafe(no_mangle)]
 pub extern "C" fn tulvorn_finish(alloc: Global, session: &mut Handle, fault: &mut Fault) -> u32

@@ -25,7 +25,7 @@ use tulvorn::{DecodeFault, Unit, Why};
 const VERSION: &str = "0.1.0";
 
 /// The number of the header: it grows with each change after which a program has to be compiled anew.
-const INTERFACE: u32 = 1;
+const INTERFACE: u32 = 2;
 
 /// Writes the version of the library, as `tulvorn_copy` does.
 #[unsafe(no_mangle)]
@@ -39,7 +39,7 @@ pub extern "C" fn tulvorn_version(into: &mut [u8], needed: &mut usize) -> u32
 /// compiled with another has to be compiled anew.
 #[unsafe(no_mangle)]
 pub extern "C" fn tulvorn_interface() -> u32
-    ensures { result ≡ 1 }
+    ensures { result ≡ 2 }
 {
     INTERFACE
 }
@@ -135,13 +135,15 @@ fn words_of_code(code: u32) -> &'static str
         11 => "not of the type",
         12 => "no JSON",
         13 => "not of the type's shape",
-        14 => "nothing at the path",
+        14 => "no such path",
         15 => "another kind",
         16 => "no message",
         17 => "cut short",
         18 => "too many additions",
         19 => "more octets wanted",
         20 => "session spent",
+        21 => "absent",
+        22 => "over budget",
         _ => "unknown code",
     }
 }

@@ -1,15 +1,14 @@
 //! Parts of a value by `[]`.
 
 use crate::{Held, Kind, Part, Value};
-use std::cell::RefCell;
 use std::collections::HashMap;
 use std::ops::Index;
-use std::rc::Rc;
+use std::sync::{Arc, Mutex, PoisonError};
 
 /// A part of a value, as `value["coreData"]["speed"]` or `value["path"][3]` gives it.
 ///
-/// It is there for each name and index. What it is, its calls tell, as those of [`Part`] do: None where the value has
-/// no such part, or it is of another kind. The value keeps what leads to each part that was asked for so, as long as it
+/// It is there for each name and index. Its calls are those of [`Part`]: they return None if the value has no such
+/// part, or it is of another kind. The value keeps what leads to each part that was asked for so, as long as it
 /// lives; `value.at("path[3].x")` keeps nothing.
 ///
 /// ```
@@ -26,24 +25,24 @@ use std::rc::Rc;
 /// # Ok::<(), Error>(())
 /// ```
 pub struct Inside {
-    held: Rc<Held>,
+    held: Arc<Held>,
     path: String,
     parts: Parts,
 }
 
 // The parts that were asked for, by the words that lead to them.
 #[derive(Default)]
-pub(crate) struct Parts(RefCell<HashMap<String, Rc<Inside>>>);
+pub(crate) struct Parts(Mutex<HashMap<String, Arc<Inside>>>);
 
 impl Parts {
-    fn at(&self, held: &Rc<Held>, path: &str, word: &str) -> &Inside {
-        let mut parts = self.0.borrow_mut();
+    fn at(&self, held: &Arc<Held>, path: &str, word: &str) -> &Inside {
+        let mut parts = self.0.lock().unwrap_or_else(PoisonError::into_inner);
         let part = parts.entry(word.to_owned()).or_insert_with(|| {
-            Rc::new(Inside { held: Rc::clone(held), path: format!("{path}{word}"), parts: Parts::default() })
+            Arc::new(Inside { held: Arc::clone(held), path: format!("{path}{word}"), parts: Parts::default() })
         });
         // SAFETY: a part stays where it is while the map has it, and nothing is taken out of the map before it is let
         // go of with `self`, which the reference does not outlive.
-        unsafe { &*Rc::as_ptr(part) }
+        unsafe { &*Arc::as_ptr(part) }
     }
 }
 

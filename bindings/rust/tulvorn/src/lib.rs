@@ -28,11 +28,11 @@ mod session;
 pub use inside::Inside;
 pub use session::{Fed, Session};
 
+pub use ffi::Budget;
 use ffi::{Fault, Handle};
-use std::cell::UnsafeCell;
 use std::fmt;
 use std::ptr::null_mut;
-use std::rc::Rc;
+use std::sync::Arc;
 
 /// Encoding rules.
 #[derive(Clone, Copy, Debug, PartialEq, Eq, Hash)]
@@ -150,7 +150,7 @@ pub enum Reason {
     NoJson,
     /// The JSON is not of the shape of the type.
     Shape,
-    /// The value has no part at the path.
+    /// No value of the type has a part at the path.
     NoPath,
     /// The part is of another kind.
     OtherKind,
@@ -163,17 +163,27 @@ pub enum Reason {
     TooManyAdditions,
     /// The session has given its value, or answered `Memory`, before.
     Spent,
+    /// The value has no part at the path, and other values of its type have one.
+    Absent,
+    /// The octets are the encoding of a value that takes more than the budget.
+    OverBudget,
     /// The library answered a code that this crate does not know, or the crate misused it.
     Other(u32),
 }
 
-/// An error: the reason, and the encoding rules in whose unit its place is counted.
-#[derive(Clone, Copy, Debug, PartialEq, Eq)]
+/// An error: the reason, and in words what the library says of it.
+///
+/// The words of a text that is no module are those of [`Module::explain`], and those of JSON that is not of the shape
+/// of a type those of [`Type::explain_json`].
+#[derive(Clone, PartialEq, Eq)]
 pub struct Error {
     /// The reason.
     pub reason: Reason,
     fault: (u32, u32, u64),
+    // the rules in whose unit the place is counted
     rules: Rules,
+    // the words that the library gives with the text alone
+    words: Option<Arc<str>>,
 }
 
 impl Error {
@@ -200,38 +210,58 @@ impl Error {
             17 => Reason::CutMessage,
             18 => Reason::TooManyAdditions,
             20 => Reason::Spent,
+            21 => Reason::Absent,
+            22 => Reason::OverBudget,
             code => Reason::Other(code),
         };
-        Error { reason, fault: (fault.code, fault.why, fault.at), rules }
+        Error { reason, fault: (fault.code, fault.why, fault.at), rules, words: None }
     }
 }
 
 impl fmt::Display for Error {
     fn fmt(&self, f: &mut fmt::Formatter<'_>) -> fmt::Result {
+        if let Some(words) = &self.words {
+            return f.write_str(words.trim_end());
+        }
         let (code, why, at) = self.fault;
-        let (fault, words) = (Fault { code, why, at }, Held::nothing());
+        let (fault, mut words) = (Fault { code, why, at }, Held::nothing());
         // SAFETY: `fault` and `words` are places of this function alone.
-        let code = unsafe { ffi::tulvorn_words(&raw const fault, self.rules as u32, words.get()) };
+        let code = unsafe { ffi::tulvorn_words(&raw const fault, self.rules as u32, words.fill()) };
         if code == 0 { f.write_str(&String::from_utf8_lossy(&words.octets())) } else { f.write_str("memory") }
+    }
+}
+
+// (a program whose `main` returns an error prints it so)
+impl fmt::Debug for Error {
+    fn fmt(&self, f: &mut fmt::Formatter<'_>) -> fmt::Result {
+        write!(f, "{:?}: {self}", self.reason)
     }
 }
 
 impl std::error::Error for Error {}
 
-// A handle, which closes itself. It is used by one thread at a time, since it is not `Sync`, and no call that is given
-// it gives control back before it returns: so the call has it alone.
-struct Held(UnsafeCell<Handle>);
+// A handle, which closes itself.
+struct Held(Handle);
 
-// SAFETY: the library proves `Send` of its handle, and a handle is used by one thread at a time.
+// SAFETY: the library proves `Send` of its handle.
 unsafe impl Send for Held {}
+
+// SAFETY: the library proves `Sync` of a handle that calls only read, and `&Held` gives no other access.
+unsafe impl Sync for Held {}
 
 impl Held {
     fn nothing() -> Held {
-        Held(UnsafeCell::new(Handle::NONE))
+        Held(Handle::NONE)
     }
 
-    fn get(&self) -> *mut Handle {
-        self.0.get()
+    // for the calls that only read
+    fn get(&self) -> *const Handle {
+        &raw const self.0
+    }
+
+    // for the calls that fill the handle, or take a piece into its session
+    fn fill(&mut self) -> *mut Handle {
+        &raw mut self.0
     }
 
     // What `call` writes, where it says how much that is.
@@ -282,7 +312,7 @@ impl Held {
 impl Drop for Held {
     fn drop(&mut self) {
         // SAFETY: the handle is this object's.
-        unsafe { ffi::tulvorn_close(self.get()) }
+        unsafe { ffi::tulvorn_close(self.fill()) }
     }
 }
 
@@ -297,13 +327,23 @@ impl Module {
     /// Reads the text of a module.
     ///
     /// # Errors
-    /// `NoModule` where the text is none of the profile, `Memory`.
+    /// `NoModule` if the text is no module of the profile, with the words of `explain`; `Memory`.
+    ///
+    /// ```
+    /// let error = tulvorn::Module::read("M DEFINITIONS AUTOMATIC TAGS ::= BEGIN T ::= U END").err().unwrap();
+    /// assert!(error.to_string().contains("line 1, column 46"), "{error}");
+    /// ```
     pub fn read(text: &str) -> Result<Module, Error> {
-        let (held, mut fault) = (Held::nothing(), Fault::default());
+        let (mut held, mut fault) = (Held::nothing(), Fault::default());
         // SAFETY: the pointer and the length are those of one text, and the handle holds nothing.
-        let code = unsafe { ffi::tulvorn_module(text.as_ptr(), text.len(), held.get(), &raw mut fault) };
-        look(code, fault, Rules::Per)?;
-        Ok(Module(held))
+        let code = unsafe { ffi::tulvorn_module(text.as_ptr(), text.len(), held.fill(), &raw mut fault) };
+        match look(code, fault, Rules::Per) {
+            Ok(()) => Ok(Module(held)),
+            Err(error) if matches!(error.reason, Reason::NoModule { .. }) => {
+                Err(Error { words: Module::explain(text)?.map(Arc::from), ..error })
+            }
+            Err(error) => Err(error),
+        }
     }
 
     /// Why a text is no module, with the line and a mark where that shows; None where it is one.
@@ -318,9 +358,9 @@ impl Module {
     /// # Ok::<(), tulvorn::Error>(())
     /// ```
     pub fn explain(text: &str) -> Result<Option<String>, Error> {
-        let held = Held::nothing();
+        let mut held = Held::nothing();
         // SAFETY: as in `read`.
-        let code = unsafe { ffi::tulvorn_explain_module(text.as_ptr(), text.len(), held.get()) };
+        let code = unsafe { ffi::tulvorn_explain_module(text.as_ptr(), text.len(), held.fill()) };
         look(code, Fault { code, why: 0, at: 0 }, Rules::Per)?;
         Ok(held.words())
     }
@@ -330,27 +370,27 @@ impl Module {
     /// # Errors
     /// `NoName`, `Memory`.
     pub fn ty(&self, name: &str) -> Result<Type, Error> {
-        let (held, mut fault) = (Held::nothing(), Fault::default());
+        let (mut held, mut fault) = (Held::nothing(), Fault::default());
         // SAFETY: as in `read`; the two handles are two objects'.
         let code =
-            unsafe { ffi::tulvorn_type(self.0.get(), name.as_ptr(), name.len(), held.get(), &raw mut fault) };
+            unsafe { ffi::tulvorn_type(self.0.get(), name.as_ptr(), name.len(), held.fill(), &raw mut fault) };
         look(code, fault, Rules::Per)?;
         Ok(Type(held))
     }
 }
 
-/// A type of a module. It may go to another thread; two threads use one at once by `share`.
+/// A type of a module. Threads may use one at once.
 pub struct Type(Held);
 
 impl Type {
-    /// Another of the same type, for another thread.
+    /// Another of the same type, which is dropped on its own. Both share one tree.
     ///
     /// # Errors
     /// `Memory`.
     pub fn share(&self) -> Result<Type, Error> {
-        let held = Held::nothing();
+        let mut held = Held::nothing();
         // SAFETY: the two handles are two objects'.
-        let code = unsafe { ffi::tulvorn_share(self.0.get(), held.get()) };
+        let code = unsafe { ffi::tulvorn_share(self.0.get(), held.fill()) };
         look(code, Fault { code, why: 0, at: 0 }, Rules::Per)?;
         Ok(Type(held))
     }
@@ -373,7 +413,7 @@ impl Type {
     /// # Errors
     /// As `check`.
     pub fn decode(&self, rules: Rules, octets: &[u8]) -> Result<Value, Error> {
-        let (held, mut fault) = (Held::nothing(), Fault::default());
+        let (mut held, mut fault) = (Held::nothing(), Fault::default());
         // SAFETY: as in `check`; the two handles are two objects'.
         let code = unsafe {
             ffi::tulvorn_decode(
@@ -381,7 +421,62 @@ impl Type {
                 rules as u32,
                 octets.as_ptr(),
                 octets.len(),
-                held.get(),
+                held.fill(),
+                &raw mut fault,
+            )
+        };
+        look(code, fault, rules)?;
+        Ok(Value::of(held))
+    }
+
+    /// Whether the octets are the encoding of a value of the type that takes no more than the budget.
+    ///
+    /// # Errors
+    /// As `check`, and `OverBudget`.
+    pub fn check_within(&self, rules: Rules, octets: &[u8], budget: Budget) -> Result<(), Error> {
+        let mut fault = Fault::default();
+        // SAFETY: as in `check`.
+        let code = unsafe {
+            ffi::tulvorn_check_within(
+                self.0.get(),
+                rules as u32,
+                octets.as_ptr(),
+                octets.len(),
+                &raw const budget,
+                &raw mut fault,
+            )
+        };
+        look(code, fault, rules)
+    }
+
+    /// The value whose encoding the octets are, if it takes no more than the budget.
+    ///
+    /// # Errors
+    /// As `check`, and `OverBudget`.
+    ///
+    /// ```
+    /// use tulvorn::{Budget, Module, Reason, Rules};
+    ///
+    /// let module = Module::read("M DEFINITIONS AUTOMATIC TAGS ::= BEGIN T ::= SEQUENCE OF BOOLEAN END")?;
+    /// let ty = module.ty("T")?;
+    /// // three elements and the list itself are four entries
+    /// let budget = Budget { entries: 4, octets: 0 };
+    /// assert!(ty.decode_within(Rules::Oer, &[1, 3, 0, 0, 0], budget).is_ok());
+    /// let error = ty.decode_within(Rules::Oer, &[1, 4, 0, 0, 0, 0], budget).err().unwrap();
+    /// assert_eq!(error.reason, Reason::OverBudget);
+    /// # Ok::<(), tulvorn::Error>(())
+    /// ```
+    pub fn decode_within(&self, rules: Rules, octets: &[u8], budget: Budget) -> Result<Value, Error> {
+        let (mut held, mut fault) = (Held::nothing(), Fault::default());
+        // SAFETY: as in `decode`.
+        let code = unsafe {
+            ffi::tulvorn_decode_within(
+                self.0.get(),
+                rules as u32,
+                octets.as_ptr(),
+                octets.len(),
+                &raw const budget,
+                held.fill(),
                 &raw mut fault,
             )
         };
@@ -394,7 +489,7 @@ impl Type {
     /// # Errors
     /// As `check`.
     pub fn convert(&self, rules: Rules, octets: &[u8]) -> Result<Vec<u8>, Error> {
-        let (held, mut fault) = (Held::nothing(), Fault::default());
+        let (mut held, mut fault) = (Held::nothing(), Fault::default());
         // SAFETY: as in `decode`.
         let code = unsafe {
             ffi::tulvorn_convert(
@@ -402,7 +497,7 @@ impl Type {
                 rules as u32,
                 octets.as_ptr(),
                 octets.len(),
-                held.get(),
+                held.fill(),
                 &raw mut fault,
             )
         };
@@ -416,10 +511,10 @@ impl Type {
     /// # Errors
     /// `Memory`.
     pub fn explain(&self, rules: Rules, octets: &[u8]) -> Result<Option<String>, Error> {
-        let held = Held::nothing();
+        let mut held = Held::nothing();
         // SAFETY: as in `decode`.
         let code = unsafe {
-            ffi::tulvorn_explain(self.0.get(), rules as u32, octets.as_ptr(), octets.len(), held.get())
+            ffi::tulvorn_explain(self.0.get(), rules as u32, octets.as_ptr(), octets.len(), held.fill())
         };
         look(code, Fault { code, why: 0, at: 0 }, rules)?;
         Ok(held.words())
@@ -430,9 +525,9 @@ impl Type {
     /// # Errors
     /// `NoJson`, `Memory`.
     pub fn explain_json(&self, json: &str) -> Result<Option<String>, Error> {
-        let held = Held::nothing();
+        let mut held = Held::nothing();
         // SAFETY: as in `decode`.
-        let code = unsafe { ffi::tulvorn_explain_json(self.0.get(), json.as_ptr(), json.len(), held.get()) };
+        let code = unsafe { ffi::tulvorn_explain_json(self.0.get(), json.as_ptr(), json.len(), held.fill()) };
         look(code, Fault { code, why: 0, at: 0 }, Rules::Per)?;
         Ok(held.words())
     }
@@ -443,9 +538,9 @@ impl Type {
     /// # Errors
     /// `Memory`.
     pub fn misfit(&self, value: &Value) -> Result<Option<String>, Error> {
-        let held = Held::nothing();
+        let mut held = Held::nothing();
         // SAFETY: the three handles are three objects'.
-        let code = unsafe { ffi::tulvorn_misfit(self.0.get(), value.0.get(), held.get()) };
+        let code = unsafe { ffi::tulvorn_misfit(self.0.get(), value.0.get(), held.fill()) };
         look(code, Fault { code, why: 0, at: 0 }, Rules::Per)?;
         Ok(held.words())
     }
@@ -455,7 +550,7 @@ impl Type {
     /// # Errors
     /// `NoMessage`, `CutMessage`, `TooManyAdditions`, `TooLong`, `Memory`.
     pub fn read_newer(&self, rules: Rules, octets: &[u8]) -> Result<Newer, Error> {
-        let (value, fields, mut fault) = (Held::nothing(), Held::nothing(), Fault::default());
+        let (mut value, mut fields, mut fault) = (Held::nothing(), Held::nothing(), Fault::default());
         // SAFETY: as in `decode`; the three handles are three objects'.
         let code = unsafe {
             ffi::tulvorn_read_newer(
@@ -463,8 +558,8 @@ impl Type {
                 rules as u32,
                 octets.as_ptr(),
                 octets.len(),
-                value.get(),
-                fields.get(),
+                value.fill(),
+                fields.fill(),
                 &raw mut fault,
             )
         };
@@ -473,18 +568,23 @@ impl Type {
     }
 
     /// The value of the type that the JSON shows. An INTEGER is shown by a number without fraction and exponent, from
-    /// -2^63 to 2^64 - 1; any other number, `-0` too, is not of its `Shape`. Of members with one name the last counts.
+    /// -2^63 to 2^64 - 1; any other number, `-0` too, is not of its `Shape`. An object with a key twice is not of its `Shape`.
     ///
     /// # Errors
     /// `NoJson`, `Shape`, `NotOfType`, `Memory`.
     pub fn read_json(&self, json: &str) -> Result<Value, Error> {
-        let (held, mut fault) = (Held::nothing(), Fault::default());
+        let (mut held, mut fault) = (Held::nothing(), Fault::default());
         // SAFETY: as in `decode`.
         let code = unsafe {
-            ffi::tulvorn_from_json(self.0.get(), json.as_ptr(), json.len(), held.get(), &raw mut fault)
+            ffi::tulvorn_from_json(self.0.get(), json.as_ptr(), json.len(), held.fill(), &raw mut fault)
         };
-        look(code, fault, Rules::Per)?;
-        Ok(Value::of(held))
+        match look(code, fault, Rules::Per) {
+            Ok(()) => Ok(Value::of(held)),
+            Err(error) if error.reason == Reason::Shape => {
+                Err(Error { words: self.explain_json(json)?.map(Arc::from), ..error })
+            }
+            Err(error) => Err(error),
+        }
     }
 }
 
@@ -500,22 +600,19 @@ pub struct Skipped {
 /// What is read of a message of a newer or older sender.
 pub struct Newer {
     /// The value, with the entries and alternatives that the type has. With an item or alternative that the type has
-    /// not it has JSON and no encoding: JSON tells of an item `"?2"`, by PER its index among the additions, from 0, and
+    /// not it has JSON and no encoding: JSON shows of an item `"?2"`, by PER its index among the additions, from 0, and
     /// by OER its number, and of an alternative `{"?1":null}`, its index, root before additions, from 0.
     pub value: Value,
     /// The fields that the type has not, in the order of the message.
     pub skipped: Vec<Skipped>,
 }
 
-/// A value beside its type.
-pub struct Value(Rc<Held>, inside::Parts);
-
-// SAFETY: `Held` is `Send`, and what shares it are parts that the value keeps: no `Rc` of them leaves it.
-unsafe impl Send for Value {}
+/// A value with its type. Threads may read one at once.
+pub struct Value(Arc<Held>, inside::Parts);
 
 impl Value {
     fn of(held: Held) -> Value {
-        Value(Rc::new(held), inside::Parts::default())
+        Value(Arc::new(held), inside::Parts::default())
     }
 
     /// The encoding of the value.
@@ -523,9 +620,9 @@ impl Value {
     /// # Errors
     /// `NotOfType`, `TooLong`, `Memory`.
     pub fn encode(&self, rules: Rules) -> Result<Vec<u8>, Error> {
-        let (held, mut fault) = (Held::nothing(), Fault::default());
+        let (mut held, mut fault) = (Held::nothing(), Fault::default());
         // SAFETY: the two handles are two objects'.
-        let code = unsafe { ffi::tulvorn_encode(self.0.get(), rules as u32, held.get(), &raw mut fault) };
+        let code = unsafe { ffi::tulvorn_encode(self.0.get(), rules as u32, held.fill(), &raw mut fault) };
         look(code, fault, rules)?;
         Ok(held.octets())
     }
@@ -568,18 +665,17 @@ impl Value {
     /// # Errors
     /// `Memory`.
     pub fn to_json(&self) -> Result<String, Error> {
-        let (held, mut fault) = (Held::nothing(), Fault::default());
+        let (mut held, mut fault) = (Held::nothing(), Fault::default());
         // SAFETY: the two handles are two objects'.
-        let code = unsafe { ffi::tulvorn_to_json(self.0.get(), held.get(), &raw mut fault) };
+        let code = unsafe { ffi::tulvorn_to_json(self.0.get(), held.fill(), &raw mut fault) };
         look(code, fault, Rules::Per)?;
         Ok(String::from_utf8_lossy(&held.octets()).into_owned())
     }
 
-    /// The part at a path, as `coreData.speed` or `path[3].x`. What it is, its calls tell: None where there is no such
-    /// part, or it is of another kind. A `$` at the very front is passed over. The path is cut at each `.`, `[` and
-    /// `]`; an empty piece is passed over, one of digits, of which there are at most nine, is the index of an element,
-    /// counted from 0, and any other the name of a component or of the chosen alternative; an absent component is its
-    /// DEFAULT.
+    /// The part at a path, as `coreData.speed` or `path[3].x`. Its calls return None if there is no such
+    /// part, or it is of another kind. A `$` at the very front is ignored. The path is cut at each `.`, `[` and `]`. An
+    /// empty piece is ignored. One of at most nine digits is the index of an element, counted from 0. Any other is the
+    /// name of a component or of the chosen alternative. An absent component is its DEFAULT.
     #[must_use]
     pub fn at<'a>(&'a self, path: &'a str) -> Part<'a> {
         Part { held: &self.0, path }
@@ -593,42 +689,70 @@ pub struct Part<'a> {
     path: &'a str,
 }
 
-type Told<T> = unsafe extern "C" fn(*mut Handle, *const u8, usize, *mut T) -> u32;
+type Read<T> = unsafe extern "C" fn(*const Handle, *const u8, usize, *mut T) -> u32;
 
-type Written = unsafe extern "C" fn(*mut Handle, *const u8, usize, *mut u8, usize, *mut usize) -> u32;
+type Written = unsafe extern "C" fn(*const Handle, *const u8, usize, *mut u8, usize, *mut usize) -> u32;
 
 impl Part<'_> {
-    fn told<T: Default>(self, call: Told<T>) -> Option<T> {
-        let mut told = T::default();
+    fn read<T: Default>(self, call: Read<T>) -> Option<T> {
+        let mut part = T::default();
         // SAFETY: the handle is the value's, and the path a text.
-        let code = unsafe { call(self.held.get(), self.path.as_ptr(), self.path.len(), &raw mut told) };
-        (code == 0).then_some(told)
+        let code = unsafe { call(self.held.get(), self.path.as_ptr(), self.path.len(), &raw mut part) };
+        (code == 0).then_some(part)
     }
 
     fn written(self, call: Written) -> Option<Vec<u8>> {
         Held::written(|into, room, needed| {
-            // SAFETY: as in `told`, and the room is that of a vector.
+            // SAFETY: as in `read`, and the room is that of a vector.
             unsafe { call(self.held.get(), self.path.as_ptr(), self.path.len(), into, room, needed) }
         })
         .ok()
     }
 
+    /// Whether the value has the part: false for an absent component without a DEFAULT, an alternative that is not
+    /// chosen, and an element past the end.
+    ///
+    /// # Errors
+    /// `NoPath` if no value of the type has such a part, as with a misspelt name.
+    ///
+    /// ```
+    /// let module = tulvorn::Module::read(
+    ///     "M DEFINITIONS AUTOMATIC TAGS ::= BEGIN T ::= SEQUENCE { speed INTEGER OPTIONAL } END",
+    /// )?;
+    /// let value = module.ty("T")?.read_json("{}")?;
+    /// assert_eq!(value.at("speed").is_present(), Ok(false));
+    /// assert_eq!(value.at("sped").is_present().unwrap_err().reason, tulvorn::Reason::NoPath);
+    /// # Ok::<(), tulvorn::Error>(())
+    /// ```
+    pub fn is_present(self) -> Result<bool, Error> {
+        let mut kind = 0;
+        // SAFETY: as in `read`.
+        let code = unsafe {
+            ffi::tulvorn_kind(self.held.get(), self.path.as_ptr(), self.path.len(), &raw mut kind)
+        };
+        if code == 21 {
+            return Ok(false);
+        }
+        look(code, Fault { code, why: 0, at: 0 }, Rules::Per)?;
+        Ok(true)
+    }
+
     /// The kind of the part's type; None where there is no such part.
     #[must_use]
     pub fn kind(self) -> Option<Kind> {
-        KINDS.get((self.told(ffi::tulvorn_kind)? as usize).checked_sub(1)?).copied()
+        KINDS.get((self.read(ffi::tulvorn_kind)? as usize).checked_sub(1)?).copied()
     }
 
     /// The value of an INTEGER; None too of one above `i64::MAX`.
     #[must_use]
     pub fn as_i64(self) -> Option<i64> {
-        self.told(ffi::tulvorn_integer)
+        self.read(ffi::tulvorn_integer)
     }
 
     /// The value of an INTEGER; None too of one below 0.
     #[must_use]
     pub fn as_u64(self) -> Option<u64> {
-        self.told(ffi::tulvorn_unsigned)
+        self.read(ffi::tulvorn_unsigned)
     }
 
     /// The value of an INTEGER.
@@ -640,13 +764,13 @@ impl Part<'_> {
     /// The value of a BOOLEAN.
     #[must_use]
     pub fn as_bool(self) -> Option<bool> {
-        self.told(ffi::tulvorn_boolean).map(|truth| truth != 0)
+        self.read(ffi::tulvorn_boolean).map(|truth| truth != 0)
     }
 
     /// How many elements a SEQUENCE OF has, or bits, octets or characters a string.
     #[must_use]
     pub fn count(self) -> Option<usize> {
-        self.told(ffi::tulvorn_count)
+        self.read(ffi::tulvorn_count)
     }
 
     /// The octets of an OCTET STRING.
@@ -662,7 +786,7 @@ impl Part<'_> {
     }
 
     /// The name of the item of an ENUMERATED, or of the chosen alternative of a CHOICE; None too of one that the type
-    /// has not, in a value of `read_newer`, whose number JSON tells.
+    /// has not, in a value of `read_newer`, whose number JSON shows.
     #[must_use]
     pub fn name(self) -> Option<String> {
         String::from_utf8(self.written(ffi::tulvorn_name)?).ok()
@@ -677,7 +801,7 @@ impl Part<'_> {
         (0..self.count()?)
             .map(|index| {
                 let mut bit = 0;
-                // SAFETY: as in `told`.
+                // SAFETY: as in `read`.
                 let code = unsafe {
                     ffi::tulvorn_bit(
                         self.held.get(),

@@ -46,9 +46,9 @@ impl Type {
     /// # Errors
     /// `Memory`.
     pub fn open(&self, rules: Rules) -> Result<Session, Error> {
-        let held = Held::nothing();
+        let mut held = Held::nothing();
         // SAFETY: the two handles are two objects'.
-        let code = unsafe { ffi::tulvorn_open(self.0.get(), rules as u32, held.get()) };
+        let code = unsafe { ffi::tulvorn_open(self.0.get(), rules as u32, held.fill()) };
         look(code, Fault { code, why: 0, at: 0 }, rules)?;
         Ok(Session { held, rules })
     }
@@ -62,14 +62,14 @@ impl Session {
     /// none can follow. `TooLong`, `Memory`. A session that answered `Refused` or `TooLong` answers the same to each
     /// further piece, and one that answered `Done` or `Memory` answers `Spent`.
     pub fn feed(&mut self, piece: &[u8]) -> Result<Fed, Error> {
-        let (value, mut used, mut fault) = (Held::nothing(), 0, Fault::default());
+        let (mut value, mut used, mut fault) = (Held::nothing(), 0, Fault::default());
         // SAFETY: the pointer and the length are those of one slice, and the two handles are two objects'.
         let code = unsafe {
             ffi::tulvorn_feed(
-                self.held.get(),
+                self.held.fill(),
                 piece.as_ptr(),
                 piece.len(),
-                value.get(),
+                value.fill(),
                 &raw mut used,
                 &raw mut fault,
             )
@@ -91,10 +91,10 @@ impl Session {
     /// # Errors
     /// `Truncated` where the octets that it took are no whole encoding: `taken` is how many units were taken while one
     /// could still follow, also of a session that answered `Refused` or `TooLong`.
-    pub fn finish(self) -> Result<(), Error> {
+    pub fn finish(mut self) -> Result<(), Error> {
         let mut fault = Fault::default();
         // SAFETY: the handle is this object's.
-        let code = unsafe { ffi::tulvorn_finish(self.held.get(), &raw mut fault) };
+        let code = unsafe { ffi::tulvorn_finish(self.held.fill(), &raw mut fault) };
         look(code, fault, self.rules)
     }
 }

@@ -1,6 +1,7 @@
 //! Calls the library from safe Rust.
 
-use tulvorn::{Fed, Kind, Module, Reason, Rules, Skipped, Why};
+use std::sync::OnceLock;
+use tulvorn::{Budget, Fed, Kind, Module, Reason, Rules, Skipped, Type, Why};
 
 const MODULE: &str = "M DEFINITIONS AUTOMATIC TAGS ::= BEGIN
 Msg ::= SEQUENCE { id INTEGER (0..7), ok BOOLEAN DEFAULT TRUE, note IA5String (SIZE (0..3)) OPTIONAL }
@@ -96,7 +97,7 @@ fn tells_faults() {
     assert_eq!(reason(msg.read_json(r#"{"id":9}"#)), Reason::NotOfType);
     assert_eq!(reason(module.ty("Other")), Reason::NoName);
     assert_eq!(reason(Module::read("M")), Reason::NoModule { at: 1 });
-    assert_eq!(tulvorn::interface(), 1);
+    assert_eq!(tulvorn::interface(), 2);
     assert!(tulvorn::version().starts_with("0.1.0"));
 }
 
@@ -182,5 +183,48 @@ fn shares_a_type_between_threads() {
     drop(msg);
     for thread in threads {
         assert!(thread.join().unwrap());
+    }
+}
+
+#[test]
+fn threads_use_one_type_and_one_value() {
+    static MSG: OnceLock<Type> = OnceLock::new();
+    let msg = MSG.get_or_init(|| Module::read(MODULE).unwrap().ty("Msg").unwrap());
+    let value = msg.read_json(r#"{"id":5,"note":"A"}"#).unwrap();
+    std::thread::scope(|scope| {
+        for _ in 0..4 {
+            scope.spawn(|| {
+                for _ in 0..5000 {
+                    assert!(msg.check(Rules::Per, &[0x10]).is_ok());
+                    assert_eq!(value["id"].as_i64(), Some(5));
+                    assert_eq!(value.at("note").as_text().as_deref(), Some("A"));
+                }
+            });
+        }
+    });
+}
+
+#[test]
+fn errors_have_the_words_of_the_library() {
+    let error = Module::read("M DEFINITIONS AUTOMATIC TAGS ::= BEGIN\nT ::= U\nEND").err().unwrap();
+    assert!(matches!(error.reason, Reason::NoModule { .. }));
+    assert!(error.to_string().starts_with("line 2, column 7: "), "{error}");
+    assert!(format!("{error:?}").contains("line 2, column 7: "));
+    let msg = Module::read(MODULE).unwrap().ty("Msg").unwrap();
+    let error = msg.read_json(r#"{"id":5,"ok":1}"#).err().unwrap();
+    assert_eq!((error.to_string().as_str(), error.reason), ("not of the type's shape at $.ok", Reason::Shape));
+}
+
+#[test]
+fn values_are_bounded_by_a_budget() {
+    let msg = Module::read(MODULE).unwrap().ty("Msg").unwrap();
+    let octets = [0x40, 5, 1, b'A'];
+    // the SEQUENCE, its three components, and the octet of a string
+    let budget = Budget { entries: 4, octets: 1 };
+    assert!(msg.check_within(Rules::Oer, &octets, budget).is_ok());
+    assert_eq!(msg.decode_within(Rules::Oer, &octets, budget).unwrap().at("id").as_i64(), Some(5));
+    for less in [Budget { entries: 3, octets: 1 }, Budget { entries: 4, octets: 0 }] {
+        assert_eq!(reason(msg.check_within(Rules::Oer, &octets, less)), Reason::OverBudget);
+        assert_eq!(reason(msg.decode_within(Rules::Oer, &octets, less)), Reason::OverBudget);
     }
 }

@@ -32,6 +32,7 @@ use Rattle.asn_oer.specs.LeafReading.{ItemBegins}
 use Rattle.asn_oer.specs.Oer.{oer, oer_fields, item_number}
 use Rattle.asn_oer.proofs.Encodings.SpeltLeaves.{item_short}
 use Rattle.asn_oer.proofs.Encodings.Whole.{oer_part}
+use Rattle.asn_oer.proofs.Plan.OctetsRead.{packed_number}
 use Rattle.asn_oer.proofs.Write.WrittenItems.{item_narrow, long_form}
 
 -- ---- octets of a number
@@ -244,3 +245,12 @@ item_at_once root more good us after p n there small number split =
     whole =
         ap (λ (z : ℤ). item_number z) number ∙ short ∙ sym (one_is n (omega (arith, small))) ∙ ap (λ (m : ℕ). octets 1 m) same
         ∙ sym (append-nil (octets 1 (256 * 0 + n)))
+
+-- an item whose octets were taken as one number
+pub item_taken : (root : List Label) (more : MoreLabels) (e : Option ℕ) → InProfile (enumerated root more) → (p k n : ℕ) (us after : List ℕ)
+    → p < length (root ++ more_labels more) → IsOther (option_map item e) (item p) → item_number (number_at (root ++ more_labels more) p) ≡ octets k n
+    → us ≡ bits (8 * k) n ++ after → Spells oer_fields (Spelt oer (option_map item e) (enumerated root more)) (item p) (packed us) (packed after)
+item_taken root more e good p k n us after there other whole split =
+    let begins : ItemBegins (root ++ more_labels more) e p (octets k n) [] = record { there = there; other = other; whole = whole ∙ sym (append-nil (octets k n)) } in
+    let front : packed us ≡ octets k n ++ packed after = ap packed split ∙ packed_number k n after in
+    subst (λ (l : List ℕ). Spells oer_fields (Spelt oer (option_map item e) (enumerated root more)) (item p) l (packed after)) (sym front) (item_done root more e good p (octets k n) (packed after) begins)

@@ -13,7 +13,7 @@ use Rattle.asn_rules.specs.Listed.{Spelt}
 use Rattle.asn_rules.proofs.Languages.Parts.{contents-ones}
 use Rattle.asn_rules.proofs.Live.Flat.{flat-ones}
 use Rattle.asn_walk.specs.Coding.{PreambleOf}
-use Rattle.asn_plan.specs.Enumerations.{IsEnumeration, root_items_of, other_items_of}
+use Rattle.asn_plan.specs.Enumerations.{IsEnumeration, HasIndex, root_items_of, other_items_of}
 use Rattle.asn_plan.specs.Words.{units_in, before}
 use Rattle.asn_plan.specs.declared.enumeration.Enumeration.{Enumeration}
 use Rattle.asn_plan.specs.declared.word.Word.{Word}
@@ -21,6 +21,7 @@ use Rattle.asn_plan.proofs.RootItems.{enumerated_is, root_items}
 use Rattle.asn_per.specs.Kinds.{position_of}
 use Rattle.asn_per.specs.Per.{per, per_fields, spelled}
 use Rattle.asn_per.specs.Walk.{per_coding}
+use Rattle.asn_per.proofs.Law.Enumerations.{rank_inside}
 use Rattle.asn_per.proofs.Read.AtOnce.{item_first}
 use Rattle.asn_per.proofs.Read.PreambleReading.{marked_preamble}
 use Rattle.asn_per.proofs.Types.Ranks.{place_back}
@@ -74,18 +75,18 @@ truth_first n us r few e = record {
   split = e ∙ ap (λ (t : List ℕ). t ++ r) (bit_first n few);
 }
 
--- an item of the root, where these stand in the order of their numbers
-pub ordered_first : (e : Enumeration) (n : ℕ) (us r : List ℕ) → IsEnumeration e → n ≤ e.highest → us ≡ bits e.bits n ++ r
-    → Spells per_fields (Spelt per None (shape_of e.ty)) (item n) us r
-ordered_first e n us r good few split =
+-- the item of the root that has this index
+pub item_indexed : (e : Enumeration) (p n : ℕ) (us r : List ℕ) → IsEnumeration e → HasIndex (root_items_of (shape_of e.ty)) p n → us ≡ bits e.bits n ++ r
+    → Spells per_fields (Spelt per None (shape_of e.ty)) (item p) us r
+item_indexed e p n us r good has split =
     let root = root_items_of (shape_of e.ty) in
     let more = other_items_of (shape_of e.ty) in
     let type_is = enumerated_is (shape_of e.ty) good.is in
     let inside_profile : InProfile (enumerated root more) = subst InProfile type_is good.of_profile in
     let items = root_items root more inside_profile in
-    let inside : n < length root = omega (arith, few, good.count) in
-    let place : position_of root n ≡ n = ap (position_of root) (sym (good.ordered n inside)) ∙ place_back root items.once n inside in
+    let inside : n < length root = subst (λ (k : ℕ). k < length root) has.1 (rank_inside root p has.0) in
+    let place : position_of root n ≡ p = ap (position_of root) (sym has.1) ∙ place_back root items.once p has.0 in
     let front : us ≡ bits (bit_of (has_more_labels more) + width (length root)) n ++ r = split ∙ ap (λ (k : ℕ). bits k n ++ r) good.bits in
     let read : Spells per_fields (Spelt per None (enumerated root more)) (item (position_of root n)) us r = item_first root more (bit_of (has_more_labels more)) n us r inside_profile refl inside front in
-    let same : Spells per_fields (Spelt per None (enumerated root more)) (item n) us r = subst (λ (p : ℕ). Spells per_fields (Spelt per None (enumerated root more)) (item p) us r) place read in
-    subst (λ (t : Shape). Spells per_fields (Spelt per None t) (item n) us r) (sym type_is) same
+    let same : Spells per_fields (Spelt per None (enumerated root more)) (item p) us r = subst (λ (q : ℕ). Spells per_fields (Spelt per None (enumerated root more)) (item q) us r) place read in
+    subst (λ (t : Shape). Spells per_fields (Spelt per None t) (item p) us r) (sym type_is) same

@@ -13,4 +13,4 @@ pub returns-in-Convert : goal.returns-in-Convert
 returns-in-Convert g c =
     let octets : decode_of c.args.line.now ≡ Ok c.as_slice-octets.result.now = search rules in
     rw c.in-Convert.is
-    (IfOk-weaker c.convert_octets.result _ _ (λ r. convert_reply g.A.Rules.ruling g.B.Rules.ruling g.A.OtherVersions.loose c.args.rules c.args.planned.now c.args.line.now c.as_slice-octets.result.now r octets) (rw c.get-ty.ensures at c.convert_octets.ensures))
+    (IfOk-weaker c.convert_octets.result _ _ (λ r. convert_reply g.A.Rules.ruling g.B.Rules.ruling g.A.OtherVersions.loose c.args.rules c.args.planned.now c.args.line.now c.as_slice-octets.result.now r octets) c.convert_octets.ensures)

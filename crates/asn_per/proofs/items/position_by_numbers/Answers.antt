@@ -10,7 +10,7 @@ use Rattle.asn_per.specs.Per.{rank}
 use Rattle.asn_plan.proofs.RootItems.{item_kept}
 use Rattle.asn_per.proofs.Read.ItemIndexes.{just_below, IsSought, sought_starts, sought_found, sought_not_above, sought_not_below, sought_above, sought_below, sought_under, sought_over, sought_ends}
 use Rattle.asn_per.proofs.items.position_by_numbers.Goals as goal
-use Rattle.asn_per.proofs.items.position_by_numbers.Goals.{then-above-next+then-next-below+then-rank-index, then-above-next+then-next-below+else-rank-index, else-above-next, then-above-item+then-item-below+else-lower-index+then-lower-index-2, then-above-item+then-item-below+else-lower-index+else-lower-index-2, else-above-item, else-above-item-via-then-above-item+else-item-below, else-above-item-via-else-above-item}
+use Rattle.asn_per.proofs.items.position_by_numbers.Goals.{then-above-next+then-next-below+then-count-index, then-above-next+then-next-below+else-count-index, else-above-next, then-above-item+then-item-below+else-lower-index+then-lower-index-2, then-above-item+then-item-below+else-lower-index+else-lower-index-2, else-above-item, else-above-item-via-then-above-item+else-item-below, else-above-item-via-else-above-item}
 
 pub loop-turn-init : goal.loop-turn-init
 loop-turn-init c = sought_starts (map label_of c.args.root.now) c.requires.good c.args.index (simp length-map c.requires.inside)
@@ -25,12 +25,12 @@ loop-turn-preserved c =
     let s : IsSought ls c.args.index 0 a b = c.loop-turn.invariant in
     let z = to_z w64 (of_z w64 c.probe-next.result) in
     elim c.if-above-next.branch [
-      | then-above-next+then-next-below+then-rank-index w ↦
-          rw (w.above-is, w.below-is) (sought_under ls good c.args.index inside 0 a b s z (subst (λ r. c.args.index < r) w.rank.ensures w.if-rank-index.true))
-      | then-above-next+then-next-below+else-rank-index w ↦ (
+      | then-above-next+then-next-below+then-count-index w ↦
+          rw (w.above-is, w.below-is) (sought_under ls good c.args.index inside 0 a b s z (subst (λ r. c.args.index < r) w.rank-count.ensures w.if-count-index.true))
+      | then-above-next+then-next-below+else-count-index w ↦ (
           let y = to_z w64 (of_z w64 (z -ℤ pos 1)) in
           let before : y ≡ z -ℤ pos 1 = grind (arith, ints, w.if-above-next.true) in
-          let few : rank ls z ≤ c.args.index = subst (λ r. r ≤ c.args.index) w.rank.ensures w.if-rank-index.false in
+          let few : rank ls z ≤ c.args.index = subst (λ r. r ≤ c.args.index) w.rank-count.ensures w.if-count-index.false in
           rw (w.above-is, w.below-is) (sought_over ls good c.args.index inside 0 a b s y z (λ x. just_below y z x before) few)
           )
       | else-above-next w ↦ rw (w.above-is, w.below-is) s

@@ -13,4 +13,5 @@ returns c = (
   c.versions_in.ensures,
   flag (found_of c.args.options.now) (codes "stats") c.get_flag-2.result c.get_flag-2.ensures.none c.get_flag-2.ensures.value c.get_flag-2.ensures.other,
   c.budget_in.ensures,
+  flag (found_of c.args.options.now) (codes "accept-wider") c.get_flag-3.result c.get_flag-3.ensures.none c.get_flag-3.ensures.value c.get_flag-3.ensures.other,
 )

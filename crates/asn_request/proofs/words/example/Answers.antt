@@ -11,8 +11,9 @@ returns-clause-shape c =
     let new_is : app_of c.after_help.result ≡ new_app (codes "example") = ap app_of_fields c.after_help.ensures ∙ (ap app_of_fields c.about.ensures ∙ c.new.ensures.app) in
     let one = c.in_ok-arg.ensures.shape c.type_option.ensures.local ∙ ap₂ with_rule new_is c.type_option.ensures.rule in
     let two = c.in_ok-arg-2.ensures.shape c.number_option-seed.ensures.local ∙ ap₂ with_rule one c.number_option-seed.ensures.rule in
-    let three = c.in_ok-command.ensures.shape c.number_option-count.ensures.local ∙ ap₂ with_rule two c.number_option-count.ensures.rule in
-    let source = c.in_ok-command-2.ensures.shape ∙ ap (λ a. with_rules a source_rules) three in
+    let three = c.in_ok-arg-3.ensures.shape c.number_option-count.ensures.local ∙ ap₂ with_rule two c.number_option-count.ensures.rule in
+    let four = c.in_ok-command.ensures.shape c.budget_option-budget.ensures.local ∙ ap₂ with_rule three c.budget_option-budget.ensures.rule in
+    let source = c.in_ok-command-2.ensures.shape ∙ ap (λ a. with_rules a source_rules) four in
     IfOk-weaker c.with_leave.result _ _ (λ d h. ap (λ (a : App). a.top) (h ∙ ap (λ a. with_rules a leave_rules) source)) c.with_leave.ensures.shape
 
 pub returns-clause-local : goal.returns-clause-local
@@ -20,5 +21,6 @@ returns-clause-local c =
     let new_local : (out-Command c.after_help.result).has_globals ≡ false = ap (λ f. f.has_globals) c.after_help.ensures ∙ (ap (λ f. f.has_globals) c.about.ensures ∙ c.new.ensures.local) in
     let one : (out-Command c.in_ok-arg.field-0).has_globals ≡ false = c.in_ok-arg.ensures.globals ∙ ap₂ (λ a b. a || b) new_local c.type_option.ensures.local in
     let two : (out-Command c.in_ok-arg-2.field-0).has_globals ≡ false = c.in_ok-arg-2.ensures.globals ∙ ap₂ (λ a b. a || b) one c.number_option-seed.ensures.local in
-    let three : (out-Command c.in_ok-command.command).has_globals ≡ false = c.in_ok-command.ensures.globals ∙ ap₂ (λ a b. a || b) two c.number_option-count.ensures.local in
-    c.with_leave.ensures.local (c.in_ok-command-2.ensures.local three)
+    let three : (out-Command c.in_ok-arg-3.field-0).has_globals ≡ false = c.in_ok-arg-3.ensures.globals ∙ ap₂ (λ a b. a || b) two c.number_option-count.ensures.local in
+    let four : (out-Command c.in_ok-command.command).has_globals ≡ false = c.in_ok-command.ensures.globals ∙ ap₂ (λ a b. a || b) three c.budget_option-budget.ensures.local in
+    c.with_leave.ensures.local (c.in_ok-command-2.ensures.local four)

@@ -15,8 +15,9 @@ returns-clause-shape c =
     let source = c.in_ok-command-2.ensures.shape ∙ ap (λ a. with_rules a source_rules) two in
     let messages = c.in_ok-with_messages.ensures.shape in
     let given = messages.2 ∙ ap (λ a. with_rules a (message_rules messages.0)) source in
-    let page = c.in_ok-command-3.ensures.shape c.flag-html.ensures.local ∙ ap₂ with_rule given c.flag-html.ensures.rule in
-    IfOk-weaker c.with_leave.result _ _ (λ d h. (rules.0, messages.0, rules.1, messages.1, ap (λ (a : App). a.top) (h ∙ ap (λ a. with_rules a leave_rules) page))) c.with_leave.ensures.shape
+    let page = c.in_ok-arg-2.ensures.shape c.flag-html.ensures.local ∙ ap₂ with_rule given c.flag-html.ensures.rule in
+    let bound = c.in_ok-command-3.ensures.shape c.budget_option-budget.ensures.local ∙ ap₂ with_rule page c.budget_option-budget.ensures.rule in
+    IfOk-weaker c.with_leave.result _ _ (λ d h. (rules.0, messages.0, rules.1, messages.1, ap (λ (a : App). a.top) (h ∙ ap (λ a. with_rules a leave_rules) bound))) c.with_leave.ensures.shape
 
 pub returns-clause-local : goal.returns-clause-local
 returns-clause-local c =
@@ -24,4 +25,5 @@ returns-clause-local c =
     let one : (out-Command c.in_ok-arg.field-0).has_globals ≡ false = c.in_ok-arg.ensures.globals ∙ ap₂ (λ a b. a || b) new_local c.type_option.ensures.local in
     let two : (out-Command c.in_ok-command.command).has_globals ≡ false = c.in_ok-command.ensures.globals ∙ ap₂ (λ a b. a || b) one c.rules_option.ensures.local in
     let three = c.in_ok-with_messages.ensures.local (c.in_ok-command-2.ensures.local two) in
-    c.with_leave.ensures.local (c.in_ok-command-3.ensures.globals ∙ ap₂ (λ a b. a || b) three c.flag-html.ensures.local)
+    let page : (out-Command c.in_ok-arg-2.field-0).has_globals ≡ false = c.in_ok-arg-2.ensures.globals ∙ ap₂ (λ a b. a || b) three c.flag-html.ensures.local in
+    c.with_leave.ensures.local (c.in_ok-command-3.ensures.globals ∙ ap₂ (λ a b. a || b) page c.budget_option-budget.ensures.local)

@@ -27,16 +27,20 @@ returns-in_err-octet-clause-kept g c =
     let w : c.in_err-octet.field-0.0 ≡ stop.Short = cc (p.1, p.2, e) in
     (octet_ahead g.R.ReadLeaves.rules c.keep_laws.ensures c.keep_feed_laws.ensures (g.K.InFragments.coding c.args.kind.now) c.keep_octet_laws.ensures g.R.ReadLeaves.ahead g.R.ReadLeaves.is_between c.loop-octets.octets all (g.R.ReadLeaves.rules.to_units c.loop-octets.units) c.loop-octets-test.true (c.loop-octets.invariant.0 all h)).kept _ (g.R.ReadLeaves.rules.to_units c.feed_leaf.new.units) refl refl refl c.feed_leaf.ensures.begun (rw w at c.in_err-octet.ensures.kept) (rw w at c.in_err-octet.ensures.after) (rw w at c.in_err-octet.ensures.stop)
 
+pub take_run-requires : goal.take_run-requires
+take_run-requires g c =
+    record { good = c.requires.good; fresh = c.none-octets.ensures; at_unit = c.feed_leaf.ensures.at_unit; few = omega (arith, c.loop-octets.invariant.1, c.requires.few, c.feed_leaf.ensures.ticked) }
+
 pub loop-octets-preserved : goal.loop-octets-preserved
 loop-octets-preserved g c =
     let inv = c.loop-octets.invariant in (
-      λ all h. (octet_ahead g.R.ReadLeaves.rules c.keep_laws.ensures c.keep_feed_laws.ensures (g.K.InFragments.coding c.args.kind.now) c.keep_octet_laws.ensures g.R.ReadLeaves.ahead g.R.ReadLeaves.is_between c.loop-octets.octets all (g.R.ReadLeaves.rules.to_units c.loop-octets.units) c.loop-octets-test.true (c.loop-octets.invariant.0 all h)).more _ c.in_ok-octet.octet (g.R.ReadLeaves.rules.to_units c.feed_leaf.new.units) (omega (arith, c.loop-octets-test.true)) refl c.none-octets.ensures c.in_ok-push.ensures.items c.in_ok-octet.ensures.done,
-      omega (arith, inv.1, c.feed_leaf.ensures.ticked),
-      c.feed_leaf.ensures.at_unit,
-      inv.3,
-      omega (arith, inv.4, c.feed_leaf.ensures.ticked, c.feed_leaf.ensures.rising),
-      omega (arith, inv.5, c.feed_leaf.ensures.rising),
-      c.feed_leaf.ensures.inside ∙ inv.6,
+      λ all h. c.in_ok-take_run.ensures.done all ((octet_ahead g.R.ReadLeaves.rules c.keep_laws.ensures c.keep_feed_laws.ensures (g.K.InFragments.coding c.args.kind.now) c.keep_octet_laws.ensures g.R.ReadLeaves.ahead g.R.ReadLeaves.is_between c.loop-octets.octets all (g.R.ReadLeaves.rules.to_units c.loop-octets.units) c.loop-octets-test.true (c.loop-octets.invariant.0 all h)).more _ c.in_ok-octet.octet (g.R.ReadLeaves.rules.to_units c.feed_leaf.new.units) (omega (arith, c.loop-octets-test.true)) refl c.none-octets.ensures c.in_ok-push.ensures.items c.in_ok-octet.ensures.done),
+      omega (arith, inv.1, c.feed_leaf.ensures.ticked, c.take_run.ensures.ticked),
+      c.take_run.ensures.at_unit,
+      c.take_run.ensures.fragments ∙ inv.3,
+      omega (arith, inv.4, c.feed_leaf.ensures.ticked, c.feed_leaf.ensures.rising, c.take_run.ensures.shorter),
+      omega (arith, inv.5, c.feed_leaf.ensures.rising, c.take_run.ensures.rising),
+      c.take_run.ensures.inside ∙ c.feed_leaf.ensures.inside ∙ inv.6,
     )
 
 pub returns-then-all_are_taken-clause-stop : goal.returns-then-all_are_taken-clause-stop

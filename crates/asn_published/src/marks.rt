@@ -1,0 +1,74 @@
+//! What of a value is not looked at as the published type has it.
+use crate::looking::Search;
+use asn_published_types::report::Remark;
+use asn_published_types::steps::Marked;
+use asn_values::{Checked, Value};
+use std::alloc::{AllocError, Global};
+
+/// The parts of a type of the profile whose values are not looked at as the published type has them, and where its recursion
+/// ends.
+#[derive(Drop)]
+pub struct Marks {
+    types: Vec<Marked>,
+    /// The index of the type.
+    start: usize,
+    levels: u32,
+}
+
+/// A part of a value that is not looked at: its path, as `$.list[3].x`, and the remark on its type.
+#[derive(Drop)]
+pub struct Place {
+    pub path: String,
+    pub remark: Remark,
+}
+
+/// What of a value is not looked at.
+#[derive(Drop)]
+pub struct Looked {
+    /// The first part, in the order of the type, and how many others there are.
+    pub first: Option<Place>,
+    pub others: usize,
+    /// Whether the value goes on where recursion ends, so that it is none of the published type.
+    pub is_deeper: bool,
+}
+
+impl Marks {
+    /// The marks of the type at an index among these; `None` where it has none.
+    pub(crate) fn of(types: Vec<Marked>, start: usize, levels: u32) -> Option<Marks> {
+        match types.get(start) {
+            Some(one) if !one.steps.is_empty() => {}
+            _ => return None,
+        }
+        Some(Marks {
+            types,
+            start,
+            levels,
+        })
+    }
+
+    /// How many levels a recursive type has, where recursion ends in the type.
+    pub fn levels(&self) -> Option<u32> {
+        match self.types.get(self.start) {
+            Some(one) if one.has_bottom => Some(self.levels),
+            _ => None,
+        }
+    }
+
+    /// What is not looked at of a value of the type, which was read of an encoding of PER, or of OER. A component that is
+    /// its DEFAULT has no encoding, and is passed over.
+    ///
+    /// # Errors
+    /// `AllocError` where an allocation failed.
+    pub fn look<'v>(
+        &'v self,
+        alloc: Global,
+        ty: &'v Checked,
+        value: &'v Value,
+        is_oer: bool,
+    ) -> Result<Looked, AllocError> {
+        let mut search = Search::new(alloc, self.types.as_slice(), is_oer);
+        search.arrive(alloc, ty.get(), value, self.start, 0)?;
+        search.go_on(alloc)?;
+        Ok(search.finish())
+    }
+}

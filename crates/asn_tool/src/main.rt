@@ -10,6 +10,7 @@ mod marking;
 mod messages;
 mod running;
 mod streaming;
+mod writing;
 
 use asn_jobs::refusal_ending;
 use asn_module_files::{Stop, flatten_files};
@@ -21,8 +22,8 @@ use std::process::ExitCode;
 use std::{env, io};
 
 /// Does what the words after the program's name ask for. The exit status is 0 where all is well, after help and the
-/// version too; 1 where a line or a type is refused; 2 where the words, a text or the module is; and 3 where reading,
-/// writing or memory failed; and 4 where no line is refused, and of one a part is not looked at.
+/// version too; 1 where a line or a type is refused; 2 where the words, a text or the module is; 3 where reading, writing
+/// or memory failed; and 4 where no line is refused, and of one a part is not looked at.
 fn main(rt: HostRuntime) -> ExitCode {
     match words_of(&rt) {
         Ok(words) => do_words(&rt, words.as_slice()),

@@ -1,9 +1,8 @@
 //! Lines of a published type that has marks: where a part of a message is not looked at, the answer says so.
-use crate::answering::{
-    Answers, Asked, answer_to, put_answer, put_refusal, tell, tell_why, text_in,
-};
+use crate::answering::{Answers, Asked, answer_to, put_answer, tell_why};
 use crate::budget::Answered;
 use crate::marked::{answer_beside, deeper_text, refusal_beside, unlooked_words};
+use crate::writing::{put_refusal, tell, text_in};
 use asn_convert::{Order, RuleName, RunFault};
 use asn_jobs::Place;
 use asn_look::value_of_digits;

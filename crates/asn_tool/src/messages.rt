@@ -1,6 +1,7 @@
 //! Messages that are answered one after the other.
-use crate::answering::{Answers, Asked, answer_one, refuse_dump, refuse_text};
+use crate::answering::{Answers, Asked, answer_one};
 use crate::streaming::answer_stream;
+use crate::writing::{refuse_dump, refuse_text};
 use asn_jobs::{OctetForm, Place, RunFault, is_dump, next_text, octets_in};
 use asn_look::front_len;
 use std::io::{BufRead, Write};

@@ -5,9 +5,9 @@ usage: tests/edits/edits.py CRATE..       tries all edits of these crates, and n
        tests/edits/edits.py CRATE/EDIT..  tries these edits, and notes nothing
        tests/edits/edits.py --all         tries all edits of all crates, and notes the same
        tests/edits/edits.py --due         tries the crates that are due, as the gate does; with --note it notes them
-       tests/edits/edits.py --due --beside   the same: each crate once its name is read from the input
-       tests/edits/edits.py --note CRATE..   notes these crates, and tries nothing
-       tests/edits/edits.py --list [CRATE..] lists the edits with the functions that they change, and which crates are due
+       tests/edits/edits.py --due --beside    tries the same, each crate once its name is read from the input
+       tests/edits/edits.py --note CRATE..    notes these crates, and tries nothing
+       tests/edits/edits.py --list [CRATE..]  lists the edits, the functions that they change, and the crates that are due
 
 The edits of a crate are in tests/edits/CRATE.edits, one stanza each:
 
@@ -19,7 +19,7 @@ The edits of a crate are in tests/edits/CRATE.edits, one stanza each:
     weak: reason
 
 A line that begins with `+ ` continues the text above it. `file:`, `old:` and `new:` may repeat, and `new:` may be empty.
-Without `by:` the goals of the functions count in whose bodies the old texts are. With `by:` those of the named functions
+Without `by:` the goals count of the functions whose bodies have the old texts. With `by:` those of the named functions
 count, by the names that the checker prints. An edit outside bodies is checked alone. An edit with `weak:` is not tried:
 no goal is known that refuses it.
 
@@ -98,8 +98,9 @@ def cycle_of(path, text, at):
 def cycle_of_named(name, folder, paths):
     """The cycle of the function that the checker calls so, in one of these files, or None."""
     texts = [(it, text_of(f"{folder}/{it}")) for it in paths if it.startswith("src/")]
-    heads = [(path, text, it) for path, text in texts for it in HEAD.finditer(text) if it[2] == name.rpartition("::")[2]]
-    return next((cycle for path, text, it in heads for cycle in [cycle_of(path, text, it.start())] if cycle), None)
+    last = name.rpartition("::")[2]
+    heads = [(path, text, it.start()) for path, text in texts for it in HEAD.finditer(text) if it[2] == last]
+    return next(filter(None, (cycle_of(*it) for it in heads)), None)
 
 
 # ---- edits
@@ -196,14 +197,21 @@ def groups_of(edits, rule):
 # ---- what a check says
 
 LINE = re.compile(r"fn (\S+): (proved|not proved|no proof)(.*)")
-NOTE = re.compile(r"note: src/\S+: .*not proved.*\(`([^`]*)`\)")
+NOTE = re.compile(r"note: src/\S+: .*not proved.*\(`([^`]*)`\)(.*)")
 ERROR = re.compile(r"(?:\./)?proofs/(\S+)/\w+\.antt:\d+:\d+: error: (?:`([^`]*)`: )?(.*)")
+IS_FALSE = "allow values at which this goal is false"
 NAMED = re.compile(r"has no field|is not in scope|has no `|not admitted|no name|nearest: ")
 BROKEN = re.compile(r"no occurrence|not a goal|no goal|arguments|is no function|cannot be applied|no case|pattern")
+KINDS = ("refused", "broken", "named", "waits", "silent", "NOT REFUSED")
+
+
+def first_of(verdicts):
+    """The verdict that counts most."""
+    return min(verdicts, key=lambda it: KINDS.index(it[0]))
 
 
 class Report:
-    """What a check says: of each function its line, and the goals that are not proved with the kind of each."""
+    """What a check says: the line of each function, its goals that are not proved, and the errors in proofs by hand."""
 
     def __init__(self, said):
         self.lines, self.notes, self.errors, above = {}, {}, [], []
@@ -212,54 +220,59 @@ class Report:
             if of_function:
                 searched = re.search(r"`search` did not prove ((?:`[^`]*`(?:, )?)+)", of_function[3])
                 self.lines[of_function[1]] = of_function[2], of_function[3]
-                self.notes[of_function[1]] = above + (re.findall(r"`([^`]*)`", searched[1]) if searched else [])
+                names = re.findall(r"`([^`]*)`", searched[1]) if searched else []
+                self.notes[of_function[1]] = above + [(it, False) for it in names]
                 above = []
             elif note:
-                above.append(note[1])
+                above.append((note[1], IS_FALSE in note[2]))
             elif error:
                 kind = "named" if NAMED.search(error[3]) else "broken" if BROKEN.search(error[3]) else "refused"
                 self.errors.append((error[1], kind, error[2] or "", error[3]))
 
     def of(self, functions):
-        """The verdict over an edit of these functions, and why: one goal that refuses it is enough."""
-        found = [self.of_function(*it) for it in functions] if functions else [self.of_path(it, None) for it in self.lines]
-        order = ("refused", "broken", "named", "waits", "silent", "NOT REFUSED")
-        return min(found or [("silent", "the check says nothing")], key=lambda it: order.index(it[0]))
+        """The verdict over an edit of these functions, and why. One goal that refuses it is enough."""
+        if functions:
+            return first_of([self.of_function(*it) for it in functions])
+        return first_of([("silent", "the check says nothing"), *(self.of_path(it, None) for it in self.lines)])
 
     def of_function(self, function, cycle):
         paths = [it for it in self.lines if f"::{it}".endswith(f"::{function}")]
         if len(paths) != 1:
-            return "silent", f"the check knows it as {' and '.join(paths)}" if paths else f"the check says nothing of {function}"
+            return "silent", f"the check says nothing of {function}, or knows several: {' '.join(paths)}"
         # (closures of a::f are a::fn::f::NAME)
         front, _, last = paths[0].rpartition("::")
         closures = [it for it in self.lines if it.startswith(f"{front}::fn::{last}::")]
-        found = [self.of_path(it, cycle) for it in (paths[0], *closures)]
-        order = ("refused", "broken", "named", "waits", "NOT REFUSED")
-        return min(found, key=lambda it: order.index(it[0]))
+        return first_of([self.of_path(it, cycle) for it in (paths[0], *closures)])
 
     def of_path(self, path, cycle):
         verdict, more = self.lines[path]
         if verdict == "proved":
             return "NOT REFUSED", "its function is proved"
-        last = path.rpartition("::")[2]
-        is_own = (lambda goal: goal.split("-")[0].split("::")[-1] == last) if cycle else bool
-        for goal in filter(is_own, self.notes[path]):
-            return "refused", f"`{goal}`"
-        home = path.partition("::")[2].replace("::", "/")
+        last, home = path.rpartition("::")[2], path.partition("::")[2].replace("::", "/")
         homes = home, f"{os.path.dirname(home)}/+{last}".removeprefix("/")
-        found = [it for it in self.errors if it[0] in homes or cycle and os.path.basename(it[0]).startswith("+") and is_own(it[2])]
-        if found:
-            _, kind, goal, text = min(found, key=lambda it: ("refused", "broken", "named").index(it[1]))
-            return kind, f"`{goal}`: {text[:160]}"
-        return "waits", "it calls a function that is not proved" if "it calls" in more else "no goal of its own is not proved"
+
+        # (in a cycle the goal of a function begins with its name)
+        def is_own(goal):
+            return not cycle or goal.split("-")[0].split("::")[-1] == last
+
+        notes = sorted((not is_false, goal) for goal, is_false in self.notes[path] if is_own(goal))
+        is_home = lambda it: it in homes or cycle and os.path.basename(it).startswith("+")
+        errors = [(kind, f"`{goal}`: {text[:200]}") for at, kind, goal, text in self.errors if is_home(at) and is_own(goal)]
+        if notes and (not notes[0][0] or all(kind == "refused" for kind, _ in errors)):
+            # (where a proof by hand no longer fits, a goal counts only if it is known to be false)
+            return "refused", f"`{notes[0][1]}`"
+        if errors:
+            return first_of(errors)
+        return "waits", "it calls a function that is not proved" if "it calls" in more else "no goal of its own is open"
 
 
 # ---- checks
 
 
-def lanes():
-    """How many checks run side by side: `RT_JOBS`, or as many as there are processors and memory."""
-    return int(os.environ.get("RT_JOBS", "0")) or max(1, min(rt.processors(), int(rt.free() // MEMORY)))
+def lanes(is_beside):
+    """How many checks run side by side: `RT_JOBS`, or as processors and memory allow. Proofs get half the processors."""
+    number = rt.processors() // (2 if is_beside else 1)
+    return int(os.environ.get("RT_JOBS", "0")) or max(1, min(number, int(rt.free() // MEMORY)))
 
 
 def checked(crate, edits, kept):
@@ -272,7 +285,8 @@ def checked(crate, edits, kept):
         for path, text in applied(edits).items():
             with open(f"{room}/{path}", "w", encoding="utf-8") as it:
                 it.write(text)
-        words = [*rtlib.guarded(), rtlib.RATTLE, "check", *crate.words(["--jobs", "1", *only], keeps=False), "--incremental", kept]
+        words = crate.words(["--jobs", "1", *only], keeps=False)
+        words = [*rtlib.guarded(), rtlib.RATTLE, "check", *words, "--incremental", kept]
         how = {"cwd": room, "stdin": subprocess.DEVNULL, "stdout": subprocess.PIPE, "stderr": subprocess.STDOUT}
         with subprocess.Popen(words, text=True, errors="replace", **how) as ran:
             if edits:
@@ -286,7 +300,8 @@ class Tries:
 
     def __init__(self, crate, edits):
         self.crate, self.seed, self.checks = crate, None, 0
-        self.verdicts = {it: ("bad edit", it.fault) if it.fault else ("weak", it.weak) for it in edits if it.fault or it.weak}
+        self.verdicts = {it: ("bad edit", it.fault) for it in edits if it.fault}
+        self.verdicts.update({it: ("weak", it.weak) for it in edits if it.weak and not it.fault})
         self.left = [it for it in edits if it not in self.verdicts]
 
     def run(self, pool):
@@ -351,7 +366,8 @@ def hashes():
         lines = git("ls-tree", git("write-tree").strip(), "crates/", f"{FOLDER}/").splitlines()
     found = {path: words.split()[2] for words, _, path in (it.partition("\t") for it in lines)}
     names = [os.path.basename(it) for it in found if it.startswith("crates/")]
-    return {it: (found[f"crates/{it}"], found[f"{FOLDER}/{it}.edits"]) for it in names if f"{FOLDER}/{it}.edits" in found}
+    pairs = {it: (found[f"crates/{it}"], found.get(f"{FOLDER}/{it}.edits")) for it in names}
+    return {name: two for name, two in pairs.items() if two[1]}
 
 
 def noted():
@@ -369,7 +385,7 @@ def note(passed, failed, now):
     known = {name: two for name, two in noted().items() if name in now and name not in failed}
     known.update({name: now[name] for name in passed})
     with open(f"{TOP}/{TRIED}", "w", encoding="utf-8") as it:
-        it.write("# A crate whose edits were tried, and git's hashes of its folder and its edits; edits.py writes it.\n")
+        it.write("# Crates whose edits were tried, and git's hashes of their folders and edits. edits.py writes it.\n")
         it.writelines(f"{name} {' '.join(known[name])}\n" for name in sorted(known))
 
 
@@ -408,7 +424,7 @@ def try_all(crates, edits, is_beside):
     if not is_beside:
         share_work()
     pairs = proved_names(crates) if is_beside else ((it, build_below(it)) for it in crates)
-    with ThreadPoolExecutor(lanes()) as pool, ThreadPoolExecutor(max(len(crates), 1)) as drivers:
+    with ThreadPoolExecutor(lanes(is_beside)) as pool, ThreadPoolExecutor(max(len(crates), 1)) as drivers:
         for crate, is_proved in pairs:
             crate.out = open(os.devnull, "w", encoding="utf-8")
             tries.append(Tries(crate, edits[crate.name]))
@@ -438,13 +454,15 @@ def main(words):
     if flags == {"--note"}:
         note(names, (), now)
         return 0
-    chosen_edits = {name: [it for it in edits[name] if not single or it.label in single or name in words] for name in chosen}
-    tries = try_all([it for it in crates if it.name in chosen], chosen_edits, "--beside" in flags)
+    is_wanted = lambda it: not single or it.label in single or it.crate.name in words
+    wanted = {name: [*filter(is_wanted, edits[name])] for name in chosen}
+    tries = try_all([it for it in crates if it.name in chosen], wanted, "--beside" in flags)
     if not single and ("--due" not in flags or "--note" in flags):
         failed = {it.crate.name for it in tries if it.failed()}
         note([it.crate.name for it in tries if it.crate.name not in failed], failed, now)
     lost, kinds = sum(len(it.failed()) for it in tries), ("refused", "broken", "named", "weak", "NOT REFUSED")
-    say(f"edits: {', '.join(f'{sum(it.count(kind) for it in tries)} {kind}' for kind in kinds)}, of {len(tries)} crates")
+    counts = ", ".join(f"{sum(it.count(kind) for it in tries)} {kind}" for kind in kinds)
+    say(f"edits of {len(tries)} crates: {counts}")
     say(f"{sum(it.count('refused') for it in tries)} passed, {lost} failed")
     return 1 if lost else 0
 

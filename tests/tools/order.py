@@ -1,13 +1,13 @@
 #!/usr/bin/env python3
 """How long the proofs of all crates take by the clock, worked out from the seconds of a processor that each takes.
 
-usage: tests/order.py SECONDS [PROCESSORS]
+usage: tests/tools/order.py SECONDS [PROCESSORS]
 
-SECONDS is a file with lines as tests/prove.py ends with, `asn_plan: 606 s of a processor, ..`, or `asn_plan 606`; of two
-lines for one crate the last counts, so that an estimate may stand behind what was measured. PROCESSORS is 4 if it is left
-out. Crates are begun as `rt ci` begins them in the gate: each with one job, once those that it uses are proved, and first
-those with the longest chain of others behind them, counted in lines. Each crate has a line with its minutes from and to;
-the last lines say how long all takes by the clock and of a processor, and which chain of crates takes longest.
+SECONDS is a file with lines such as tests/tools/prove.py ends with, `asn_plan: 606 s of a processor, ..`, or
+`asn_plan 606`. The last line of a crate counts. PROCESSORS is 4 by default. Crates begin as `rt ci` begins them in the
+gate: each with one job, after those that it uses, and first those with the longest chain of others behind them, counted
+in lines. Each crate has a line with its minutes from and to. The last lines show how long all crates take by the clock
+and of a processor, and which chain of crates takes longest.
 """
 import heapq
 import os
@@ -15,8 +15,9 @@ import re
 import sys
 
 sys.dont_write_bytecode = True
-TOP = os.path.dirname(os.path.dirname(os.path.abspath(__file__)))
-sys.path.insert(0, f"{TOP}/tests")
+HERE = os.path.dirname(os.path.abspath(__file__))
+TOP = os.path.dirname(os.path.dirname(HERE))
+sys.path.insert(0, HERE)
 from kit import rtlib
 
 

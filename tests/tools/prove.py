@@ -1,8 +1,8 @@
 #!/usr/bin/env python3
 """Proves the crates of crates.txt while one writes, each after those that it uses, and skips what is proved already.
 
-usage: tests/prove.py [CRATE..]      at the top of the repository; with names these crates and those below them
-       tests/prove.py --form         proves nothing: looks only at what `rt ci` refuses before it proves a crate
+usage: tests/tools/prove.py [CRATE..]      at the top of the repository; with names these crates and those below them
+       tests/tools/prove.py --form         proves nothing: looks only at what `rt ci` refuses before it proves a crate
 
 The form comes first, in seconds: files that no check reads, links, words that may not stand in a contract, and the format
 of `rt fmt`; where it is wrong nothing is proved.
@@ -121,7 +121,7 @@ def prove(crate, given, jobs, used):
 
 
 def main(names):
-    os.chdir(os.path.join(os.path.dirname(os.path.abspath(__file__)), ".."))
+    os.chdir(os.path.join(os.path.dirname(os.path.abspath(__file__)), "../.."))
     if names == ["--form"]:
         return look_at_form()
     if any(it.startswith("-") for it in names):

@@ -1,12 +1,11 @@
 #!/usr/bin/env python3
 """Lists the goals of a crate at which the checker's search took the most steps, the longest first.
 
-usage: tests/slow_goals.py CRATE [COUNT]      at the top of the repository, after a check of the crate; 20 goals, if no count is given
+usage: tests/tools/slow_goals.py CRATE [COUNT]      after a check of the crate; COUNT is 20 by default
 
-A line for each module with such goals says how many million steps its searches took (2 to 3 million are a second), and
-a line for each goal its own. An answer by hand in the place of a search that takes millions makes the crate faster to
-prove, and each check of wrong bodies of its cycle. The steps stand in the records that a check keeps in
-crates/CRATE/out/incremental, in a form that is the kit's own: where a kit has another, nothing is listed.
+Each module with such goals has a line with the million steps of its searches (2 to 3 million are a second), and so has
+each goal. An answer by hand instead of such a search makes the crate faster to prove. The steps are read from
+crates/CRATE/out/incremental. Their format is the kit's own: if a kit has another one, nothing is listed.
 """
 import glob
 import os
@@ -27,7 +26,7 @@ def searched(file):
 
 
 def main(words):
-    os.chdir(os.path.join(os.path.dirname(os.path.abspath(__file__)), ".."))
+    os.chdir(os.path.join(os.path.dirname(os.path.abspath(__file__)), "../.."))
     if not 1 <= len(words) <= 2 or not words[-1].isdecimal() == (len(words) == 2):
         print(__doc__, file=sys.stderr)
         return 2

@@ -1,7 +1,7 @@
 #!/usr/bin/env python3
 """Proves crates from nothing, one function after the other, and prints the functions that take longest.
 
-usage: tests/slowest.py [-n COUNT] CRATE..      at the top of the repository, once the crates below are proved
+usage: tests/tools/slowest.py [-n COUNT] CRATE..      at the top of the repository, once the crates below are proved
 
 A time is that of a processor, from the end of the function before to the end of this one: the lemma files that are read
 for the first time are in it. It takes as long as a first check of the crate.

@@ -18,7 +18,7 @@ usage: tests/gate.py [PART..]      the parts are proofs, edits and tests; all th
    tests/octet_counts.py and tests/published_rows.py look at rows without a program, and tests/speed.py tries itself;
    tests/style.py looks at the sentences of pages, help and header; tests/guide.py and tests/page.py run the commands and
    blocks of README.md, docs/GUIDE.md and crates/tulvorn/README.md;
-   bindings/tests.sh calls the library for C from four languages, and skips a language whose compiler is not there: each
+   bindings/test.sh calls the library for C from four languages, and skips a language whose compiler is not there: each
    time as LLVM compiles it with the test programs, without a second proof, and in one merge of sixteen, drawn with the
    edits, as each of two compilers makes it of a proof of its own. Beside the proofs, those that want
    none of what is proved begin at once.
@@ -27,7 +27,7 @@ What a step writes is shown as it comes: a line for each crate that is proved, a
 The end says how many minutes of a processor each part and each of its steps took, and how many by the clock the part took
 from its first line to its last; how many times as long as at best the processors took for the same work (speed.py), since
 other guests of their host, or what else runs, makes each minute longer; and whether the cache that they share was ours.
-The last line is 'N passed, M failed': crates, edits, rows of the test programs, scripts, and steps of bindings/tests.sh.
+The last line is 'N passed, M failed': crates, edits, rows of the test programs, scripts, and steps of bindings/test.sh.
 The line before it is 'K skipped' where steps were.
 """
 import glob
@@ -249,8 +249,8 @@ def tests_of_sources(part, room):
     step(part, [*BEHIND, "tests/speed.py", "--self-test"])
     step(part, ["tests/style.py"])
     # the library for C, of the module of those programs
-    step(part, [*BEHIND, "bindings/build.sh", "--object", f"{room}/test_checks.o", f"{room}/library"])
-    step(part, [*BEHIND, "bindings/tests.sh", f"{room}/library"])
+    step(part, [*BEHIND, "bindings/build.py", "--object", f"{room}/test_checks.o", f"{room}/library"])
+    step(part, [*BEHIND, "bindings/test.sh", f"{room}/library"])
     step(part, [*BEHIND, "tests/page.py", f"{room}/pages"])
 
 
@@ -259,10 +259,9 @@ def tests_of_archives(part, turn):
     if not turn.is_of_archives:
         return say("the archives of the library for C, proved and built by two compilers: left to their turn")
     with tempfile.TemporaryDirectory(prefix="tulvorn-bindings-") as made:
-        step(part, ["python3", "bindings/build_proved.py", "--as-they-stand", made])
+        step(part, ["bindings/build.py", "--both", "--kept", made])
         for it in ("llvm", "rattle"):
-            step(part, ["bindings/build.sh", "--archive", f"{made}/{it}.a", f"{made}/{it}"])
-            step(part, ["bindings/tests.sh", f"{made}/{it}"])
+            step(part, ["bindings/test.sh", f"{made}/{it}"])
 
 
 def tests_of_programs(part, room):

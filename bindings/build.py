@@ -16,7 +16,7 @@ import tempfile
 sys.dont_write_bytecode = True
 HERE = os.path.dirname(os.path.abspath(__file__))
 TOP = os.path.dirname(HERE)
-sys.path.insert(0, f"{TOP}/tests")
+sys.path[:0] = [f"{TOP}/tests/program", f"{TOP}/tests"]
 CRATE = "tulvorn_c"
 NEEDED = ("rt", "gcc", "ld", "objcopy", "ar", "nm")
 COMPILERS = ("llvm", "rattle")
@@ -29,6 +29,11 @@ def call(words, **how):
         print(ran.stdout or "", end="")
         sys.exit(f"bindings/build.py: {os.path.basename(words[0])} ended with status {ran.returncode}")
     return ran.stdout
+
+
+def kit_folder():
+    """The folder of the kit."""
+    return os.path.dirname(os.path.dirname(os.path.realpath(shutil.which("rt"))))
 
 
 # ---- the exports, as the sources declare them
@@ -176,7 +181,7 @@ def unproved_below(crate, takes_kept, share_work):
 
 def prove_archives(folder, takes_kept):
     """Proves the crate once, and has each compiler leave FOLDER/COMPILER.a."""
-    from kit import rt, rtlib, share_work
+    from kit import rtlib, share_work
 
     os.chdir(TOP)
     crate = next(it for it in rtlib.crates_below(TOP) if it.name == CRATE)
@@ -190,7 +195,7 @@ def prove_archives(folder, takes_kept):
     for flag in ("--logic-built", "--jobs"):
         at = words.index(flag)
         words = words[:at] + words[at + 2 :]
-    words += ["--crate-checked", f"{folder}/checked", "--toolchain", f"{rt.KIT}/toolchain"]
+    words += ["--crate-checked", f"{folder}/checked", "--toolchain", f"{kit_folder()}/toolchain"]
     steps += [["build", *words, "--backend", it, "-o", f"{folder}/{it}.a"] for it in COMPILERS]
     for step in steps:
         words = [*rtlib.guarded(), rtlib.RATTLE, *step]
@@ -234,7 +239,6 @@ def pack(out, code, is_program=False):
     The code is an archive or an object file; of a program's object file, what the exports reach is packed.
     """
     os.makedirs(out, exist_ok=True)
-    kit = os.path.dirname(os.path.dirname(os.path.realpath(shutil.which("rt"))))
     names = [it.name for it in exports()]
     objects = ["--whole-archive", code, "--no-whole-archive"]
     if is_program:
@@ -243,7 +247,7 @@ def pack(out, code, is_program=False):
     with tempfile.TemporaryDirectory() as folder:
         made, exported = f"{folder}/tulvorn.o", f"{folder}/tulvorn.map"
         # one object, in which all other names are local, so that one program can link two such libraries
-        call(["ld", "-r", "-o", made, *objects, f"{kit}/c/liblibc_c.a"])
+        call(["ld", "-r", "-o", made, *objects, f"{kit_folder()}/c/liblibc_c.a"])
         call(["objcopy", *[f"--keep-global-symbol={it}" for it in names], made])
         if is_program:
             # without this, names of system calls that only the program makes remain

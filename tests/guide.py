@@ -2,7 +2,7 @@
 """Runs each command, and each block of C, Rust and Python, of README.md and docs/GUIDE.md, and each command of the page of
 asn_tool, and compares what is printed.
 
-usage: tests/guide.py TOOL LIBRARY      TOOL is the program asn_tool, LIBRARY a folder that bindings/build.sh made
+usage: tests/guide.py TOOL LIBRARY      TOOL is the program asn_tool, LIBRARY a folder that bindings/build.py made
 
 A block marked `console` has commands after `$ ` and what they print; all commands of a page run in one shell, in a copy
 of `examples` with the file traffic.asn, the guide's module. A block marked `sh` installs the program, which is TOOL here.

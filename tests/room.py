@@ -12,8 +12,8 @@ has the name of the folder, `main.rt.in` is its own file, and the others are mod
 which programs share, stands before them. A room is kept, so that a later
 call does anew only what has changed. What is built without a proof is compiled from the sources of the crates, with the
 options of a build that is proved (unproved.py); the toolchain links a program with proved libraries only where the
-program itself is proved. Of a program that uses the library for C, and calls each export (bindings/exposing.py),
-ROOM/NAME.o is left too, which bindings/build.sh packs as that library.
+program itself is proved. If a program uses the library for C, it calls each export (bindings/build.py). Then ROOM/NAME.o
+is left too, which bindings/build.py packs as that library.
 """
 import os
 import shutil
@@ -89,10 +89,10 @@ def lay(room, programs):
     if any(has_exports(it) for it in programs):
         # (a static library is used by no crate)
         lines[0] = lines[0].replace("tulvorn_c staticlib:", "tulvorn_c:")
-        sys.path.append(f"{TOP}/bindings")
-        import exposing
+        sys.path.insert(0, f"{TOP}/bindings")
+        from build import expose
 
-        exposing.expose(room)
+        expose(room)
     with open(f"{room}/crates.txt", "w", encoding="utf-8") as it:
         it.writelines(lines)
     shutil.copy2(f"{TOP}/HANDLES", f"{room}/HANDLES")

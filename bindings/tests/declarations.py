@@ -1,20 +1,20 @@
 """Compares the declarations of the header and of the bindings with the exports of crates/tulvorn_c.
 
-usage: python3 bindings/compare.py
+usage: python3 bindings/tests/declarations.py
 
 Each function is declared four times: by its source, in c/tulvorn.h, in rust/tulvorn/src/ffi.rs and in
-python/tulvorn.py. Each declaration becomes one list of words, and all four have to be the same. So are the codes of
-the header, of src/fault.rt and of Python.
+python/tulvorn.py. Each declaration becomes one list of words, and the four lists have to be equal. The codes of the
+header, of src/fault.rt and of Python have to be equal too.
 """
 import os
 import re
 import sys
 
 sys.dont_write_bytecode = True
-HERE = os.path.dirname(os.path.abspath(__file__))
-sys.path.insert(0, HERE)
+BINDINGS = os.path.dirname(os.path.dirname(os.path.abspath(__file__)))
+sys.path.insert(0, BINDINGS)
 
-import exports  # noqa: E402
+from build import exports  # noqa: E402
 
 # what C sees of a type of the source: one word for each argument
 SOURCE = {
@@ -42,14 +42,14 @@ PYTHON = {
 
 
 def text_of(name):
-    with open(f"{HERE}/{name}", encoding="utf-8") as it:
+    with open(f"{BINDINGS}/{name}", encoding="utf-8") as it:
         return it.read()
 
 
 def of_source():
     return {
         it.name: (" ".join(SOURCE[kind] for _, kind in it.params).split(), "u32" if it.result else "")
-        for it in exports.exports()
+        for it in exports()
     }
 
 

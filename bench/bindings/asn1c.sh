@@ -1,16 +1,17 @@
 #!/usr/bin/env bash
-# Compares the library, called from C, with the code that asn1c makes of the same modules: first that both take the same
-# messages and write the same octets by unaligned PER, then how long decoding and encoding take, in one run, and how
-# many instructions, which other work on the machine does not change. It prints a table.
+# Compares the library, called from C, with the code that asn1c makes of the same modules, and prints a table.
 #
-# usage: [COUNT=no] [BASELINE=FOLDER] bindings/asn1c.sh OUT [ROUNDS]
+# usage: [COUNT=no] [BASELINE=FOLDER] bench/bindings/asn1c.sh LIBRARY [ROUNDS]
 #
-# OUT is the folder in which bindings/build.sh left the library; the times are the least of ROUNDS rounds, 20 if not given.
-# It wants asn1c (Debian's package asn1c, version 0.9.28), gcc, cargo for the messages of the benchmark, and valgrind for
-# the instructions, which take minutes and are left out with COUNT=no; BASELINE keeps what cargo makes. Where asn1c is not
-# there it says so and ends with status 0. That version of asn1c has no OER.
+# First both have to read the same messages and write the same octets in unaligned PER. Then it measures decoding and
+# encoding: the least time of ROUNDS rounds (20 by default), and instructions, which do not depend on what else runs.
+# LIBRARY is the folder in which bindings/build.py left the library. It needs asn1c (Debian's package asn1c, version
+# 0.9.28, which has no OER), gcc, cargo for the messages of the benchmark, and valgrind for the instructions. These take
+# minutes, and COUNT=no leaves them out. BASELINE is a folder that keeps what cargo makes. Without asn1c the script prints
+# that it is skipped, and ends with status 0.
 set -euo pipefail
 here=$(cd "$(dirname "$0")" && pwd)
+top=$(cd "$here/../.." && pwd)
 out=$(cd "$1" && pwd)
 rounds=${2:-20}
 for it in asn1c gcc cargo; do
@@ -21,7 +22,7 @@ trap 'rm -rf "$made"' EXIT
 # what both compilers build for
 cpu=x86-64-v2
 
-(cd "$here/../bench/baseline" &&
+(cd "$top/bench/baseline" &&
     cargo build --quiet --release --offline --locked --target-dir "${BASELINE:-$made/target}" &&
     "${BASELINE:-$made/target}/release/baseline" same 0 >"$made/octets")
 
@@ -42,8 +43,8 @@ build() {
     asn1c -gen-PER -fcompound-names "$2" >said 2>&1 || { cat said >&2 && exit 1; }
     rm converter-sample.c
     gcc -std=gnu11 -O2 -march=$cpu -w -I. -c ./*.c
-    gcc -std=gnu11 -O2 -march=$cpu -Wall -Wextra -DMESSAGE="$3" -DHEADER="\"$3.h\"" -I"$here/c" -isystem . \
-        -c "$here/c/asn1c_bench.c" -o asn1c_bench.o
+    gcc -std=gnu11 -O2 -march=$cpu -Wall -Wextra -DMESSAGE="$3" -DHEADER="\"$3.h\"" -I"$top/bindings/c" -isystem . \
+        -c "$here/asn1c_bench.c" -o asn1c_bench.o
     gcc ./*.o "$out/libtulvorn.a" -o run
     cd "$here"
 }
@@ -61,7 +62,7 @@ instructions() {
 echo "asn1c: $(asn1c -h 2>&1 | head -n 1); $(gcc --version | head -n 1); load $(cut -d' ' -f1-3 /proc/loadavg)"
 for row in "small simple Small" "cam cam CAM" "bsm bsm BasicSafetyMessage" "list list Readings"; do
     read -r name module type <<<"$row"
-    module=$here/../bench/modules/$module.asn
+    module=$top/bench/modules/$module.asn
     build "$name" "$module" "$type"
     mapfile -t messages < <(octets_of "$name")
     echo "$name: the same octets of $("$made/$name/run" "$module" "$type" same "${messages[@]}")"
@@ -79,7 +80,7 @@ done
 # the messages of the examples: which of them asn1c takes and writes alike
 for row in "rows Msg" "meter-1 Report" "meter-2 Report" "signalling Message"; do
     read -r name type <<<"$row"
-    module=$here/../examples/$name.asn
+    module=$top/examples/$name.asn
     build "$name" "$module" "$type"
     alike=0 all=0
     while read -r message; do
@@ -89,7 +90,7 @@ for row in "rows Msg" "meter-1 Report" "meter-2 Report" "signalling Message"; do
         else
             echo "examples/$name: $message: $said"
         fi
-    done <"$here/../examples/$name.per"
+    done <"$top/examples/$name.per"
     echo "examples/$name: $alike of $all messages are the same"
 done
 
@@ -99,18 +100,22 @@ awk '
     function cell(name, row) { return sprintf("%.0f (%s)", ns[name, row], count[name, row]) }
     function ratio(name, row, other) { return sprintf("%.2f", ns[name, row] / ns[name, other]) }
     function line(name, what, row, other, checked) {
-        printf "| %s %s | %s | %s | %s | %s | %s |\n", what, name, cell(name, row), cell(name, other), ratio(name, row, other),
+        printf "| %s %s | %s | %s | %s | %s | %s |\n",
+            what, name, cell(name, row), cell(name, other), ratio(name, row, other),
             checked ? cell(name, checked) : "", checked ? ratio(name, row, checked) : ""
+    }
+    function lines(what, row, other, checked, at) {
+        for (at = 1; at <= last; at++) line(names[at], what, row, other, checked)
     }
     END {
         print "| ns (instructions) | Tulvorn | asn1c | ratio | asn1c with its constraints checked | ratio |"
         print "|---|---|---|---|---|---|"
-        for (at = 1; at <= last; at++) line(names[at], "decode", "decode-tulvorn", "decode-asn1c", "decode-asn1c-checked")
-        for (at = 1; at <= last; at++) line(names[at], "decode, handle kept", "decode-again-tulvorn", "decode-asn1c", "decode-asn1c-checked")
-        for (at = 1; at <= last; at++) line(names[at], "check", "check-tulvorn", "decode-asn1c", "decode-asn1c-checked")
-        for (at = 1; at <= last; at++) line(names[at], "encode", "encode-tulvorn", "encode-asn1c", "")
-        for (at = 1; at <= last; at++) line(names[at], "encode, handle kept", "encode-again-tulvorn", "encode-asn1c", "")
-        for (at = 1; at <= last; at++) line(names[at], "encode into", "into-tulvorn", "into-asn1c", "into-asn1c-checked")
+        lines("decode", "decode-tulvorn", "decode-asn1c", "decode-asn1c-checked")
+        lines("decode, handle kept", "decode-again-tulvorn", "decode-asn1c", "decode-asn1c-checked")
+        lines("check", "check-tulvorn", "decode-asn1c", "decode-asn1c-checked")
+        lines("encode", "encode-tulvorn", "encode-asn1c", "")
+        lines("encode, handle kept", "encode-again-tulvorn", "encode-asn1c", "")
+        lines("encode into", "into-tulvorn", "into-asn1c", "into-asn1c-checked")
         print ""
         for (at = 1; at <= last; at++) printf "convert %s: %s\n", names[at], cell(names[at], "convert-tulvorn")
     }' "$made/all"

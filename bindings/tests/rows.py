@@ -1,31 +1,31 @@
 """Writes the examples and the rows of tests/programs/rows in a form that a caller of each language reads easily.
 
-usage: python3 bindings/rows.py FILE              writes the rows
-       python3 bindings/rows.py --corpus FOLDER   writes inputs for bindings/fuzz.sh, and FOLDER/rows of the types
+usage: python3 bindings/tests/rows.py FILE              writes the rows
+       python3 bindings/tests/rows.py --corpus FOLDER   writes inputs for bindings/fuzz.sh, and FOLDER/rows of the types
 
 A line has words with one space between them. Octets are 0x and their hexadecimal, so are texts, and - is none:
 
     module TEXT                                the types below are of this module
     type NAME                                  the rows below are of this type
-    value PER OER JSON SHOWN                   these octets are the encodings of one value, JSON shows it, and SHOWN is its
-                                               JSON as the library writes it
-    check RULES OCTETS CODE WHY AT             so tulvorn_check answers; RULES is 0 for PER and 1 for OER
-    newer RULES OCTETS CODE SHOWN FIELDS       so tulvorn_read_newer answers; FIELDS are PLACE:OCTETS with commas between
-    pieces RULES PIECES TAKEN CODE WHY AT      a session takes the pieces, with commas between, answers DONE or MORE to
-                                               all before piece TAKEN (from 0), and to that one by this code; AT is what
-                                               `used` tells after DONE
-    end COUNT                                  how many rows there are
+    value PER OER JSON SHOWN                   these octets are the encodings of one value, JSON shows it, and SHOWN is
+                                               its JSON as the library writes it
+    check RULES OCTETS CODE WHY AT             tulvorn_check returns this; RULES is 0 for PER and 1 for OER
+    newer RULES OCTETS CODE SHOWN FIELDS       tulvorn_read_newer returns this; FIELDS are PLACE:OCTETS with commas between
+    pieces RULES PIECES TAKEN CODE WHY AT      a session reads the pieces, with commas between, returns DONE or MORE for
+                                               all before piece TAKEN (from 0), and this code for that one; AT is what
+                                               `used` returns after DONE
+    end COUNT                                  the number of rows
 
-Two rows of 10,000,000 octets are left out; so are those of kind `none`, which need a value of another type.
+Two rows of 10,000,000 octets are left out. So are rows of kind `none`, which need a value of another type.
 """
 import os
 import re
 import sys
 
-TOP = os.path.dirname(os.path.dirname(os.path.abspath(__file__)))
+TOP = os.path.dirname(os.path.dirname(os.path.dirname(os.path.abspath(__file__))))
 WHY = ("", "sealed", "default", "length", "extension", "character", "padding", "number")
 DONE, REFUSED, TRUNCATED, REST, NO_MESSAGE, CUT_MESSAGE, TOO_MANY = 0, 3, 4, 5, 16, 17, 18
-# longer rows than these are left out, and longer than SHORT from the inputs of the fuzzer
+# rows longer than MOST are left out, and the inputs of the fuzzer have no row longer than SHORT
 MOST, SHORT = 400000, 3000
 RULES = {"per": 0, "oer": 1}
 
@@ -46,7 +46,7 @@ def repeated(cell):
 
 
 def octets(cell):
-    """The octets of a cell, in which (XxN) stands too, as a word; - for none."""
+    """The octets of a cell, with (XxN) written out too, as a word; - for none."""
     if cell == "-":
         return cell
     return "0x" + repeated(re.sub(r"\(([^()]*)x(\d+)\)", lambda it: it[1] * int(it[2]), cell)).replace(" ", "")
@@ -57,7 +57,7 @@ def text(words):
 
 
 def answer(words):
-    """Code, reason and place of an answer to octets."""
+    """Code, reason and place of an answer of `check`."""
     found = re.match(r"refused at (\d+): (\w+)", words)
     if found:
         return f"{REFUSED} {WHY.index(found[2])} {found[1]}"
@@ -71,24 +71,24 @@ def answer(words):
 
 
 def received(words):
-    """Code, JSON and fields of what read_newer answers."""
+    """Code, JSON and fields of an answer of `read_newer`."""
     codes = {"refused": NO_MESSAGE, "cut short": CUT_MESSAGE, "too many additions": TOO_MANY}
     if words in codes:
         return f"{codes[words]} - -"
     shown, *fields = repeated(words).split(" +")
-    told = ",".join(f"{place}:0x{held}" for place, held in (it.split(":") for it in fields))
-    return f"{DONE} {text(shown)} {told or '-'}"
+    skipped = ",".join(f"{place}:0x{field}" for place, field in (it.split(":") for it in fields))
+    return f"{DONE} {text(shown)} {skipped or '-'}"
 
 
 def session(rules, pieces, answers):
     """The row of a session's pieces up to the first answer that is not `more`."""
     pieces = ["0x" if it == "-" else octets(it) for it in repeated(pieces).split()]
-    told = re.sub(r"<more, \*(\d+)>", lambda it: "more, " * int(it[1]), answers).split(", ")
-    taken = next((at for at, it in enumerate(told[: len(pieces)]) if it != "more"), None)
+    answers = re.sub(r"<more, \*(\d+)>", lambda it: "more, " * int(it[1]), answers).split(", ")
+    taken = next((at for at, it in enumerate(answers[: len(pieces)]) if it != "more"), None)
     if taken is None:
         return None
-    used = re.match(r"done (\d+) ", told[taken])
-    code = f"{DONE} 0 {used[1]}" if used else answer(told[taken])
+    used = re.match(r"done (\d+) ", answers[taken])
+    code = f"{DONE} 0 {used[1]}" if used else answer(answers[taken])
     return f"pieces {rules} {','.join(pieces)} {taken} {code}"
 
 
@@ -134,13 +134,15 @@ def examples():
             ("meter-1", "Report"), ("meter-2", "Report"), ("published/report", "Report"):
         module = "published/flattened" if "/" in name else name
         cells = [lines_of(f"examples/{name}.{end}") for end in ("per", "oer", "values")]
-        shown = [*map(text, lines_of(f"examples/{name}.json"))] if not name.startswith("meter") else ["-"] * len(cells[0])
+        is_meter = name.startswith("meter")
+        shown = ["-"] * len(cells[0]) if is_meter else [*map(text, lines_of(f"examples/{name}.json"))]
         made = [f"value 0x{per} 0x{oer} {text(json)} {it}" for per, oer, json, it in zip(*cells, shown, strict=True)]
-        if name.startswith("meter"):
+        if is_meter:
             other = "meter-2" if name == "meter-1" else "meter-1"
             for rules, number in RULES.items():
-                pairs = zip(lines_of(f"examples/{other}.{rules}"), lines_of(f"examples/{name}.reads-{rules}"), strict=True)
-                made += [f"newer {number} 0x{message} {received(told)}" for message, told in pairs]
+                messages, answers = f"examples/{other}.{rules}", f"examples/{name}.reads-{rules}"
+                pairs = zip(lines_of(messages), lines_of(answers), strict=True)
+                made += [f"newer {number} 0x{message} {received(it)}" for message, it in pairs]
         yield (text_of(f"examples/{module}.asn"), of_type), made
 
 

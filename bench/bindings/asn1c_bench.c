@@ -1,5 +1,5 @@
 /* Decodes and encodes messages by the code that asn1c makes of a module, and by the library, side by side.
-   bindings/asn1c.sh builds it for one type: MESSAGE is the name of its structure, HEADER the file that has it.
+   bench/bindings/asn1c.sh builds it for one type: MESSAGE is the name of its structure, HEADER the file that has it.
 
    usage: asn1c_bench MODULE TYPE same OCTETS..            both take the octets of each message, and write the same
           asn1c_bench MODULE TYPE time TIMES ROUNDS OCTETS a line for each row: its name, and the nanoseconds of a
@@ -28,8 +28,8 @@ static size_t size;
 /* Decodes by asn1c, and lets go of what was made; with `checked`, tests the constraints that its decoder does not. */
 static int asn1c_decodes(int checked) {
     message_t *made = NULL;
-    asn_dec_rval_t told = uper_decode_complete(NULL, DESCRIPTOR, (void **)&made, message, size);
-    int well = told.code == RC_OK && told.consumed == size &&
+    asn_dec_rval_t result = uper_decode_complete(NULL, DESCRIPTOR, (void **)&made, message, size);
+    int well = result.code == RC_OK && result.consumed == size &&
                (!checked || asn_check_constraints(DESCRIPTOR, made, NULL, NULL) == 0);
     ASN_STRUCT_FREE(*DESCRIPTOR, made);
     return well;
@@ -39,8 +39,8 @@ static int asn1c_decode(void) { return asn1c_decodes(0); }
 static int asn1c_decode_checked(void) { return asn1c_decodes(1); }
 
 static int asn1c_encode_into(void) {
-    asn_enc_rval_t told = uper_encode_to_buffer(DESCRIPTOR, held, into, sizeof into);
-    return told.encoded >= 0 && ((size_t)told.encoded + 7) / 8 == size;
+    asn_enc_rval_t result = uper_encode_to_buffer(DESCRIPTOR, held, into, sizeof into);
+    return result.encoded >= 0 && ((size_t)result.encoded + 7) / 8 == size;
 }
 
 static int asn1c_encode_into_checked(void) {
@@ -125,8 +125,8 @@ static int taken(const char *digits) {
     tulvorn_fault fault;
     let_go();
     if (!read_octets(digits, strlen(digits), message, sizeof message, &size)) return 0;
-    asn_dec_rval_t told = uper_decode_complete(NULL, DESCRIPTOR, (void **)&held, message, size);
-    int by_asn1c = told.code == RC_OK && told.consumed == size;
+    asn_dec_rval_t result = uper_decode_complete(NULL, DESCRIPTOR, (void **)&held, message, size);
+    int by_asn1c = result.code == RC_OK && result.consumed == size;
     int by_tulvorn = tulvorn_decode(&type, TULVORN_PER, message, size, &value, &fault) == TULVORN_DONE;
     if (!by_asn1c || !by_tulvorn) printf("not taken by%s%s\n", by_asn1c ? "" : " asn1c", by_tulvorn ? "" : " Tulvorn");
     return by_asn1c && by_tulvorn;

@@ -1,10 +1,15 @@
 #!/usr/bin/env bash
-# Calls the library from C, C++, Rust and Python, on the examples and on the rows of tests/programs/rows too, and wants no
-# network. A step for which a program is not there, a compiler or valgrind, is skipped and counted as such; one that fails
-# does not end the run. The last line is 'N passed, M failed', with ', K skipped' where a step was.
+# Calls the library from C, C++, Rust and Python, on the examples and on the rows of tests/programs/rows.
 #
-# usage: bindings/tests.sh OUT     the folder in which bindings/build.sh left the library
+# usage: bindings/test.sh LIBRARY     the folder in which bindings/build.py left the library
+#
+# It needs no network. A step whose compiler or valgrind is missing is skipped, and a step that fails does not end the
+# run. The last line is 'N passed, M failed', with ', K skipped' if steps were skipped.
 set -euo pipefail
+if [ $# != 1 ] || [ "${1#-}" != "$1" ]; then
+    sed -n '2,/^[^#]/s/^# \{0,1\}//p' "$0" >&2
+    exit 2
+fi
 here=$(cd "$(dirname "$0")" && pwd)
 out=$(cd "$1" && pwd)
 made=$(mktemp -d)
@@ -14,7 +19,7 @@ wrap=(-Wl,--wrap=malloc -Wl,--wrap=realloc)
 memory=(valgrind -q --error-exitcode=99 --leak-check=full --errors-for-leak-kinds=all)
 passed=0 failed=0 skipped=0
 
-# step NAME PROGRAM.. -- COMMAND..: runs the command, where these programs are there
+# step NAME PROGRAM.. -- COMMAND..: runs the command, if these programs are installed
 step() {
     local name=$1 missing=()
     shift
@@ -44,7 +49,7 @@ in_c_sanitized() {
         -o "$made/$1-sanitized" && "$made/$1-sanitized"
 }
 
-# the rows, and the examples: a file that a caller of each language reads
+# the rows and the examples, in a file that a caller of each language reads
 rows_in_c() {
     gcc -std=c11 "${warn[@]}" "$@" "$here/c/rows.c" "$out/libtulvorn.a" -o "$made/rows-c" &&
         "$made/rows-c" "$made/rows"
@@ -64,7 +69,7 @@ in_threads() {
     gcc -std=c11 "${warn[@]}" -pthread "$here/c/threads.c" "$out/libtulvorn.a" -o "$made/threads" && "$made/threads"
 }
 
-# one handle in four threads, which is in memory that cannot be written
+# one handle in four threads, in memory that cannot be written
 in_shared() {
     gcc -std=c11 "${warn[@]}" -pthread "$@" "$here/c/shared.c" "$out/libtulvorn.a" -o "$made/shared" && "$made/shared"
 }
@@ -85,8 +90,8 @@ in_rust() {
             cargo test --offline --locked --quiet)
 }
 
-if command -v python3 >/dev/null; then python3 "$here/rows.py" "$made/rows"; fi
-step "the declarations of the header and the bindings" python3 -- python3 "$here/compare.py"
+if command -v python3 >/dev/null; then python3 "$here/tests/rows.py" "$made/rows"; fi
+step "the declarations of the header and the bindings" python3 -- python3 "$here/tests/declarations.py"
 for it in calls sessions; do
     step "C, $it" gcc -- in_c $it
     step "C, $it, under valgrind" gcc valgrind -- "${memory[@]}" "$made/$it"
@@ -103,13 +108,13 @@ step "C on the rows" gcc python3 -- rows_in_c
 step "C on the rows, under the sanitizers" gcc python3 -- rows_in_c -fsanitize=address,undefined
 step "C++ on the rows" g++ python3 -- rows_in_cpp
 step "Python on the rows" python3 -- rows_in_python
-step "the page's program in C" cc python3 -- python3 "$here/page.py" "$out" c
-step "the page's program in C++" c++ python3 -- python3 "$here/page.py" "$out" cpp
-step "the page's program in Rust" cargo python3 -- python3 "$here/page.py" "$out" rust
-step "the page's program in Python" python3 -- python3 "$here/page.py" "$out" python
-step "the page's gateway" cc python3 -- python3 "$here/page.py" "$out" gateway
-step "the page's signer" cargo python3 -- python3 "$here/page.py" "$out" signer
-step "the page's test bench" python3 -- python3 "$here/page.py" "$out" bench.py
+step "the page's program in C" cc python3 -- python3 "$here/tests/page.py" "$out" c
+step "the page's program in C++" c++ python3 -- python3 "$here/tests/page.py" "$out" cpp
+step "the page's program in Rust" cargo python3 -- python3 "$here/tests/page.py" "$out" rust
+step "the page's program in Python" python3 -- python3 "$here/tests/page.py" "$out" python
+step "the page's gateway" cc python3 -- python3 "$here/tests/page.py" "$out" gateway
+step "the page's signer" cargo python3 -- python3 "$here/tests/page.py" "$out" signer
+step "the page's test bench" python3 -- python3 "$here/tests/page.py" "$out" test_bench.py
 note=
 [ $skipped = 0 ] || note=", $skipped skipped"
 echo "$passed passed, $failed failed$note"

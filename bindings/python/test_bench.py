@@ -1,6 +1,6 @@
-"""A test bench: what a receiver of these messages has to answer to each of them with one bit turned.
+"""A test bench: what a receiver has to answer to each of these messages with one bit turned.
 
-usage: python3 bindings/python/bench.py MODULE TYPE RULES MESSAGES
+usage: python3 bindings/python/test_bench.py MODULE TYPE RULES MESSAGES
 
 MODULE is the file of a module, RULES is per or oer, and MESSAGES a file with a message in hexadecimal a line. Each line
 of the output counts, for one message, what its octets with a bit turned are: the encoding of another value, refused,
@@ -41,8 +41,8 @@ def main():
             octets = bytes.fromhex(line)
             ty.check(octets, rules)
             counts = collections.Counter(answer(ty, it, rules) for it in turned(octets))
-            told = ", ".join(f"{count} {what}" for what, count in sorted(counts.items()))
-            print(f"{len(octets)} octets: {told}")
+            line = ", ".join(f"{count} {what}" for what, count in sorted(counts.items()))
+            print(f"{len(octets)} octets: {line}")
 
 
 if __name__ == "__main__":

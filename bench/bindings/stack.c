@@ -1,11 +1,11 @@
-/* How much stack each call takes: it is made in a thread whose stack was painted before, and the deepest octet that is
-   not as it was painted is looked for. bindings/stack.py builds and runs it.
+/* Prints how much stack each call takes. A thread with a painted stack makes the call, and the deepest byte that has
+   changed is looked for. bench/bindings/stack.py builds and runs it.
 
-   usage: stack MODULE TYPE JSON     files with the text of a module and of a JSON value, and the name of its type: the
-                                     calls on them, each of which has to do what it is asked for, or else the status is 1
-          stack MODULE TYPE JSON -   the calls that read these texts alone, whatever they answer; where the text is no
-                                     module, that one
-   It prints a line for each call: its name and the octets of stack, without those of a thread that makes no call. */
+   usage: stack MODULE TYPE JSON     files with the text of a module and of a JSON value, and the name of its type; the
+                                     status is 1 if one of the calls on them fails
+          stack MODULE TYPE JSON -   only the calls that read these texts, whether they fail or not; if the text is no
+                                     module, only the call that reads it
+   It prints a line for each call: its name and the bytes of stack, without those of a thread that makes no call. */
 #define _GNU_SOURCE
 #include "reading.h"
 #include <pthread.h>
@@ -62,7 +62,7 @@ static int call_decode_oer(void) {
     return tulvorn_decode(&type, TULVORN_OER, oer, oer_size, &other, &fault) == TULVORN_DONE;
 }
 
-/* octets that are cut short: what was read of them is let go */
+/* octets that are cut short: what was read of them is freed */
 static int call_cut_per(void) {
     return tulvorn_decode(&type, TULVORN_PER, per, per_size - 1, &out, &fault) == TULVORN_TRUNCATED;
 }
@@ -129,7 +129,7 @@ static int call_close(void) {
     return 1;
 }
 
-/* in an order in which each has what it wants of those before */
+/* in an order in which each has what it needs from those before */
 static const struct call {
     const char *name;
     int (*call)(void);

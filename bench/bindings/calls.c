@@ -1,10 +1,9 @@
-/* How long a call takes, over many of the same. bindings/bench.sh builds and runs it.
+/* Prints how long a call takes, over many equal ones. bench/bindings/calls.sh builds and runs it.
 
-   usage: bench MODULE TYPE OCTETS CALL TIMES     OCTETS are a message of PER in hexadecimal; CALL is handle, kind, share,
-                                                  check, decode, convert, encode, len or into
-   `handle` is a call that takes what a handle holds and puts it back, and does nothing else: what is in each call. The
-   module is held while the calls are made, as by the program in Rattle that is measured beside: what it took of the heap,
-   let go, would be searched by each call that wants memory. */
+   usage: calls MODULE TYPE OCTETS CALL TIMES     OCTETS are a message of PER in hexadecimal; CALL is handle, kind,
+                                                  share, check, decode, convert, encode, len or into
+   `handle` is a call that takes what a handle holds and puts it back: the part that all calls have. The module is open
+   during the calls, as in the program in Rattle. If it were closed, each call would search the memory that it freed. */
 #define _POSIX_C_SOURCE 199309L
 #include "reading.h"
 #include <stdlib.h>
@@ -16,7 +15,7 @@ static tulvorn_handle module, type, value, octets, out;
 static uint8_t message[ROOM], into[ROOM];
 static size_t size;
 
-/* A loop of a call, as it stands in the program in Rattle; the call has to answer as it says each time. */
+/* A loop of a call, as in the program in Rattle. The call has to return what `right` says each time. */
 #define LOOP(name, locals, right)             \
     static int many_##name(long times) {      \
         for (; times > 0; times--) {          \

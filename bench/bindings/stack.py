@@ -1,9 +1,10 @@
-"""Measures how much stack each call of the library takes, for types that are as deep as types may be.
+#!/usr/bin/env python3
+"""Measures how much stack each call of the library takes, for types of the greatest depth.
 
-usage: python3 bindings/stack.py OUT     OUT is the folder in which bindings/build.sh left the library
+usage: bench/bindings/stack.py LIBRARY     the folder in which bindings/build.py left the library
 
-For each call it prints the most octets that any of the types below takes, and the type; and then for texts that are
-nested far deeper, which are refused. It wants gcc.
+For each call it prints the most bytes that any of the types below takes, and the type. Then it does so for texts that are
+nested far deeper, which the library rejects. It needs gcc.
 """
 import os
 import subprocess
@@ -11,6 +12,7 @@ import sys
 import tempfile
 
 HERE = os.path.dirname(os.path.abspath(__file__))
+HEADERS = f"{os.path.dirname(os.path.dirname(HERE))}/bindings/c"
 # a type around a type, and a value around its value
 AROUND = {
     "SEQUENCE": ("SEQUENCE {{ a {0} }}", '{{"a":{0}}}'),
@@ -34,7 +36,7 @@ LEVELS = 32
 
 
 def deep(around, innermost, levels):
-    """A type of that many levels, each around the next as one of these kinds in turn, and a value of it."""
+    """A type of that many levels, whose kinds take turns, and a value of it."""
     kind, value = INNERMOST[innermost]
     for level in reversed(range(levels - 1)):
         of_type, of_value = AROUND[around[level % len(around)]]
@@ -43,7 +45,7 @@ def deep(around, innermost, levels):
 
 
 def subjects():
-    """The types, by a name."""
+    """The types, each with a name."""
     for around in [(it,) for it in AROUND] + [("addition", "SEQUENCE OF"), ("SEQUENCE", "CHOICE", "SEQUENCE OF"),
                                               ("alternative after the extension mark", "addition")]:
         for innermost in INNERMOST:
@@ -55,7 +57,7 @@ def module(assignments):
 
 
 def refused():
-    """Texts of modules and of JSON, by names, that are nested far deeper than a type may be."""
+    """Texts of modules and of JSON that are nested far deeper than a type may be, each with a name."""
     for kind, (of_type, of_value) in AROUND.items():
         before, after = of_type.format("#").split("#")
         yield f"100,000 times {kind}", (module(f"T ::= {before * 100000} INTEGER {after * 100000}"), "1")
@@ -70,7 +72,7 @@ def refused():
 
 
 def measure(folder, texts, more):
-    """The octets of stack that each call takes, by its name."""
+    """The bytes of stack that each call takes, by its name."""
     for file, text in zip(("module", "json"), texts, strict=True):
         with open(f"{folder}/{file}", "w", encoding="utf-8") as it:
             it.write(text)
@@ -83,7 +85,7 @@ def measure(folder, texts, more):
 
 
 def most_of(folder, subjects, more=()):
-    """Prints for each call the most that one of the subjects takes, and which."""
+    """Prints for each call the most that one of the subjects takes, and the subject's name."""
     most = {}
     for name, texts in subjects:
         for call, octets in measure(folder, texts, more).items():
@@ -93,14 +95,16 @@ def most_of(folder, subjects, more=()):
 
 
 def main():
+    if len(sys.argv) != 2:
+        sys.exit(__doc__)
     out = os.path.abspath(sys.argv[1])
     with tempfile.TemporaryDirectory() as folder:
-        source = [f"{HERE}/c/stack.c", f"{out}/libtulvorn.a", "-o", f"{folder}/stack"]
-        build = ["gcc", "-std=c11", "-O2", "-Wall", "-Wextra", "-pthread", f"-I{out}", f"-I{HERE}/c", *source]
+        source = [f"{HERE}/stack.c", f"{out}/libtulvorn.a", "-o", f"{folder}/stack"]
+        build = ["gcc", "-std=c11", "-O2", "-Wall", "-Wextra", "-pthread", f"-I{out}", f"-I{HEADERS}", *source]
         subprocess.run(build, check=True)
         print(f"types of {LEVELS} levels:")
         most_of(folder, [(name, (module(f"T ::= {kind}"), value)) for name, (kind, value) in subjects()])
-        print("texts that are refused:")
+        print("texts that the library rejects:")
         most_of(folder, refused(), ["-"])
 
 

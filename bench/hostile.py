@@ -1,5 +1,5 @@
 #!/usr/bin/env python3
-"""How the time of the program grows with hostile texts of published modules, of the kinds of tests/published.py.
+"""How the time of the program grows with hostile texts of published modules, of the kinds of tests/program/published.py.
 
 usage: bench/hostile.py PROGRAM [KIND..]
 
@@ -14,7 +14,7 @@ import tempfile
 
 sys.dont_write_bytecode = True
 TOP = os.path.dirname(os.path.dirname(os.path.abspath(__file__)))
-sys.path.insert(0, f"{TOP}/tests")
+sys.path.insert(0, f"{TOP}/tests/program")
 from published import HOSTILE, run, written
 
 # how many times as long twice the text may take before it is named, and from how many seconds on

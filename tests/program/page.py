@@ -1,7 +1,7 @@
 #!/usr/bin/env python3
 """Builds and runs the blocks of Rattle of the pages that a user reads, and compares what each prints.
 
-usage: tests/page.py ROOM      ROOM is a folder to build in, as tests/room.py takes it
+usage: tests/program/page.py ROOM      ROOM is a folder to build in, as tests/program/room.py takes it
 
 The pages are crates/tulvorn/README.md, whose blocks marked `rust` are Rattle and the first the head of a program, and
 README.md and docs/GUIDE.md, whose blocks marked `rust rattle` are, and of which lines `use ..` go to the head. The other
@@ -15,8 +15,8 @@ import subprocess
 import sys
 
 sys.dont_write_bytecode = True
-TOP = os.path.dirname(os.path.dirname(os.path.abspath(__file__)))
-sys.path.insert(0, f"{TOP}/tests")
+TOP = os.path.dirname(os.path.dirname(os.path.dirname(os.path.abspath(__file__))))
+sys.path.insert(0, f"{TOP}/tests/program")
 import room
 
 BREAK = "===="

@@ -1,15 +1,15 @@
 #!/usr/bin/env python3
-"""Inputs for tests/fuzz_calls.sh, of the rows of tests/programs/rows: a file for each input, in a folder for each kind.
+"""Inputs for tests/fuzz/calls.sh, of the rows of tests/programs/rows: a file for each input, in a folder for each kind.
 
-usage: tests/fuzz_corpus.py FOLDER
+usage: tests/fuzz/corpus.py FOLDER
 
-The first octet of a message or of JSON chooses the type of the program tests/fuzz_calls; a row of whatever type is tried as
+The first octet of a message or of JSON chooses the type of the program tests/fuzz/calls; a row of whatever type is tried as
 one of each fourth of them.
 """
 import os
 import sys
 
-TOP = os.path.dirname(os.path.dirname(os.path.abspath(__file__)))
+TOP = os.path.dirname(os.path.dirname(os.path.dirname(os.path.abspath(__file__))))
 TYPES = 16
 LONG = 100
 

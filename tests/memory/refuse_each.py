@@ -1,9 +1,9 @@
 #!/usr/bin/env python3
 """Runs a program with its first allocation refused, then its second, and so on, until a run reaches no refusal.
 
-usage: tests/refuse_each.py LIBRARY TOLD HOW PROGRAM FOLDER [WORD..]
+usage: tests/memory/refuse_each.py LIBRARY TOLD HOW PROGRAM FOLDER [WORD..]
 
-For tests/refused_allocations.sh: LIBRARY is what it has made of tests/refuse_allocation.c. FOLDER has what the program
+For tests/memory/refused_allocations.sh: LIBRARY is what it has made of tests/memory/refuse_allocation.c. FOLDER has what the program
 reads and has to write where nothing is refused: `stdin`, `stdout` and `status`, and `args` in the place of the words. HOW
 says what a run with a refusal has to do:
 

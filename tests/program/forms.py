@@ -2,7 +2,7 @@
 """Runs `asn_tool` on messages in each form in which octets are given and written, and on files of messages; lays out what
 it shows, and has it count.
 
-usage: tests/forms.py PROGRAM      a built asn_tool
+usage: tests/program/forms.py PROGRAM      a built asn_tool
 
 The octets of the messages of `examples` are given as lines of hexadecimal with blanks, 0x and comments, as blocks of lines,
 as Base64, as a file each and one after the other in one text, which are made here; the answers are those to plain lines of
@@ -18,7 +18,7 @@ import subprocess
 import sys
 import tempfile
 
-TOP = os.path.dirname(os.path.dirname(os.path.abspath(__file__)))
+TOP = os.path.dirname(os.path.dirname(os.path.dirname(os.path.abspath(__file__))))
 MODULE = "M DEFINITIONS AUTOMATIC TAGS ::= BEGIN T ::= SEQUENCE { id INTEGER (0..7), text OCTET STRING OPTIONAL } N ::= NULL END\n"
 
 

@@ -1,7 +1,7 @@
 #!/usr/bin/env python3
 """Runs `asn_tool` on small inputs whose values are large, in an address space of 512 MB.
 
-usage: tests/bounds.py PROGRAM      a built asn_tool
+usage: tests/program/bounds.py PROGRAM      a built asn_tool
 
 A message of 102 octets has three million fields, a type of one line no value with fewer than 3,600,000,000 elements, and a
 line of 600 KB of JSON shows a value of 13,000,000 entries. Each has a bound that stands in the program's help: the answer

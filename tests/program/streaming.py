@@ -1,7 +1,7 @@
 #!/usr/bin/env python3
 """Runs `asn_tool` on lines that come one after the other: with --module they are answered as they come.
 
-usage: tests/streaming.py PROGRAM      a built asn_tool
+usage: tests/program/streaming.py PROGRAM      a built asn_tool
 
 The answers to the messages of `examples` are those to the same messages after a line `====`, in each order and under both
 rules, whole and cut into pieces of few octets; an answer comes before the next line is written; the memory of the program
@@ -18,7 +18,7 @@ import tempfile
 import threading
 import time
 
-TOP = os.path.dirname(os.path.dirname(os.path.abspath(__file__)))
+TOP = os.path.dirname(os.path.dirname(os.path.dirname(os.path.abspath(__file__))))
 MODULE = b"M DEFINITIONS AUTOMATIC TAGS ::= BEGIN T ::= SEQUENCE { id INTEGER (0..7), text OCTET STRING OPTIONAL } END\n"
 SHOW = ["show", "--type", "T", "--rules", "per"]
 

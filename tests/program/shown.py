@@ -1,7 +1,7 @@
 #!/usr/bin/env python3
 """Runs `asn_tool fields`, `types` and `example`, and looks at what they show.
 
-usage: tests/shown.py PROGRAM      a built asn_tool
+usage: tests/program/shown.py PROGRAM      a built asn_tool
 
 Of the messages of `examples`, of values that `example` gives, of messages that are cut short and of ones with a bit turned:
 the fields are all units, one after the other, up to the last or to the refused one; what is marked of them are the bits of
@@ -20,8 +20,8 @@ import sys
 import tempfile
 
 sys.dont_write_bytecode = True
-TOP = os.path.dirname(os.path.dirname(os.path.abspath(__file__)))
-sys.path.insert(0, f"{TOP}/tests")
+TOP = os.path.dirname(os.path.dirname(os.path.dirname(os.path.abspath(__file__))))
+sys.path.insert(0, f"{TOP}/tests/program")
 from forms import Count, lines, octets_of, run
 
 MODULES = (("cam", "Message"), ("bsm", "Message"), ("signalling", "Message"), ("rows", "Msg"), ("meter-2", "Report"))

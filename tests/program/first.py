@@ -1,9 +1,9 @@
 #!/usr/bin/env python3
 """What the program asn_first answers to lines, and to reads and writes that fail.
 
-usage: tests/first.py PROGRAM
+usage: tests/program/first.py PROGRAM
 
-Each line has the two lines of its answer and status 0, or `! refused` and status 1. Then tests/fail_call.c is preloaded:
+Each line has the two lines of its answer and status 0, or `! refused` and status 1. Then tests/memory/fail_call.c is preloaded:
 a read or a write that is interrupted is made again; where one fails, or a write takes nothing, the fault is told on
 standard error with status 3. The last line is 'N passed, M failed'.
 """
@@ -38,7 +38,7 @@ def library(folder):
     words = [os.environ.get("CC", "cc"), "-O2", "-shared", "-fPIC", "-nostdlib"]
     if os.access(f"{kit}/bin/clang", os.X_OK):
         words = [f"{kit}/bin/clang", *words[1:], f"-B{kit}/lib", f"-fuse-ld={kit}/bin/ld.lld"]
-    subprocess.run([*words, "-o", made, f"{HERE}/fail_call.c"], check=True)
+    subprocess.run([*words, "-o", made, f"{HERE}/../memory/fail_call.c"], check=True)
     return made
 
 

@@ -2,7 +2,7 @@
 """Walks pairs of types of which one is a later version of the other, two levels deep, with every subset of the
 extension additions present, and compares what `newer` of the program answers with what examples/reference.py works out.
 
-    tests/versions.py PROGRAM
+    tests/program/versions.py PROGRAM
 
 Each type below has extension additions at both levels. Its versions have the first additions of each list and not the
 others, at each place. Of each pair of versions, older and newer, the octets of all values of each are read by the
@@ -11,7 +11,7 @@ writes is given to `encode --newer`, which gives the octets of the value where n
 """
 import importlib.util, itertools, json, os, subprocess, sys
 
-TOP = os.path.dirname(os.path.dirname(os.path.abspath(__file__)))
+TOP = os.path.dirname(os.path.dirname(os.path.dirname(os.path.abspath(__file__))))
 SPEC = importlib.util.spec_from_file_location('reference', f'{TOP}/examples/reference.py')
 reference = importlib.util.module_from_spec(SPEC)
 SPEC.loader.exec_module(reference)

@@ -2,7 +2,7 @@
 """Values of types at the limits of the profile and around them, in both encoding rules: the program beside
 examples/reference.py.
 
-    tests/limits.py PROGRAM [COUNT [SEED]]
+    tests/program/limits.py PROGRAM [COUNT [SEED]]
 
 The limits are those of crates/asn_limits/src/lib.rt, and the reference has to have the same. The types are INTEGER with
 bounds at and beside powers of two and the ends of the profile's integers, marked and not, and as components with a
@@ -14,7 +14,7 @@ value that it shows. Types and numbers past each limit are refused.
 """
 import concurrent.futures, importlib.util, json, os, random, re, subprocess, sys
 
-TOP = os.path.dirname(os.path.dirname(os.path.abspath(__file__)))
+TOP = os.path.dirname(os.path.dirname(os.path.dirname(os.path.abspath(__file__))))
 SPEC = importlib.util.spec_from_file_location('reference', f'{TOP}/examples/reference.py')
 reference = importlib.util.module_from_spec(SPEC)
 SPEC.loader.exec_module(reference)

@@ -2,13 +2,13 @@
 """Runs each command, and each block of C, Rust and Python, of README.md and docs/GUIDE.md, and each command of the page of
 asn_tool, and compares what is printed.
 
-usage: tests/guide.py TOOL LIBRARY      TOOL is the program asn_tool, LIBRARY a folder that bindings/build.sh made
+usage: tests/program/guide.py TOOL LIBRARY      TOOL is the program asn_tool, LIBRARY a folder that bindings/build.sh made
 
 A block marked `console` has commands after `$ ` and what they print; all commands of a page run in one shell, in a copy
 of `examples` with the file traffic.asn, the guide's module. A block marked `sh` installs the program, which is TOOL here.
 The blocks of a language on a page are one program: lines `use ..` and blocks that begin with `#include` go to its head.
 TEXT is the module of the page. A block prints what the next block marked `text` has, if one follows before the next
-block of its language. tests/page.py runs the blocks of Rattle. The last line is 'N passed, M failed', a line each.
+block of its language. tests/program/page.py runs the blocks of Rattle. The last line is 'N passed, M failed', a line each.
 """
 import os
 import shutil
@@ -17,8 +17,8 @@ import sys
 import tempfile
 
 sys.dont_write_bytecode = True
-TOP = os.path.dirname(os.path.dirname(os.path.abspath(__file__)))
-sys.path.insert(0, f"{TOP}/tests")
+TOP = os.path.dirname(os.path.dirname(os.path.dirname(os.path.abspath(__file__))))
+sys.path.insert(0, f"{TOP}/tests/program")
 from page import BREAK, PAGES, all_blocks, blocks_of, hoisted, indented, text_of
 
 COMMANDS = [*PAGES, "crates/asn_tool/README.md"]

@@ -1,16 +1,16 @@
 #!/usr/bin/env bash
-# Refuses in turn each allocation of programs, by tests/refuse_allocation.c.
+# Refuses in turn each allocation of programs, by tests/memory/refuse_allocation.c.
 #
-# usage: tests/refused_allocations.sh ROOM
+# usage: tests/memory/refused_allocations.sh ROOM
 #
-# The program `checks` of tests/programs, which tests/room.py has built in ROOM, makes the calls of the libraries. Of its
+# The program `checks` of tests/programs, which tests/program/room.py has built in ROOM, makes the calls of the libraries. Of its
 # parts `memory` and `memory_texts` one call has to answer `Memory`, and each other call, and that one when it is made
 # again, what it answers where no allocation is refused. `refused` makes the calls on the rows of
 # tests/programs/rows again and again, and says itself which allocation is refused. The runner asn_first and the program
 # asn_tool, as `rt ci` has built them, have to end with `memory` and status 3.
 set -euo pipefail
-room=$(realpath "${1:?usage: tests/refused_allocations.sh ROOM}")
-cd "$(dirname "$0")/.."
+room=$(realpath "${1:?usage: tests/memory/refused_allocations.sh ROOM}")
+cd "$(dirname "$0")/../.."
 
 work=$(mktemp -d)
 trap 'rm -rf "$work"' EXIT
@@ -26,9 +26,9 @@ kit=$(dirname "$(rt doc)")/toolchain
 refuse=$work/refuse_allocation.so
 if [ -x "$kit/bin/clang" ]; then
   "$kit/bin/clang" -O2 -Wall -shared -fPIC -nostdlib -B"$kit/lib" -fuse-ld="$kit/bin/ld.lld" -o "$refuse" \
-    tests/refuse_allocation.c
+    tests/memory/refuse_allocation.c
 else
-  "${CC:-cc}" -O2 -shared -fPIC -nostdlib -o "$refuse" tests/refuse_allocation.c
+  "${CC:-cc}" -O2 -shared -fPIC -nostdlib -o "$refuse" tests/memory/refuse_allocation.c
 fi
 
 # ---- one run after another, with the first allocation refused, then the second, until a run reaches no refusal
@@ -37,9 +37,9 @@ runs=0 # in which an allocation was refused
 begun=0 # of these, in which something was written
 
 refuse_each() { # the program, the folder of what it reads and writes, what a run with a refusal has to do
-  # (tests/refuse_each.py), and words, where the folder has none
+  # (tests/memory/refuse_each.py), and words, where the folder has none
   local said
-  said=$(tests/refuse_each.py "$refuse" "$work/told" "$3" "$(realpath "$1")" "$2" "${@:4}") || fail "$said"
+  said=$(tests/memory/refuse_each.py "$refuse" "$work/told" "$3" "$(realpath "$1")" "$2" "${@:4}") || fail "$said"
   read -r runs begun <<<"$said"
 }
 
@@ -114,7 +114,7 @@ refuse_each crates/asn_first/out/asn_first crates/asn_first memory
 runner=$runs
 refuse_each crates/asn_tool/out/asn_tool crates/asn_tool memory
 
-# other words of a command line, some of which ask for no job; examples/faults.sh and tests/published.py judge what is
+# other words of a command line, some of which ask for no job; examples/faults.sh and tests/program/published.py judge what is
 # answered to them. A few allocations can be done without. What is told of published types stands before `memory`
 tool=$runs
 answered_to() { # what is read, and the words

@@ -1,9 +1,9 @@
 #!/usr/bin/env bash
 # What install.py makes of the program: the words that bash completes, and a manual page that names each command and option.
 #
-# usage: tests/installed.sh PROGRAM
+# usage: tests/program/installed.sh PROGRAM
 set -euo pipefail
-top=$(cd "$(dirname "$0")/.." && pwd)
+top=$(cd "$(dirname "$0")/../.." && pwd)
 program=$(realpath "$1")
 folder=$(mktemp -d)
 trap 'rm -rf "$folder"' EXIT

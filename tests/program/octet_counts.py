@@ -1,7 +1,7 @@
 #!/usr/bin/env python3
 """Of how many single octets and pairs of octets are encodings, or begin with one, by the second implementation.
 
-usage: tests/octet_counts.py
+usage: tests/program/octet_counts.py
 
 For each type of which the program tests/programs/hostile tries all octets and pairs, examples/reference.py encodes every
 value that has at most two octets, and some beyond. Compares the counts `taken` and `with octets left` of what the program
@@ -11,7 +11,7 @@ import itertools
 import os
 import sys
 
-TOP = os.path.dirname(os.path.dirname(os.path.abspath(__file__)))
+TOP = os.path.dirname(os.path.dirname(os.path.dirname(os.path.abspath(__file__))))
 sys.path.insert(0, f"{TOP}/examples")
 import reference
 

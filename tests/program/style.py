@@ -1,7 +1,7 @@
 #!/usr/bin/env python3
 """Finds long sentences and private words in what users read: pages, help, header and public docstrings (docs/STYLE.md).
 
-usage: tests/style.py [FILE..]      all of FILES by default; the last line is 'N passed, M failed', a file each
+usage: tests/program/style.py [FILE..]      all of FILES by default; the last line is 'N passed, M failed', a file each
 """
 import glob
 import os
@@ -32,7 +32,7 @@ def faults_in(path, text):
 if __name__ == "__main__":
     assert [*faults_in("a.md", "word " * 41)] and not [*faults_in("a.md", "word " * 40 + ".\n\n" + "| word " * 41)]
     assert [*faults_in("a.md", "It is told.")] and not [*faults_in("a.md", "```\nIt is told.\n```\nSo is `told`.")]
-    os.chdir(os.path.dirname(os.path.dirname(os.path.abspath(__file__))))
+    os.chdir(os.path.dirname(os.path.dirname(os.path.dirname(os.path.abspath(__file__)))))
     found = {it: [*faults_in(it, open(it).read())] for it in sys.argv[1:] or sorted(sum(map(glob.glob, FILES), []))}
     print("".join(f"{file}: {fault}\n" for file, faults in found.items() for fault in faults), end="")
     print(f"{sum(not it for it in found.values())} passed, {sum(map(bool, found.values()))} failed")

@@ -80,11 +80,6 @@ def escaped(text):
     return text.encode().decode("unicode_escape").encode("latin-1")
 
 
-def limit(ran, name, most):
-    if most:
-        resource.prlimit(ran.pid, name, (most, most))
-
-
 def begin(words, **how):
     """Starts a command whose input and output are pipes."""
     return subprocess.Popen(words, **{"stdin": subprocess.PIPE, "stdout": subprocess.PIPE, "bufsize": 0, **how})
@@ -97,11 +92,12 @@ def feed(ran, given, size):
     ran.stdin.close()
 
 
-def run(words, given=b"", *, room=None, pieces=None, ends=None, **how):
+def run(words, given=b"", *, most=None, pieces=None, ends=None, check=False, **how):
     """Runs a command. Its input is a text, octets, or an open file.
 
-    `room` limits its memory, in octets. `pieces` is how many octets it reads at a time, from a pipe. With `ends` only so
-    many last octets of its output, and first ones of standard error, are returned. The rest goes to Popen.
+    `most` limits its memory, in octets. `pieces` is how many octets it reads at a time, from a pipe. With `ends` only so
+    many last octets of its output, and first ones of standard error, are returned. With `check` it has to end well. The
+    rest goes to Popen.
     """
     given = given.encode() if isinstance(given, str) else given
     with tempfile.TemporaryFile() as source, tempfile.TemporaryFile() as out, tempfile.TemporaryFile() as err:
@@ -111,10 +107,10 @@ def run(words, given=b"", *, room=None, pieces=None, ends=None, **how):
         streams = {"stdin": source if isinstance(given, bytes) else given, "stdout": out, "stderr": err}
         if pieces:
             streams["stdin"] = subprocess.PIPE
-        if room:
-            how["preexec_fn"] = lambda: resource.setrlimit(resource.RLIMIT_AS, (room, room))
+        if most:
+            how["preexec_fn"] = lambda: resource.setrlimit(resource.RLIMIT_AS, (most, most))
         ran = subprocess.Popen(words, **{**streams, **how})
-        limit(ran, resource.RLIMIT_CPU, SECONDS)
+        resource.prlimit(ran.pid, resource.RLIMIT_CPU, (SECONDS, SECONDS))
         if pieces:
             feed(ran, given, pieces)
         _, status, used = os.wait4(ran.pid, 0)
@@ -122,7 +118,9 @@ def run(words, given=b"", *, room=None, pieces=None, ends=None, **how):
         out.seek(max(0, os.fstat(out.fileno()).st_size - ends) if ends else 0)
         err.seek(0)
         said = out.read(), err.read(ends or -1)
-        return Ran(ran.returncode, *said, used.ru_utime + used.ru_stime, used.ru_maxrss / 1024)
+    if check and ran.returncode:
+        raise RuntimeError(f"{words}: status {ran.returncode}: {said}")
+    return Ran(ran.returncode, *said, used.ru_utime + used.ru_stime, used.ru_maxrss / 1024)
 
 
 def split(words):
@@ -172,7 +170,7 @@ def parts_of(text):
     for line in text.split("\n"):
         if line[:2] == "* ":
             name, _, texts = line[2:].partition(" ")
-            names.append([("{%s}" % name, it.strip()) for it in re.split(r"(?:^| )/(?: |$)", texts)])
+            names.append([("{%s}" % name, it.strip()) for it in re.split(r"(?<!\S)/(?!\S)", texts)])
         elif line[:1] in ("@", "$"):
             if part:
                 yield part
@@ -245,7 +243,7 @@ class Test:
 
 
 def script(doc, *parts, words=1):
-    """Runs the parts of a script on as many words of its command line, and ends with what they counted."""
+    """Runs the parts of a script, functions and names of case files, on as many words, and ends with what they counted."""
     if len(sys.argv) != words + 1:
         sys.exit(doc)
     with tempfile.TemporaryDirectory(prefix="tulvorn-test-") as room:
@@ -254,9 +252,9 @@ def script(doc, *parts, words=1):
         for part in parts:
             os.chdir(room)
             try:
-                part(test)
+                test.cases(part) if isinstance(part, str) else part(test)
             except Exception:
-                test.add(False, f"{part.__name__}: {traceback.format_exc()}")
+                test.add(False, f"{part}: {traceback.format_exc()}")
         os.chdir("/")
     skipped = f", {test.skipped} skipped" if test.skipped else ""
     print(f"{test.passed} passed, {test.failed} failed{skipped}")

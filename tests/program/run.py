@@ -9,7 +9,7 @@ Cases are text files, which `Test.cases` reads. A line begins with its mark:
     @ NAME                a file in the room
     * NAME A / B / ..     the next case runs once with each text as {NAME}
     $ WORD ..             a case: the words after the program, quoted as for a shell, with escapes of Python
-    = STATUS              its exit status, which is 0 without such a line
+    = STATUS MB           its exit status, which is 0 without such a line, and the most memory that it may take
     | TEXT                a line of the file
     < TEXT                a line of standard input
     > TEXT                a line of standard output
@@ -22,6 +22,9 @@ A second character, right after `|`, `<`, `>` or `!`, says what the text is:
     <x N TEXT             N times the text, with escapes; {i} is the number of each, from 0 on
     >~ EXPRESSION         a regular expression that matches somewhere
     >*                    whatever is written
+
+In all of a text `%[COUNT|TEXT%]` is TEXT so many times, and `%[COUNT|"BETWEEN"|TEXT%]` has BETWEEN in between. `%i` is
+the number of each, from 0 on, `%j` that of an inner one, and `%(..)` an expression of Python.
 """
 import importlib.util
 import itertools
@@ -42,6 +45,8 @@ TOP = os.path.dirname(os.path.dirname(HERE))
 # seconds of a processor after which a program does not end
 SECONDS = 300
 MARK = re.compile(r"([|<>!])([|<>!@~*]|x \d+)? ?(.*)", re.S)
+
+REPEAT = re.compile(r'%(?:\[([^|]*)\|(?:"([^"]*)"\|)?|(\])|([a-z])\b|\(((?:[^()]|\([^()]*\))*)\))')
 
 Ran = namedtuple("Ran", "status out err seconds megabytes")
 
@@ -123,6 +128,23 @@ def run(words, given=b"", *, most=None, pieces=None, ends=None, check=False, **h
     return Ran(ran.returncode, *said, used.ru_utime + used.ru_stime, used.ru_maxrss / 1024)
 
 
+def expand(text, **numbers):
+    """The text with its repeats and numbers written out."""
+    made, at, counts = "''.join((", 0, []
+    for it in REPEAT.finditer(text):
+        count, between, end, name, value = it.groups()
+        made += f"{text[at:it.start()]!r},"
+        at = it.end()
+        if count is not None:
+            counts.append(count)
+            made += f"{between or ''!r}.join(''.join(("
+        elif end:
+            made += f")) for {'ij'[len(counts) - 1]} in range({counts.pop()})),"
+        else:
+            made += f"str({name or value}),"
+    return eval(f"{made}{text[at:]!r},))", numbers)
+
+
 def split(words):
     """The words of a command line."""
     return shlex.split(words) if isinstance(words, str) else [*words]
@@ -149,7 +171,7 @@ class Written:
     def allows(self, found):
         if self.is_any or self.expressions:
             text = found.decode(errors="replace")
-            return all(re.search(it, text, re.M | re.S) for it in self.expressions)
+            return all(re.search(it, text, re.M) for it in self.expressions)
         return found == self.octets
 
 
@@ -158,9 +180,11 @@ class Case:
 
     def __init__(self, words):
         self.words = [it.encode("latin-1", "backslashreplace").decode("unicode_escape") for it in shlex.split(words)]
-        self.status, self.said = 0, {mark: Written() for mark in "<>!"}
+        self.status, self.megabytes, self.said = 0, None, {mark: Written() for mark in "<>!"}
 
     def allows(self, ran):
+        if self.megabytes and ran.megabytes > self.megabytes:
+            return False
         return ran.status == self.status and self.said[">"].allows(ran.out) and self.said["!"].allows(ran.err)
 
 
@@ -185,7 +209,7 @@ def case_of(head, rest):
     case = Case(head[1:])
     for line in rest:
         if line[0] == "=":
-            case.status = int(line[1:])
+            case.status, case.megabytes = map(int, (line[1:].split() + ["0"])[:2])
         else:
             mark, form, text = MARK.fullmatch(line).groups()
             case.said[mark].add(form, text)
@@ -236,8 +260,8 @@ class Test:
         return ran
 
     def cases(self, name, **how):
-        """Runs the cases of a file beside the scripts."""
-        for case in cases_of(text_of(f"{HERE}/{name}")):
+        """Runs the cases of a text file in tests/program."""
+        for case in cases_of(expand(text_of(f"{HERE}/{name}"))):
             ran = self.run(case.words, case.said["<"].octets, **how)
             self.add(case.allows(ran), f"{name}: {shlex.join(case.words)}: {ran.status} {ran.out[:2000]} {ran.err[:2000]}")
 

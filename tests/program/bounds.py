@@ -9,9 +9,4 @@ A line of 600 KB of JSON is a value of 13,000,000 entries. Each has a bound that
 """
 from run import script
 
-
-def bounds(test):
-    test.cases("bounds.txt", most=512 << 20)
-
-
-script(__doc__, bounds)
+script(__doc__, "bounds.txt")

@@ -10,6 +10,7 @@ Cases are text files, which `Test.cases` reads. A line begins with its mark:
     * NAME A / B / ..     the next case runs once with each text as {NAME}
     $ WORD ..             a case: the words after the program, quoted as for a shell, with escapes of Python
     = STATUS MB           its exit status, which is 0 without such a line, and the most memory that it may take
+    ^ MB                  its address space
     | TEXT                a line of the file
     < TEXT                a line of standard input
     > TEXT                a line of standard output
@@ -19,7 +20,6 @@ A second character, right after `|`, `<`, `>` or `!`, says what the text is:
 
     << TEXT               (the mark again) text with escapes of Python, without an end of line
     <@ FILE               all that a file has
-    <x N TEXT             N times the text, with escapes; {i} is the number of each, from 0 on
     >~ EXPRESSION         a regular expression that matches somewhere
     >*                    whatever is written
 
@@ -44,7 +44,7 @@ HERE = os.path.dirname(os.path.abspath(__file__))
 TOP = os.path.dirname(os.path.dirname(HERE))
 # seconds of a processor after which a program does not end
 SECONDS = 300
-MARK = re.compile(r"([|<>!])([|<>!@~*]|x \d+)? ?(.*)", re.S)
+MARK = re.compile(r"([|<>!])([|<>!@~*]?) ?(.*)", re.S)
 
 REPEAT = re.compile(r'%(?:\[([^|]*)\|(?:"([^"]*)"\|)?|(\])|([a-z])\b|\(((?:[^()]|\([^()]*\))*)\))')
 
@@ -163,8 +163,6 @@ class Written:
             self.expressions.append(text)
         elif form == "*":
             self.is_any = True
-        elif form and form[0] == "x":
-            self.octets += b"".join(escaped(text.replace("{i}", str(at))) for at in range(int(form[2:])))
         else:
             self.octets += escaped(text) if form else text.encode() + b"\n"
 
@@ -180,7 +178,7 @@ class Case:
 
     def __init__(self, words):
         self.words = [it.encode("latin-1", "backslashreplace").decode("unicode_escape") for it in shlex.split(words)]
-        self.status, self.megabytes, self.said = 0, None, {mark: Written() for mark in "<>!"}
+        self.status, self.megabytes, self.most, self.said = 0, None, None, {mark: Written() for mark in "<>!"}
 
     def allows(self, ran):
         if self.megabytes and ran.megabytes > self.megabytes:
@@ -199,7 +197,7 @@ def parts_of(text):
             if part:
                 yield part
             part, names = ([line], names), []
-        elif line[:1] in tuple("=|<>!"):
+        elif line[:1] in tuple("=^|<>!"):
             part[0].append(line)
     if part:
         yield part
@@ -208,7 +206,9 @@ def parts_of(text):
 def case_of(head, rest):
     case = Case(head[1:])
     for line in rest:
-        if line[0] == "=":
+        if line[0] == "^":
+            case.most = int(line[1:]) << 20
+        elif line[0] == "=":
             case.status, case.megabytes = map(int, (line[1:].split() + ["0"])[:2])
         else:
             mark, form, text = MARK.fullmatch(line).groups()
@@ -259,10 +259,10 @@ class Test:
         self.add(ran[: len(wanted)] == wanted, f"{words} {given[:200]}: {ran[:3]}")
         return ran
 
-    def cases(self, name, **how):
+    def cases(self, name):
         """Runs the cases of a text file in tests/program."""
         for case in cases_of(expand(text_of(f"{HERE}/{name}"))):
-            ran = self.run(case.words, case.said["<"].octets, **how)
+            ran = self.run(case.words, case.said["<"].octets, most=case.most)
             self.add(case.allows(ran), f"{name}: {shlex.join(case.words)}: {ran.status} {ran.out[:2000]} {ran.err[:2000]}")
 
 

@@ -9,7 +9,7 @@ Cases are text files, which `Test.cases` reads. A line begins with its mark:
     @ NAME                a file in the room
     * NAME A / B / ..     the next case runs once with each text as {NAME}
     $ WORD ..             a case: the words after the program, quoted as for a shell, with escapes of Python
-    = STATUS MB           its exit status, which is 0 without such a line, and the most memory that it may take
+    = STATUS              its exit status, which is 0 without such a line
     ^ MB                  its address space
     | TEXT                a line of the file
     < TEXT                a line of standard input
@@ -178,11 +178,9 @@ class Case:
 
     def __init__(self, words):
         self.words = [it.encode("latin-1", "backslashreplace").decode("unicode_escape") for it in shlex.split(words)]
-        self.status, self.megabytes, self.most, self.said = 0, None, None, {mark: Written() for mark in "<>!"}
+        self.status, self.most, self.said = 0, None, {mark: Written() for mark in "<>!"}
 
     def allows(self, ran):
-        if self.megabytes and ran.megabytes > self.megabytes:
-            return False
         return ran.status == self.status and self.said[">"].allows(ran.out) and self.said["!"].allows(ran.err)
 
 
@@ -209,7 +207,7 @@ def case_of(head, rest):
         if line[0] == "^":
             case.most = int(line[1:]) << 20
         elif line[0] == "=":
-            case.status, case.megabytes = map(int, (line[1:].split() + ["0"])[:2])
+            case.status = int(line[1:])
         else:
             mark, form, text = MARK.fullmatch(line).groups()
             case.said[mark].add(form, text)
@@ -256,7 +254,7 @@ class Test:
     def expect(self, words, given, wanted, **how):
         """Runs the program, compares its status, output and standard error, as many as are wanted, and returns them."""
         ran = self.run(words, given, **how)
-        self.add(ran[: len(wanted)] == wanted, f"{words} {given[:200]}: {ran[:3]}")
+        self.add(ran[: len(wanted)] == wanted, f"{words} {str(given)[:200]}: {ran[:3]}")
         return ran
 
     def cases(self, name):

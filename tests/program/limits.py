@@ -1,24 +1,25 @@
 #!/usr/bin/env python3
-"""Values of types at the limits of the profile and around them, in both encoding rules: the program beside
+"""Values of types at the limits of the profile and around them, in both encoding rules: the program and
 examples/reference.py.
 
-    tests/program/limits.py PROGRAM [COUNT [SEED]]
+usage: tests/program/limits.py PROGRAM [COUNT [SEED]]
 
 The limits are those of crates/asn_limits/src/lib.rt, and the reference has to have the same. The types are INTEGER with
-bounds at and beside powers of two and the ends of the profile's integers, marked and not, and as components with a
+bounds at and near powers of two and the ends of the profile's integers, marked and not, and as components with a
 DEFAULT; CHOICE and ENUMERATED of the most alternatives and items, one less, and around the forms of their indexes and
 tags; SEQUENCE of the most components and additions; and these inside one another. Of each type values are made at random
 and at the edges, COUNT in all (100,000). Each is encoded by the program and by the reference, shown and converted to the
 other rules again. Of its octets some are changed: those that the program takes are the encoding, by the reference, of the
 value that it shows. Types and numbers past each limit are refused.
 """
-import concurrent.futures, importlib.util, json, os, random, re, subprocess, sys
+import json
+import random
+import re
+from concurrent.futures import ProcessPoolExecutor
 
-TOP = os.path.dirname(os.path.dirname(os.path.dirname(os.path.abspath(__file__))))
-SPEC = importlib.util.spec_from_file_location('reference', f'{TOP}/examples/reference.py')
-reference = importlib.util.module_from_spec(SPEC)
-SPEC.loader.exec_module(reference)
+from run import TOP, reference, run, script, text_of
 
+reference = reference()
 LOWEST, HIGHEST = -(1 << 63), reference.HIGHEST
 ALTERNATIVES, ITEM_ADDITIONS = reference.ALTERNATIVES, reference.ITEM_ADDITIONS
 COMPONENTS, ADDITIONS, ITEMS = 64, 64, 256
@@ -28,8 +29,7 @@ CHANGED = 40
 
 def of_the_program():
     """The limits of the program, as its source has them."""
-    with open(f'{TOP}/crates/asn_limits/src/lib.rt') as file:
-        text = file.read()
+    text = text_of(f'{TOP}/crates/asn_limits/src/lib.rt')
     names = 'HIGHEST_INTEGER', 'MAX_ALTERNATIVES', 'MAX_ITEM_ADDITIONS', 'MAX_COMPONENTS', 'MAX_ADDITIONS', 'MAX_ITEMS'
     return [int(re.search(rf'const {name}: \w+ = ([0-9_]+);', text)[1].replace('_', '')) for name in names]
 
@@ -190,11 +190,10 @@ def module(text):
 
 def asked(program, order, rules, text, lines):
     """What the program answers to each line."""
-    job = [program, order, '--type', 'T', '--rules', rules]
-    told = subprocess.run(job, input=module(text) + ''.join(line + '\n' for line in lines), capture_output=True, text=True)
-    answers = told.stdout.split('\n')[:-1]
+    ran = run([program, order, '--type', 'T', '--rules', rules], module(text) + ''.join(f'{line}\n' for line in lines))
+    answers = ran.out.decode().split('\n')[:-1]
     if len(answers) != len(lines):
-        raise Wrong(f'{order} {rules} of {text[:300]}: status {told.returncode}; {told.stdout[:200]}{told.stderr[:200]}')
+        raise Wrong(f'{order} {rules} of {text[:300]}: {ran}')
     return answers
 
 
@@ -254,66 +253,71 @@ def tried(program, text, count, seed):
 
 # ---- what is past a limit
 
-def refused(program):
+def listed_past(kind, part, root, more=None):
+    """A list of parts at its limit, and one with a part more."""
+    at, past = ((root, more + it) if more is not None else (root + it, None) for it in (0, 1))
+    return listed(kind, *at, part), listed(kind, *past, part)
+
+
+def as_module(program, text):
+    return run([program, 'module'], module(text).replace('====\n', ''))
+
+
+def past_limits(test):
     """Types and numbers past each limit, each of which the program refuses, where it takes the one at the limit."""
-    def part(name, i):
-        return f'{name}{i} NULL'
-    def absent(name, i):
-        return f'{name}{i} NULL OPTIONAL'
-    def item(name, i):
-        return f'{name}{i}'
-    def with_default(low, default):
-        return f'SEQUENCE {{ a INTEGER ({low}..MAX) DEFAULT {default} }}'
-    pairs = [
+    here = [HIGHEST, ALTERNATIVES, ITEM_ADDITIONS, COMPONENTS, ADDITIONS, ITEMS]
+    test.add(of_the_program() == here, f'limits of the program: {of_the_program()}, and of the reference: {here}')
+    null, absent, item = '{}{} NULL'.format, '{}{} NULL OPTIONAL'.format, '{}{}'.format
+    for right, wrong in (
         (f'INTEGER (0..{HIGHEST})', f'INTEGER (0..{HIGHEST + 1})'),
         (f'INTEGER ({LOWEST}..0)', f'INTEGER ({LOWEST - 1}..0)'),
         (f'INTEGER ({LOWEST}..{HIGHEST - 1}, ...)', f'INTEGER ({LOWEST}..{HIGHEST}, ...)'),
         (f'INTEGER (MIN..{HIGHEST - 1}, ...)', f'INTEGER (MIN..{HIGHEST}, ...)'),
-        (listed('CHOICE', ALTERNATIVES, None, part), listed('CHOICE', ALTERNATIVES + 1, None, part)),
-        (listed('CHOICE', 1, ALTERNATIVES - 1, part), listed('CHOICE', 1, ALTERNATIVES, part)),
-        (listed('ENUMERATED', 1, ITEM_ADDITIONS, item), listed('ENUMERATED', 1, ITEM_ADDITIONS + 1, item)),
-        (listed('ENUMERATED', ITEMS, None, item), listed('ENUMERATED', ITEMS + 1, None, item)),
-        (listed('SEQUENCE', COMPONENTS, None, absent), listed('SEQUENCE', COMPONENTS + 1, None, absent)),
-        (listed('SEQUENCE', 0, ADDITIONS, absent), listed('SEQUENCE', 0, ADDITIONS + 1, absent)),
-    ]
-    for right, wrong in pairs:
+        listed_past('CHOICE', null, ALTERNATIVES),
+        listed_past('CHOICE', null, 1, ALTERNATIVES - 1),
+        listed_past('ENUMERATED', item, 1, ITEM_ADDITIONS),
+        listed_past('ENUMERATED', item, ITEMS),
+        listed_past('SEQUENCE', absent, COMPONENTS),
+        listed_past('SEQUENCE', absent, 0, ADDITIONS),
+    ):
         for text, is_refused in ((right, False), (wrong, True)):
-            told = subprocess.run([program, 'module'], input=module(text).replace('====\n', ''), capture_output=True, text=True)
-            if told.stdout.startswith('! module ') != is_refused or (told.returncode == 0) == is_refused:
-                raise Wrong(f'module: {text[:80]}: status {told.returncode}; {told.stdout[:200]}')
-    # (a DEFAULT of a type with one value is none of the profile: such a module is read as a published one, and says so)
-    for text, needed in ((with_default(HIGHEST - 1, HIGHEST), 'DEFAULT'), (with_default(HIGHEST, HIGHEST), 'OPTIONAL')):
-        told = subprocess.run([program, 'module'], input=module(text).replace('====\n', ''), capture_output=True, text=True)
-        if needed not in told.stdout or (told.stderr == '') != (needed == 'DEFAULT'):
-            raise Wrong(f'module: {text}: {told.stdout[:200]}{told.stderr[:200]}')
+            ran = as_module(test.program, text)
+            is_well = ran.out.startswith(b'! module ') == is_refused and (ran.status != 0) == is_refused
+            test.add(is_well, f'module: {text[:80]}: {ran}')
+    # (a DEFAULT of a type with one value is none of the profile: such a module is read as a published one)
+    for low, needed in ((HIGHEST - 1, b'DEFAULT'), (HIGHEST, b'OPTIONAL')):
+        ran = as_module(test.program, f'SEQUENCE {{ a INTEGER ({low}..MAX) DEFAULT {HIGHEST} }}')
+        test.add(needed in ran.out and (ran.err == b'') == (needed == b'DEFAULT'), f'module: {low}: {ran}')
     numbers = [str(HIGHEST + 1), str(LOWEST - 1), str(HIGHEST + 2), str(1 << 65), '1.5', '1e3', f'-{1 << 64}']
     for rules in ('per', 'oer'):
-        wanted(program, 'encode', rules, 'INTEGER', numbers, ['! shape $'] * len(numbers))
-    return len(pairs) + 2 + len(numbers)
+        answers = asked(test.program, 'encode', rules, 'INTEGER', numbers)
+        test.add(answers == ['! shape $'] * len(numbers), f'numbers past a limit: {rules} {answers}')
 
 
 EDGES = edges()
 
 
-def main(program, count=100_000, seed=1):
-    here = [HIGHEST, ALTERNATIVES, ITEM_ADDITIONS, COMPONENTS, ADDITIONS, ITEMS]
-    if of_the_program() != here:
-        sys.exit(f'limits: those of the program are {of_the_program()}, and those of the reference {here}')
+def judged(*given):
+    """The counts of `tried`, and what is wrong."""
+    try:
+        return tried(*given), None
+    except Wrong as why:
+        return (0, 0, 0), str(why)
+
+
+def at_limits(test, count=100_000, seed=1):
     rand = random.Random(int(seed))
     simple = [*integers(rand), *defaults(rand), *choices(rand), *enumerations(rand), *sequences(rand)]
     texts = simple + list(around(rand, simple, len(simple) // 8))
     each = int(count) // len(texts) + 1
-    try:
-        past = refused(program)
-        with concurrent.futures.ProcessPoolExecutor() as pool:
-            jobs = [pool.submit(tried, program, text, each, f'{seed} {i}') for i, text in enumerate(texts)]
-            counts = [job.result() for job in jobs]
-    except Wrong as why:
-        sys.exit(f'limits: {why}')
+    with ProcessPoolExecutor() as pool:
+        jobs = [pool.submit(judged, test.program, text, each, f'{seed} {i}') for i, text in enumerate(texts)]
+        counts, faults = zip(*[job.result() for job in jobs])
+    for fault in faults:
+        test.add(fault is None, fault)
     values, changes, taken = (sum(each) for each in zip(*counts))
-    print(f'limits: {len(texts)} types at the limits, {values} values in both encoding rules, {changes} changed messages, of which '
-          f'{taken} were taken; {past} types and numbers past a limit')
+    print(f'{len(texts)} types at the limits, {values} values in both encoding rules, {changes} changed messages, of '
+          f'which {taken} were taken')
 
 
-if __name__ == '__main__':
-    main(*sys.argv[1:])
+script(__doc__, past_limits, lambda test: at_limits(test, *test.words[1:]), words=range(1, 4))

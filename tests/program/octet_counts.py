@@ -4,17 +4,14 @@
 usage: tests/program/octet_counts.py
 
 For each type of which the program tests/programs/hostile tries all octets and pairs, examples/reference.py encodes every
-value that has at most two octets, and some beyond. Compares the counts `taken` and `with octets left` of what the program
-has to write, and tells which differ. The last line is 'N passed, M failed'.
+value that has at most two octets, and some beyond. The counts `taken` and `with octets left` are compared with those that
+the program has to write.
 """
 import itertools
-import os
-import sys
 
-TOP = os.path.dirname(os.path.dirname(os.path.dirname(os.path.abspath(__file__))))
-sys.path.insert(0, f"{TOP}/examples")
-import reference
+from run import TOP, reference, script, text_of
 
+reference = reference()
 LETTERS = [chr(it) for it in range(128)]
 UTF8 = [chr(it) for it in range(0x10000) if not 0xD800 <= it < 0xE000]
 TRUTHS = [True, False]
@@ -34,7 +31,7 @@ def octets(longest):
 
 
 def sequences(**components):
-    """All values of a SEQUENCE, of the values of its components; None stands for an absent one."""
+    """All values of a SEQUENCE, of the values of its components; None is an absent one."""
     every = itertools.product(*components.values())
     return [{name: value for name, value in zip(components, it) if value is not None} for it in every]
 
@@ -71,12 +68,9 @@ def counts(rules, ty, values):
     return [sum(len(it) == length for it in made) for length in range(3)]
 
 
-def main():
-    with open(f"{TOP}/tests/programs/rows/stdin", encoding="utf-8") as it:
-        types = reference.Parser(it.read().partition("====\n")[0]).module()
-    with open(f"{TOP}/tests/programs/hostile/stdout", encoding="utf-8") as it:
-        lines = it.read().splitlines()
-    passed, failed = 0, 0
+def octet_counts(test):
+    types = reference.Parser(text_of(f"{TOP}/tests/programs/rows/stdin").partition("====\n")[0]).module()
+    lines = text_of(f"{TOP}/tests/programs/hostile/stdout").splitlines()
     for name, values in VALUES.items():
         for rules in (reference.Per, reference.Oer):
             none, one, two = counts(rules(types), type_of(types, name), values)
@@ -85,13 +79,7 @@ def main():
                 f"{front}octets: 256: {one} taken, {256 * none} with octets left,",
                 f"{front}pairs: 65536: {two} taken, {65536 * none + 256 * one} with octets left,",
             ):
-                stands = any(it.startswith(wanted) for it in lines)
-                passed, failed = passed + stands, failed + (not stands)
-                if not stands:
-                    print(f"not written: {wanted}")
-    print(f"{passed} passed, {failed} failed")
-    return 1 if failed else 0
+                test.add(any(it.startswith(wanted) for it in lines), f"not written: {wanted}")
 
 
-if __name__ == "__main__":
-    sys.exit(main())
+script(__doc__, octet_counts, words=(0,))

@@ -264,12 +264,15 @@ class Test:
             self.add(case.allows(ran), f"{name}: {shlex.join(case.words)}: {ran.status} {ran.out[:2000]} {ran.err[:2000]}")
 
 
-def script(doc, *parts, words=1):
-    """Runs the parts of a script, functions and names of case files, on as many words, and ends with what they counted."""
-    if len(sys.argv) != words + 1:
+def script(doc, *parts, words=(1,)):
+    """Runs the parts of a script, functions and names of case files, and ends with what they counted.
+
+    `words` are the numbers of words that its command line may have.
+    """
+    if len(sys.argv) - 1 not in words:
         sys.exit(doc)
     with tempfile.TemporaryDirectory(prefix="tulvorn-test-") as room:
-        test = Test([os.path.abspath(it) for it in sys.argv[1:]], room)
+        test = Test([it if it.isdigit() else os.path.abspath(it) for it in sys.argv[1:]], room)
         os.symlink(f"{TOP}/examples", f"{room}/examples")
         for part in parts:
             os.chdir(room)

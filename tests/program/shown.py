@@ -3,9 +3,9 @@
 
 usage: tests/program/shown.py PROGRAM      a built asn_tool
 
-The messages are those of `examples`, those of values that `example` writes, messages that are cut short, and ones with a
-bit turned. The fields are all units, in order, up to the last or to the refused one. What is marked of them are the bits
-of the octets. Their values are those of the JSON that `show` writes, and the last line has the refusal of `show`. The
+The messages are those of `examples`, those of values that `example` writes, messages that are cut short, and ones with
+a bit turned. The fields are all units, in order, up to the last or to the refused one. What is marked of them are the
+bits of the octets. Their values are those of the JSON that `show` writes, and the last line has the refusal of `show`. The
 page of HTML has the same bits and lines, each field in one colour and its neighbours in others. The names of types are
 those in the text of the module, and the sizes of messages are within those that `types` shows. What `example` writes is
 encoded, and is the value again. shown.txt has other forms of octets, refusals, and sizes worked out by hand.
@@ -18,9 +18,12 @@ from run import lines, octets_of, script
 
 MODULES = (("cam", "Message"), ("bsm", "Message"), ("signalling", "Message"), ("rows", "Msg"), ("meter-2", "Report"))
 COLUMNS = re.compile(r" {2,}")
+FIELD = re.compile(r"(?:-|(\d+)(?:-(\d+))?) {2,}(.*)")
+NO_VALUE = re.compile(r"(extension |presence |preamble|length |quantity|unused |choice |tag |padding|absent|open )")
 SPAN = re.compile(r'<span class="(\w+)">([^<]*)</span>')
 ROW = re.compile(r'<tr class="(\w+)">(.*)</tr>')
 CELL = re.compile(r"<td>(.*?)</td>")
+FAULT = '<p class="fault">'
 
 
 def words_of(order, name, top, rules):
@@ -31,53 +34,39 @@ def words_of(order, name, top, rules):
 
 
 def split_lines(text):
-    """The lines of each message: an empty line stands between them."""
+    """The lines of each message, between empty lines."""
     return [it.splitlines() for it in text.decode().split("\n\n")] if text else []
 
 
 def fields_of(shown):
-    """The fields of the lines: first and last unit, octets and bits, the rest; and the line that tells of a refusal."""
-    fields, told = [], None
-    for line in shown:
-        found = re.match(r"(-|(\d+)(?:-(\d+))?) {2,}(.*)", line)
-        if not found:
-            told = line
-            continue
-        first = int(found[2]) if found[2] else None
-        last = int(found[3] or found[2]) if found[2] else None
-        fields.append((first, last, found[4]))
-    return fields, told
+    """The fields of the lines, each as its first and last unit, None without units, and the rest; and the refusal."""
+    found = [FIELD.match(it) for it in shown]
+    fields = [(int(it[1] or 0) or None, int(it[2] or it[1] or 0) or None, it[3]) for it in found if it]
+    return fields, next((line for line, it in zip(shown, found) if not it), None)
 
 
 def are_units(fields, last):
-    """Whether the fields are the units from 1 to the last, one after the other."""
-    at = 0
-    for first, end, _ in fields:
-        if first is not None:
-            if first != at + 1 or end < first:
-                return False
-            at = end
-    return at == last
+    """Whether the fields are the units from 1 to the last, in order."""
+    ends = [0, *(end for _, end, _ in fields if end)]
+    starts = [first for first, _, _ in fields if first]
+    return ends[-1] == last and starts == [it + 1 for it in ends[:-1]] and all(map(int.__le__, starts, ends[1:]))
+
+
+def marked(first, last, rules, octets):
+    """How the octets and bits of a field are shown."""
+    start, end = (first - 1, last) if rules == "oer" else ((first - 1) // 8, (last + 7) // 8)
+    shown = octets[start:end]
+    text = shown[:8].hex(" ").upper() + " .." * (len(shown) > 8)
+    if rules == "per" and len(shown) <= 2:
+        bits = "".join(f" {it:08b}" for it in shown)
+        places = iter(range(8 * start + 1, 8 * end + 1))
+        text += "".join(it if it == " " or first <= next(places) <= last else "." for it in bits)
+    return text
 
 
 def are_marked(fields, rules, octets):
     """Whether the octets and bits that are shown of each field are those of the message."""
-    for first, last, rest in fields:
-        if first is None:
-            continue
-        if rules == "oer":
-            of_field = octets[first - 1 : last]
-        else:
-            of_field = octets[(first - 1) // 8 : (last + 7) // 8]
-        wanted = " ".join(f"{it:02X}" for it in of_field[:8]) + (" .." if len(of_field) > 8 else "")
-        if rules == "per" and len(of_field) <= 2:
-            before = (first - 1) // 8 * 8
-            bits = "".join(f"{it:08b}" for it in of_field)
-            bits = "".join(bit if first <= before + at + 1 <= last else "." for at, bit in enumerate(bits))
-            wanted += "".join(" " + bits[at : at + 8] for at in range(0, len(bits), 8))
-        if not (rest + "  ").startswith(wanted + "  "):
-            return False
-    return True
+    return all(f"{rest}  ".startswith(marked(*at, rules, octets) + "  ") for *at, rest in fields if at[0])
 
 
 def cells_of(rest):
@@ -88,82 +77,57 @@ def cells_of(rest):
 
 def values_of(fields):
     """The values of the fields, of contents and of a DEFAULT that is absent: the last column."""
-    values = []
-    for _, _, rest in fields:
-        cells = cells_of(rest)
-        value = cells[-1]
-        if len(cells) < 3 or re.match(r"(extension |presence |preamble|length |quantity|unused |choice |tag |padding|absent|open )", value):
-            continue
-        values.append(value.removeprefix("DEFAULT "))
-    return values
+    rows = [cells_of(rest) for _, _, rest in fields]
+    return [it[-1].removeprefix("DEFAULT ") for it in rows if len(it) >= 3 and not NO_VALUE.match(it[-1])]
 
 
 def leaves(value):
     """The values inside a value as JSON has it, in order."""
-    if isinstance(value, dict):
-        return [it for one in value.values() for it in leaves(one)]
-    if isinstance(value, list):
-        return [it for one in value for it in leaves(one)]
+    if isinstance(value, (dict, list)):
+        return [it for one in (value.values() if isinstance(value, dict) else value) for it in leaves(one)]
     return [value]
 
 
 def as_notation(value, text):
     """Whether the text is the value as X.680 writes it; of strings of JSON whether it is in the text."""
-    if value is None:
-        return text == "NULL"
-    if isinstance(value, bool):
-        return text == ("TRUE" if value else "FALSE")
-    if isinstance(value, int):
-        return text == str(value)
+    if not isinstance(value, str):
+        return text == ("NULL" if value is None else str(value).upper())
     shown = "".join(f"\\x{ord(it):02X}" if ord(it) < 32 or 127 <= ord(it) < 160 else it for it in value)
     return shown.upper() in text.upper().replace('""', '"')
 
 
 def have_value(fields, value):
     """Whether the fields have the parts of the value in order; between them may be those of a DEFAULT."""
-    there = values_of(fields)
-    at = 0
-    for one in leaves(value):
-        while at < len(there) and not as_notation(one, there[at]):
-            at += 1
-        if at == len(there):
-            return False
-        at += 1
-    return True
+    there = iter(values_of(fields))
+    return all(any(as_notation(one, it) for it in there) for one in leaves(value))
 
 
 # ---- the page
 
 
 def page_units(page, rules):
-    """The units on a page, and the class of each."""
+    """The units on a page, each with its class."""
     body = page[page.index("<pre>") : page.index("</pre>")]
-    return [(unit, shade) for shade, text in SPAN.findall(body) for unit in (text.replace(" ", "") if rules == "per" else text.split())]
+    units = [(text.replace(" ", "") if rules == "per" else text.split(), shade) for shade, text in SPAN.findall(body)]
+    return [(unit, shade) for some, shade in units for unit in some]
 
 
-def is_page(page, rules, octets, fields, told):
+def is_page(page, rules, octets, fields, refusal):
     """Whether a page shows these fields, each in one colour, and its neighbours in others."""
     units = page_units(page, rules)
     end = max((last for _, last, _ in fields if last), default=0)
-    all_units = "".join(f"{it:08b}" for it in octets) if rules == "per" else [f"{it:02X}" for it in octets]
-    if [it for it, _ in units] != list(all_units[:end]):
-        return False
+    wanted = "".join(f"{it:08b}" for it in octets) if rules == "per" else octets.hex(" ").upper().split()
     rows = [(shade, [html.unescape(it) for it in CELL.findall(cells)]) for shade, cells in ROW.findall(page)]
-    if len(rows) != len(fields):
+    if [it for it, _ in units] != [*wanted[:end]] or len(rows) != len(fields):
         return False
     before = None
     for (shade, cells), (first, last, rest) in zip(rows, fields):
-        shown = "-" if first is None else f"{first}" if first == last else f"{first}-{last}"
-        if cells[0] != shown or cells_of(rest)[-1] != cells[4]:
+        place = "-" if first is None else f"{first}" if first == last else f"{first}-{last}"
+        shades = {it for _, it in units[first - 1 : last]} if first else {"none"}
+        if (cells[0], cells[4]) != (place, cells_of(rest)[-1]) or shades != {shade} or first and shade == before:
             return False
-        if first is None:
-            if shade != "none":
-                return False
-            continue
-        if shade == before or any(it != shade for _, it in units[first - 1 : last]):
-            return False
-        before = shade
-    return (told is None) == ('<p class="fault">' not in page) and (told is None or f'<p class="fault">{html.escape(told)}</p>' in page)
+        before = shade if first else before
+    return FAULT not in page if refusal is None else f"{FAULT}{html.escape(refusal)}</p>" in page
 
 
 # ---- what is tried

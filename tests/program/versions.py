@@ -2,20 +2,19 @@
 """Walks pairs of types of which one is a later version of the other, two levels deep, with every subset of the
 extension additions present, and compares what `newer` of the program answers with what examples/reference.py works out.
 
-    tests/program/versions.py PROGRAM
+usage: tests/program/versions.py PROGRAM
 
 Each type below has extension additions at both levels. Its versions have the first additions of each list and not the
 others, at each place. Of each pair of versions, older and newer, the octets of all values of each are read by the
-other, in both encoding rules; with `--json` too, where each addition that is skipped is told with its path. What that
-writes is given to `encode --newer`, which gives the octets of the value where nothing was skipped, and refuses the others.
+other, in both encoding rules; with `--json` too, which writes each addition that is skipped with its path. From that
+`encode --newer` writes the octets of the value where nothing was skipped, and refuses the others.
 """
-import importlib.util, itertools, json, os, subprocess, sys
+import itertools
+import json
 
-TOP = os.path.dirname(os.path.dirname(os.path.dirname(os.path.abspath(__file__))))
-SPEC = importlib.util.spec_from_file_location('reference', f'{TOP}/examples/reference.py')
-reference = importlib.util.module_from_spec(SPEC)
-SPEC.loader.exec_module(reference)
+from run import reference, script
 
+reference = reference()
 INNER = [
     'SEQUENCE { p BOOLEAN, ..., q INTEGER (0..255) OPTIONAL, s NULL OPTIONAL }',
     'CHOICE { x NULL, y BOOLEAN, ..., z INTEGER (0..3), w OCTET STRING }',
@@ -122,7 +121,26 @@ class Walk:
         return f'Versions DEFINITIONS AUTOMATIC TAGS ::= BEGIN\n{types}END\n====\n'
 
 
-def main(program):
+def compare(test, walk, name, rules, lines):
+    """The answers to all messages that a type receives."""
+    wanted = list(lines.values())
+    for order, way, given, at in (
+        ('newer', [], list(lines), 0),
+        ('newer', ['--json'], list(lines), 1),
+        ('encode', ['--newer'], [texts[1] for texts in wanted], 2),
+    ):
+        ran = test.run([order, '--type', name, '--rules', rules, *way], walk.module() + '\n'.join(given) + '\n')
+        answers = ran.out.decode().split('\n')[:-1]
+        wrong = [
+            (line, answer, texts[at]) for line, texts, answer in zip(given, wanted, answers)
+            if answer != texts[at] and not (texts[at] == '! shape ' and answer.startswith(texts[at]))
+        ]
+        is_well = ran.status <= (order == 'encode') and len(answers) == len(lines) and not wrong
+        ty = next(ty for ty, other in walk.names.items() if other == name)
+        test.add(is_well, f'{ty} {order} {way} {rules}: {ran[0]} {ran[2][:200]} {len(answers)} {wrong[:1]}')
+
+
+def versions(test):
     messages = pairs_in_all = 0
     for outer, inner in itertools.product(OUTER, INNER):
         walk = Walk()
@@ -132,24 +150,9 @@ def main(program):
             walk.add(newer, older)
         pairs_in_all += len(of_type)
         for (name, rules), lines in walk.given.items():
-            wanted = list(lines.values())
-            for order, way, given, at in (
-                ('newer', [], list(lines), 0),
-                ('newer', ['--json'], list(lines), 1),
-                ('encode', ['--newer'], [texts[1] for texts in wanted], 2),
-            ):
-                job = [program, order, '--type', name, '--rules', rules, *way]
-                told = subprocess.run(job, input=walk.module() + '\n'.join(given) + '\n', capture_output=True, text=True)
-                answers = told.stdout.split('\n')[:-1]
-                if told.returncode > (order == 'encode') or len(answers) != len(lines):
-                    sys.exit(f'versions: {job}: status {told.returncode}; {told.stdout[:200]}{told.stderr[:200]}')
-                for line, texts, answer in zip(given, wanted, answers):
-                    if answer != texts[at] and not (texts[at] == '! shape ' and answer.startswith(texts[at])):
-                        ty = next(ty for ty, other in walk.names.items() if other == name)
-                        sys.exit(f'versions: {ty} {job[1:]}: {line} is answered {answer}, and not {texts[at]}')
+            compare(test, walk, name, rules, lines)
             messages += len(lines)
-    print(f'versions: {pairs_in_all} pairs of types, {messages} messages in both encoding rules, plain, as objects and taken back')
+    print(f'{pairs_in_all} pairs of types, {messages} messages in both encoding rules, plain, as objects and taken back')
 
 
-if __name__ == '__main__':
-    main(*sys.argv[1:])
+script(__doc__, versions)

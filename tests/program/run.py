@@ -130,19 +130,21 @@ def run(words, given=b"", *, most=None, pieces=None, ends=None, check=False, **h
 
 def expand(text, **numbers):
     """The text with its repeats and numbers written out."""
-    made, at, counts = "''.join((", 0, []
+    levels, at = [["", ""]], 0
     for it in REPEAT.finditer(text):
         count, between, end, name, value = it.groups()
-        made += f"{text[at:it.start()]!r},"
+        levels[-1][0] += text[at : it.start()].replace("%", "%%")
         at = it.end()
         if count is not None:
-            counts.append(count)
-            made += f"{between or ''!r}.join(''.join(("
-        elif end:
-            made += f")) for {'ij'[len(counts) - 1]} in range({counts.pop()})),"
-        else:
-            made += f"str({name or value}),"
-    return eval(f"{made}{text[at:]!r},))", numbers)
+            levels.append(["", "", count, between or ""])
+            continue
+        if end:
+            form, values, count, between = levels.pop()
+            value = f"{between!r}.join([{form!r} % ({values}) for {'ij'[len(levels) - 1]} in range({count})])"
+        levels[-1][0] += "%s"
+        levels[-1][1] += f"{value or name},"
+    (form, values), = levels
+    return eval(f"{form + text[at:].replace('%', '%%')!r} % ({values})", numbers)
 
 
 def split(words):

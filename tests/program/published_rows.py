@@ -1,26 +1,22 @@
 #!/usr/bin/env python3
-"""Looks at the rows of tests/programs/published, without the program.
+"""Looks at the rows of tests/programs/published and at examples/published, without a program.
 
-usage: tests/published_rows.py
+usage: tests/program/published_rows.py
 
-1. ROWS.txt: what it names by a piece of a text is one case and no other, of which the report says what stands there; a type
-   that is not refused has octets in both rules, or in PER alone where OER has others; no case of the files that it is
-   about is left out.
-2. The octets of all rows are those that the second implementation, examples/reference.py, works out of the type of the
-   profile.
-
-The last line is 'N passed, M failed'.
+ROWS.txt names each case of its files by a piece of the text, which is in no other case. The report of the case says what
+ROWS.txt says. A type that is not refused has octets in both rules, or in PER alone where OER has others. All octets are
+those that the second implementation, examples/reference.py, computes from the type of the profile.
 """
 import glob
+import json
 import re
-import sys
 
-sys.dont_write_bytecode = True
-from published import Count, REFERENCE, TOP, agree
+from run import TOP, reference, script, text_of
 
 FOLDER = f"{TOP}/tests/programs/published"
 # the files of which ROWS.txt names each case
 LISTED = ("stdin", "stdin.subjects")
+REFERENCE = reference()
 
 
 class Case:
@@ -46,75 +42,66 @@ class Case:
 
     def type(self):
         """The type T of the profile."""
-        for it in self.lines:
-            if it.startswith("= "):
-                return it[2:]
-
-
-def is_text(line):
-    return line.startswith((": ", "+ ", "options "))
+        return next((it[2:] for it in self.lines if it.startswith("= ")), None)
 
 
 def cases_of(file):
     """The cases of a file of rows."""
     cases, was_text = [], False
-    with open(file, encoding="utf-8") as it:
-        for line in it.read().splitlines():
-            if not line or line.startswith("#"):
-                continue
-            if is_text(line) and not was_text:
-                cases.append(Case())
-            was_text = is_text(line)
-            cases[-1].lines.append(line)
+    for line in text_of(file).splitlines():
+        if not line or line.startswith("#"):
+            continue
+        is_text = line.startswith((": ", "+ ", "options "))
+        if is_text and not was_text:
+            cases.append(Case())
+        was_text = is_text
+        cases[-1].lines.append(line)
     return cases
 
 
 def listed():
     """What ROWS.txt has: the encodings, and the piece of a case."""
-    with open(f"{FOLDER}/ROWS.txt", encoding="utf-8") as it:
-        for line in it:
-            cells = [cell.strip() for cell in re.split(r"(?<!\\)\|", line)[1:-1]]
-            if len(cells) == 4 and cells[3].startswith("`"):
-                yield cells[2], cells[3][1:-1].replace("\\|", "|").replace("\\n", "\n")
+    for line in text_of(f"{FOLDER}/ROWS.txt").splitlines():
+        cells = [cell.strip() for cell in re.split(r"(?<!\\)\|", line)[1:-1]]
+        if len(cells) == 4 and cells[3].startswith("`"):
+            yield cells[2], cells[3][1:-1].replace("\\|", "|").replace("\\n", "\n")
 
 
-def check_list(count, cases):
-    """That ROWS.txt names a case with what it says, and leaves none out."""
-    named = set()
+def names(test):
+    """ROWS.txt names a case with what it says, and leaves none out."""
+    cases, named = [it for file in LISTED for it in cases_of(f"{FOLDER}/{file}")], set()
     for status, piece in listed():
         found = [it for it in cases if piece in it.text() or piece.replace("\n", "\\n") in it.text()]
-        count.add(len(found) == 1, f"ROWS.txt: {piece!r} is a piece of {len(found)} cases")
-        if len(found) != 1:
+        if not test.add(len(found) == 1, f"ROWS.txt: {piece!r} is a piece of {len(found)} cases"):
             continue
         case, = found
-        named.add(id(case))
-        count.add(status in case.statuses(), f"ROWS.txt: {piece!r}: {status}, and the case has {case.statuses()}")
+        named.add(case)
+        test.add(status in case.statuses(), f"ROWS.txt: {piece!r}: {status}, and the case has {case.statuses()}")
         whole = any("-" not in it[1:] for it in case.octets())
         in_per = status == "per only" and bool(case.octets())
-        count.add(status in ("refused", "fault") or whole or in_per, f"ROWS.txt: {piece!r}: no octets in both rules")
+        test.add(status in ("refused", "fault") or whole or in_per, f"ROWS.txt: {piece!r}: no octets in both rules")
     for case in cases:
-        count.add(id(case) in named, f"ROWS.txt does not name the case {case.lines[:2]}")
+        test.add(case in named, f"ROWS.txt does not name the case {case.lines[:2]}")
 
 
-def check_octets(count, cases):
-    """That the octets of the rows are those of the second implementation."""
-    for case in cases:
-        if case.type() is None:
-            continue
-        types = REFERENCE.Parser(f"M DEFINITIONS AUTOMATIC TAGS ::= BEGIN T ::= {case.type()} END").module()
-        for value, *octets in case.octets():
-            agree(count, case.lines[0], types, "T", value, octets)
+def agree(test, module, name, rows):
+    """The octets of values in both rules are those of the second implementation; `-` if there are none."""
+    types = REFERENCE.Parser(module).module()
+    for value, *octets in rows:
+        for rules, wanted in zip((REFERENCE.Per, REFERENCE.Oer), octets):
+            if wanted != "-":
+                made = rules(types).whole(types[name], json.loads(value)).hex()
+                test.add(made == wanted, f"{module}: {value} {rules.__name__} {wanted}, and by reference.py {made}")
 
 
-def main():
-    count = Count()
+def octets(test):
     cases = [it for file in sorted(glob.glob(f"{FOLDER}/stdin*")) for it in cases_of(file)]
-    check_list(count, [it for file in LISTED for it in cases_of(f"{FOLDER}/{file}")])
-    check_octets(count, cases)
+    for case in cases:
+        if case.type():
+            agree(test, f"M DEFINITIONS AUTOMATIC TAGS ::= BEGIN T ::= {case.type()} END", "T", case.octets())
+    stored = [text_of(f"examples/published/report.{it}").splitlines() for it in ("values", "per", "oer")]
+    agree(test, text_of("examples/published/flattened.asn"), "Report", zip(*stored))
     print(f"{len(cases)} cases, {sum(len(it.octets()) for it in cases)} rows of octets, {len([*listed()])} lines of ROWS.txt")
-    print(f"{count.passed} passed, {count.failed} failed")
-    return 1 if count.failed else 0
 
 
-if __name__ == "__main__":
-    sys.exit(main())
+script(__doc__, names, octets, words=(0,))

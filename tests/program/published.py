@@ -3,8 +3,8 @@
 
 usage: tests/program/published.py PROGRAM
 
-published.txt has what each command answers to the examples, and published_reports.txt the reports of modules that are too
-large, have faults or need others. The kinds of hostile texts are in published_texts.txt. The program answers each, or
+published.txt has what each command answers to the examples. published_reports.txt has the reports of modules that are
+too large, have faults or need others. published_texts.txt has the kinds of hostile texts. The program answers each, or
 refuses it with a line. bench/hostile.py measures how its time grows with such a text.
 """
 import os
@@ -19,7 +19,7 @@ def examples(test):
 
 
 def one_type(test):
-    """`flatten --type` writes a type, and of the other lines of the whole module only those of types that it leads to."""
+    """`flatten --type` writes the lines of a type and of those that it leads to, and reports on these."""
     os.chdir("examples/published")
     whole = test.run("flatten report.asn common.asn").out.decode().splitlines()
     for line in whole[1:-1]:

@@ -3,9 +3,9 @@
 
 usage: tests/program/published_rows.py
 
-ROWS.txt names each case of its files by a piece of the text, which is in no other case. The report of the case says what
-ROWS.txt says. A type that is not refused has octets in both rules, or in PER alone where OER has others. All octets are
-those that the second implementation, examples/reference.py, computes from the type of the profile.
+ROWS.txt names each case of its files by a piece of the text, which is in no other case. The report of the case says
+what ROWS.txt says. A type that is not refused has octets in both rules, or in PER alone if OER has others. All octets
+are those that the second implementation, examples/reference.py, computes from the type of the profile.
 """
 import glob
 import json
@@ -101,7 +101,6 @@ def octets(test):
             agree(test, f"M DEFINITIONS AUTOMATIC TAGS ::= BEGIN T ::= {case.type()} END", "T", case.octets())
     stored = [text_of(f"examples/published/report.{it}").splitlines() for it in ("values", "per", "oer")]
     agree(test, text_of("examples/published/flattened.asn"), "Report", zip(*stored))
-    print(f"{len(cases)} cases, {sum(len(it.octets()) for it in cases)} rows of octets, {len([*listed()])} lines of ROWS.txt")
 
 
 script(__doc__, names, octets, words=(0,))

@@ -8,7 +8,7 @@ Kind = namedtuple("Kind", "half text files first most")
 
 
 def kind_of(lines, half, files="1"):
-    """A kind: the %n of the shorter text, the text, how many files, its first line of a report and the limit of memory."""
+    """The %n of the shorter text, the text, how many files, the first line of its report, and the limit of memory."""
     text = Written()
     for line in lines:
         if line[0] == "|":

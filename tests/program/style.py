@@ -1,12 +1,12 @@
 #!/usr/bin/env python3
 """Finds long sentences and private words in what users read: pages, help, header and public docstrings (docs/STYLE.md).
 
-usage: tests/program/style.py [FILE..]      all of FILES by default; the last line is 'N passed, M failed', a file each
+usage: tests/program/style.py [FILE..]      all of FILES by default
 """
 import glob
-import os
 import re
-import sys
+
+from run import TOP, script, text_of
 
 FILES = ["*.md", "*/*.md", "crates/*/README.md", "bindings/c/tulvorn.h", "crates/*/src/*.rt"]
 PRIVATE = re.compile(r"\b(tells?|telling|told|stands?|standing|stood|beside|but for|in the place of|by ones|strangers?|"
@@ -29,11 +29,17 @@ def faults_in(path, text):
             yield f"{f'{words} words' if words > 40 else repr(private[0])}: {' '.join(sentence.split())[:90]}"
 
 
-if __name__ == "__main__":
+def itself(_):
+    """What is a fault in a page, and what is not."""
     assert [*faults_in("a.md", "word " * 41)] and not [*faults_in("a.md", "word " * 40 + ".\n\n" + "| word " * 41)]
     assert [*faults_in("a.md", "It is told.")] and not [*faults_in("a.md", "```\nIt is told.\n```\nSo is `told`.")]
-    os.chdir(os.path.dirname(os.path.dirname(os.path.dirname(os.path.abspath(__file__)))))
-    found = {it: [*faults_in(it, open(it).read())] for it in sys.argv[1:] or sorted(sum(map(glob.glob, FILES), []))}
-    print("".join(f"{file}: {fault}\n" for file, faults in found.items() for fault in faults), end="")
-    print(f"{sum(not it for it in found.values())} passed, {sum(map(bool, found.values()))} failed")
-    sys.exit(any(found.values()))
+
+
+def style(test):
+    files = test.words or sorted(it for name in FILES for it in glob.glob(f"{TOP}/{name}"))
+    for file in files:
+        faults = [*faults_in(file, text_of(file))]
+        test.add(not faults, "\n".join(f"{file}: {it}" for it in faults))
+
+
+script(__doc__, itself, style, words=range(1000))

@@ -1,22 +1,20 @@
 #!/usr/bin/env python3
 """Compares the SEQUENCE types that `asn_tool flatten` gives with a second reading of them.
 
-usage: tests/published_sequences.py PROGRAM [SEED [COUNT]]
+usage: tests/program/published_sequences.py PROGRAM [SEED [COUNT]]
 
-Types are made at random in two modules, one with EXTENSIBILITY IMPLIED: components of simple types and of one another,
-with OPTIONAL and DEFAULT, extension marks, additions and groups with and without versions, a second mark with components
-after it, COMPONENTS OF in the root, among the additions and in groups, and references to parameterized types. The type of the profile has to be the one that is made beside
-the text, and the report has to have the status that comes of its components. The last line is 'N passed, M failed'.
+Types are made at random in two modules, one with EXTENSIBILITY IMPLIED. They have components of simple types and of one
+another, with OPTIONAL and DEFAULT, extension marks, additions, groups with and without versions, and a second mark with
+components after it. They have COMPONENTS OF in the root, among the additions and in groups, and references to
+parameterized types. The type of the profile is the one that is made together with the text. The report has the status
+that follows from its components.
 """
 import json
-import os
 import random
-import sys
-import tempfile
 
-sys.dont_write_bytecode = True
-from published import Count, REFERENCE, run
+from run import reference, script, write
 
+REFERENCE = reference()
 STATUSES = ("same", "narrower", "wider", "owed", "per only", "refused")
 # a simple type: as it is published, as it is in the profile, its status, and a DEFAULT with what becomes of it
 SIMPLE = (
@@ -184,34 +182,22 @@ def words(text):
     return REFERENCE.TOKEN.findall(text)
 
 
-def main(given):
-    if not 1 <= len(given) <= 3:
-        print(__doc__, file=sys.stderr)
-        return 2
-    seed, many = (int(given[1]) if len(given) > 1 else 1), (int(given[2]) if len(given) > 2 else TYPES)
-    maker, count = Maker(random.Random(seed)), Count()
+def compare(test, seed=1, many=TYPES):
+    maker, files = Maker(random.Random(seed)), []
     for _ in range(many):
         maker.type()
-    with tempfile.TemporaryDirectory(prefix="tulvorn-sequences-") as room:
-        names = []
-        for module, more in enumerate(("", " EXTENSIBILITY IMPLIED")):
-            names.append(f"{room}/{module}.asn")
-            with open(names[-1], "w") as it:
-                it.write(f"M{module} DEFINITIONS AUTOMATIC TAGS{more} ::= BEGIN\n{VALUES}")
-                it.writelines(f"{one.text}\n" for one in maker.types if one.module == module)
-                it.write("END\n")
-        _, out, told, *_ = run(os.path.abspath(given[0]), ["flatten", "--plain-bits", "--report", "json", *names])
-    found = dict(line.split(" ::= ", 1) for line in out.decode().splitlines()[1:-1])
-    said = {it["type"]: it["status"] for it in map(json.loads, told.decode().splitlines())}
+    for module, more in enumerate(("", " EXTENSIBILITY IMPLIED")):
+        text = "".join(f"{one.text}\n" for one in maker.types if one.module == module)
+        head = f"M{module} DEFINITIONS AUTOMATIC TAGS{more} ::= BEGIN\n"
+        files.append(write(f"{module}.asn", f"{head}{VALUES}{text}END\n"))
+    ran = test.run(["flatten", "--plain-bits", "--report", "json", *files])
+    found = dict(line.split(" ::= ", 1) for line in ran.out.decode().splitlines()[1:-1])
+    said = {it["type"]: it["status"] for it in map(json.loads, ran.err.splitlines())}
     for one in maker.types:
         wanted = words(one.flat) if one.status != "refused" else None
         flat = words(found[one.name]) if one.name in found else None
-        well = said[one.name] == one.status and flat == wanted
-        count.add(well, f"seed {seed}: M{one.module} {one.text}: {said[one.name]} {found.get(one.name)}, wanted {one.status} {one.flat}")
-    print(f"{len(found)} types, {[*said.values()].count('refused')} refused")
-    print(f"{count.passed} passed, {count.failed} failed")
-    return 1 if count.failed else 0
+        what = f"{said[one.name]} {found.get(one.name)}, wanted {one.status} {one.flat}"
+        test.add(said[one.name] == one.status and flat == wanted, f"seed {seed}: M{one.module} {one.text}: {what}")
 
 
-if __name__ == "__main__":
-    sys.exit(main(sys.argv[1:]))
+script(__doc__, lambda test: compare(test, *map(int, test.words[1:])), words=range(1, 4))

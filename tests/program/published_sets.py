@@ -1,23 +1,18 @@
 #!/usr/bin/env python3
 """Compares what `asn_tool flatten` makes of constraints with a second reading of them.
 
-usage: tests/published_sets.py PROGRAM [SEED [COUNT]]
+usage: tests/program/published_sets.py PROGRAM [SEED [COUNT]]
 
 Constraints of INTEGER and sizes of OCTET STRING are made at random from the grammar of X.680 ("constrained types",
-"element set specification"): values, ranges with and without `<`, MIN and MAX, unions, intersections, EXCEPT, ALL EXCEPT,
-contained subtypes, parentheses, extension marks, and constraints one after another, on the type or on a reference. Beside
-its text each set is made as a set of numbers, EXCEPT aside, which PER and OER do not see. The type of the profile has to have
-the least and the greatest of these numbers and the last mark; where numbers between are missing, or something is not seen,
-the type is wider, and else it is not; where none are left, or a mark stands on what is all numbers, it is refused. The last line is
-'N passed, M failed'.
+"element set specification"). They have values, ranges with and without `<`, MIN and MAX, unions, intersections, EXCEPT,
+ALL EXCEPT, contained subtypes, parentheses and extension marks. Several follow one another, on the type or on a
+reference. Each text is made together with its set of numbers, without EXCEPT, which PER and OER do not see. The type of
+the profile has the least and the greatest of these numbers and the last mark. It is wider if numbers between are missing
+or something is not seen. It is refused if no numbers are left, or if a mark follows all numbers.
 """
-import os
 import random
-import sys
-import tempfile
 
-sys.dont_write_bytecode = True
-from published import Count, HEAD, run
+from run import script, write
 
 # what stands for no bound below and above
 LEAST, MOST = -60, 60
@@ -139,7 +134,7 @@ class Type:
 
 def made(chance, count):
     """The text of a module, and of each type what it has to become, and whether it has to be wider."""
-    text, wanted, named = [HEAD], {}, []
+    text, wanted, named = ["M DEFINITIONS AUTOMATIC TAGS ::= BEGIN\n"], {}, []
     for index in range(count):
         is_size = index % 3 == 2
         least = 0 if is_size else LEAST
@@ -155,30 +150,25 @@ def made(chance, count):
     return "".join([*text, "END\n"]), wanted
 
 
-def main(words):
-    if not 1 <= len(words) <= 3:
-        print(__doc__, file=sys.stderr)
-        return 2
-    seed, many = (int(words[1]) if len(words) > 1 else 1), (int(words[2]) if len(words) > 2 else TYPES)
-    count, (text, wanted) = Count(), made(random.Random(seed), many)
-    with tempfile.TemporaryDirectory(prefix="tulvorn-sets-") as room:
-        with open(f"{room}/sets.asn", "w") as it:
-            it.write(text)
-        status, out, told, *_ = run(os.path.abspath(words[0]), ["flatten", "--report", "text", f"{room}/sets.asn"])
-    found = dict(line.split(" ::= ", 1) for line in out.decode().splitlines()[1:-1])
-    wider = {line.split(": ")[1] for line in told.decode().splitlines() if ": wider: " in line}
-    # where ranges meet others there may be more than are kept
-    many_ranges = {line.split(": ")[1] for line in told.decode().splitlines() if line.endswith("more than 256 ranges")}
+def remarks_of(report):
+    """The type and the remark of each line of a report."""
+    return [line.split(": ", 1)[1].split(": ", 1) for line in report.decode().splitlines()]
+
+
+def compare(test, seed=1, many=TYPES):
+    text, wanted = made(random.Random(seed), many)
+    ran = test.run(["flatten", "--report", "text", write("sets.asn", text)])
+    found = dict(line.split(" ::= ", 1) for line in ran.out.decode().splitlines()[1:-1])
     lines = dict(line.split(" ::= ", 1) for line in text.splitlines()[1:-1])
+    remarks = remarks_of(ran.err)
+    wider = {name for name, remark in remarks if remark.startswith("wider: ")}
+    # where ranges meet others there may be more than are kept
+    many_ranges = {name for name, remark in remarks if remark.endswith("more than 256 ranges")}
     for name, (type_wanted, is_wider) in wanted.items():
         if name in many_ranges:
             continue
         well = found.get(name) == type_wanted and (type_wanted is None or is_wider == (name in wider))
-        count.add(well, f"seed {seed}: {lines[name]}: {found.get(name)}, wanted {type_wanted}, wider {is_wider} {name in wider}")
-    print(f"{sum(it[0] is not None for it in wanted.values())} types, {sum(it[0] is None for it in wanted.values())} refused, status {status}")
-    print(f"{count.passed} passed, {count.failed} failed")
-    return 1 if count.failed else 0
+        test.add(well, f"seed {seed}: {lines[name]}: {found.get(name)}, {name in wider}, wanted {type_wanted}, {is_wider}")
 
 
-if __name__ == "__main__":
-    sys.exit(main(sys.argv[1:]))
+script(__doc__, lambda test: compare(test, *map(int, test.words[1:])), words=range(1, 4))

@@ -1,23 +1,20 @@
 #!/usr/bin/env python3
 """Compares the order of SET and CHOICE that `asn_tool flatten` gives with a second reading of their tags.
 
-usage: tests/published_tags.py PROGRAM [SEED [COUNT]]
+usage: tests/program/published_tags.py PROGRAM [SEED [COUNT]]
 
-Types are made at random in three modules, of AUTOMATIC, IMPLICIT and EXPLICIT TAGS: SET and CHOICE with tags of all classes
-and without, of simple types, of one another across the modules, of CHOICE types that have no tag of their own, and of
-alternatives of these, with additions, and with COMPONENTS OF another SET. The type of the profile has to have the root in
-the canonical order of tags (X.680), the additions as they stand, and the remark that OER tells alternatives apart by other
-tags just where these are not 0, 1, .., or one of them is a CHOICE that has no tag of its own; where two of the root have one
-tag it is refused. The last line is 'N passed, M failed'.
+Types are made at random in three modules, of AUTOMATIC, IMPLICIT and EXPLICIT TAGS. They are SET and CHOICE with tags
+of all classes and without, of simple types, of one another across the modules, of CHOICE types without a tag, and of
+alternatives of these. They have additions, and COMPONENTS OF another SET. The type of the profile has the root in the
+canonical order of tags (X.680), then the additions as they are. It has the remark that OER tells alternatives apart by
+other tags if these are not 0, 1, .., or one of them is a CHOICE without a tag. It is refused if two of the root have one
+tag.
 """
-import os
 import random
-import sys
-import tempfile
 
-sys.dont_write_bytecode = True
-from published import Count, REFERENCE, run
+from run import reference, script, write
 
+REFERENCE = reference()
 DEFAULTS = ("AUTOMATIC", "IMPLICIT", "EXPLICIT")
 CLASSES = ("UNIVERSAL", "APPLICATION", "", "PRIVATE")
 SIMPLE = {
@@ -81,7 +78,7 @@ class Made:
             return None
         return [it.name for it in sorted(self.root, key=lambda it: it.tag)]
 
-    def is_told(self):
+    def is_marked(self):
         """Whether OER tells alternatives apart by other tags than 0, 1, .."""
         if self.word == "SET" or self.is_automatic:
             return False
@@ -146,31 +143,21 @@ def made(chance, count):
     return "".join(texts), types
 
 
-def main(words):
-    if not 1 <= len(words) <= 3:
-        print(__doc__, file=sys.stderr)
-        return 2
-    seed, many = (int(words[1]) if len(words) > 1 else 1), (int(words[2]) if len(words) > 2 else TYPES)
-    count, (text, types) = Count(), made(random.Random(seed), many)
-    with tempfile.TemporaryDirectory(prefix="tulvorn-tags-") as room:
-        with open(f"{room}/tags.asn", "w") as it:
-            it.write(text)
-        status, out, told, *_ = run(os.path.abspath(words[0]), ["flatten", "--report", "text", f"{room}/tags.asn"])
-    read = REFERENCE.Parser(out.decode()).module()
-    said = {line.split(": ")[1] for line in told.decode().splitlines() if line.endswith("OER tells the alternatives apart by other tags")}
+def compare(test, seed=1, many=TYPES):
+    text, types = made(random.Random(seed), many)
+    ran = test.run(["flatten", "--report", "text", write("tags.asn", text)])
+    read, remark = REFERENCE.Parser(ran.out.decode()).module(), "OER tells the alternatives apart by other tags"
+    said = {line.split(": ")[1] for line in ran.err.decode().splitlines() if line.endswith(remark)}
     lines = {line.split(" ", 1)[0]: line for line in text.splitlines()}
     for it in types:
         found, order = read.get(it.name), it.order()
+        what = f"seed {seed}: M{it.module} {lines[it.name]}"
         if order is None or found is None:
-            count.add((found is None) == (order is None), f"seed {seed}: M{it.module} {lines[it.name]}: {found and [one[0] for one in found['root']]}, wanted {order}")
+            test.add(found is None and order is None, f"{what}: {found}, wanted {order}")
             continue
         names, more = [one[0] for one in found["root"]], [one[0] for one in found["more"] or []]
-        well = names == order and more == [one.name for one in it.additions or []] and (it.name in said) == it.is_told()
-        count.add(well, f"seed {seed}: M{it.module} {lines[it.name]}: {names} {more}, wanted {order}; told {it.name in said}, wanted {it.is_told()}")
-    print(f"{sum(it.order() is not None for it in types)} types, {sum(it.order() is None for it in types)} refused, status {status}")
-    print(f"{count.passed} passed, {count.failed} failed")
-    return 1 if count.failed else 0
+        well = names == order and more == [one.name for one in it.additions or []]
+        test.add(well and (it.name in said) == it.is_marked(), f"{what}: {names} {more}, wanted {order} {it.is_marked()}")
 
 
-if __name__ == "__main__":
-    sys.exit(main(sys.argv[1:]))
+script(__doc__, lambda test: compare(test, *map(int, test.words[1:])), words=range(1, 4))

@@ -38,7 +38,10 @@ SIMPLE = (
     ("CHOICE { x NULL, y BOOLEAN }", "CHOICE { x NULL, y BOOLEAN }", "same", "y : TRUE", None),
 )
 BARRED = ("BMPString", "SET OF BOOLEAN", "EXTERNAL", "DATE", "Unknown", "Nowhere.T")
-VALUES = "C ::= CLASS { &id INTEGER (0..255) UNIQUE, &Type } Set C ::= { ... } yes BOOLEAN ::= TRUE three INTEGER ::= 3\nOpt { X } ::= SEQUENCE { v X, n NULL OPTIONAL }\n"
+VALUES = """C ::= CLASS { &id INTEGER (0..255) UNIQUE, &Type } Set C ::= { ... }
+yes BOOLEAN ::= TRUE three INTEGER ::= 3
+Opt { X } ::= SEQUENCE { v X, n NULL OPTIONAL }
+"""
 TYPES = 1500
 
 
@@ -47,7 +50,7 @@ def worse(one, other):
 
 
 class Part:
-    """A component: its text, its line in the profile without OPTIONAL and DEFAULT, its status, its need and its DEFAULT."""
+    """A component: its text, its line in the profile without OPTIONAL and DEFAULT, its status, need and DEFAULT."""
 
     def __init__(self, name, text, flat, status, need="", default=None, default_flat=None):
         self.name, self.need = name, need
@@ -60,7 +63,7 @@ class Part:
 
 
 class Made:
-    """A SEQUENCE: its text, the components of its root, its type in the profile, its status, and how many nodes it has."""
+    """A SEQUENCE: its text, the components of its root, its type in the profile, its status, and its nodes."""
 
     def __init__(self, module, name):
         self.module, self.name, self.root, self.status, self.nodes, self.depth = module, name, [], "same", 1, 1
@@ -98,7 +101,8 @@ class Maker:
 
     def included(self, one, used):
         """Sometimes a type for COMPONENTS OF, whose components have names that are not used yet."""
-        others = [it for it in self.types[-30:] if it.status != "refused" and 0 < len(it.root) < 9 and not used & {part.name for part in it.root}]
+        others = [it for it in self.types[-30:] if it.status != "refused" and 0 < len(it.root) < 9]
+        others = [it for it in others if not used & {part.name for part in it.root}]
         if self.chance.random() >= 0.08 or not others:
             return None
         other = self.chance.choice(others)
@@ -107,7 +111,7 @@ class Maker:
         return other
 
     def components(self, one, most, used):
-        """Components of a root, with COMPONENTS OF others, whose names are not used yet: their texts, and what they are."""
+        """Components of a root, with COMPONENTS OF others whose names are not used yet: the texts and the parts."""
         texts, parts = [], []
         for _ in range(self.chance.randint(0, most)):
             other = self.included(one, used)
@@ -120,8 +124,9 @@ class Maker:
         return texts, parts
 
     def group(self, one, number):
-        """A group: its text, its line in the profile, and whether it has to be there; where each component may be absent it is
-        owed."""
+        """A group: its text, its line in the profile, and whether it has to be present.
+
+        It is owed if each component may be absent."""
         other = self.included(one, set())
         parts = other.root if other else [self.part(one) for _ in range(self.chance.randint(1, 3))]
         said = f"COMPONENTS OF {other.reference(one.module)}" if other else ", ".join(it.text for it in parts)
@@ -131,7 +136,8 @@ class Maker:
         if all(it.need for it in parts):
             one.status = worse(one.status, "owed")
         inner = ", ".join(it.flat + it.suffix for it in parts)
-        return f"[[ {version}{said} ]]", f"ext{number} SEQUENCE {{ {inner} }} OPTIONAL", not all(it.need for it in parts)
+        flat = f"ext{number} SEQUENCE {{ {inner} }} OPTIONAL"
+        return f"[[ {version}{said} ]]", flat, not all(it.need for it in parts)
 
     def additions(self, one, used):
         """Additions, groups and COMPONENTS OF others among them: their texts, and their lines in the profile."""

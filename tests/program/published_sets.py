@@ -7,14 +7,14 @@ Constraints of INTEGER and sizes of OCTET STRING are made at random from the gra
 "element set specification"). They have values, ranges with and without `<`, MIN and MAX, unions, intersections, EXCEPT,
 ALL EXCEPT, contained subtypes, parentheses and extension marks. Several follow one another, on the type or on a
 reference. Each text is made together with its set of numbers, without EXCEPT, which PER and OER do not see. The type of
-the profile has the least and the greatest of these numbers and the last mark. It is wider if numbers between are missing
-or something is not seen. It is refused if no numbers are left, or if a mark follows all numbers.
+the profile has the least and the greatest of these numbers and the last mark. It is wider if numbers between are
+missing or something is not seen. It is refused if no numbers are left, or if a mark follows all numbers.
 """
 import random
 
 from run import script, write
 
-# what stands for no bound below and above
+# the numbers that are no bound below and above
 LEAST, MOST = -60, 60
 TYPES = 3000
 
@@ -168,7 +168,8 @@ def compare(test, seed=1, many=TYPES):
         if name in many_ranges:
             continue
         well = found.get(name) == type_wanted and (type_wanted is None or is_wider == (name in wider))
-        test.add(well, f"seed {seed}: {lines[name]}: {found.get(name)}, {name in wider}, wanted {type_wanted}, {is_wider}")
+        what = f"{found.get(name)}, {name in wider}, wanted {type_wanted}, {is_wider}"
+        test.add(well, f"seed {seed}: {lines[name]}: {what}")
 
 
 script(__doc__, lambda test: compare(test, *map(int, test.words[1:])), words=range(1, 4))

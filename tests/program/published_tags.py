@@ -7,8 +7,8 @@ Types are made at random in three modules, of AUTOMATIC, IMPLICIT and EXPLICIT T
 of all classes and without, of simple types, of one another across the modules, of CHOICE types without a tag, and of
 alternatives of these. They have additions, and COMPONENTS OF another SET. The type of the profile has the root in the
 canonical order of tags (X.680), then the additions as they are. It has the remark that OER tells alternatives apart by
-other tags if these are not 0, 1, .., or one of them is a CHOICE without a tag. It is refused if two of the root have one
-tag.
+other tags if these are not 0, 1, .., or one of them is a CHOICE without a tag. It is refused if two of the root have
+one tag.
 """
 import random
 
@@ -18,16 +18,17 @@ REFERENCE = reference()
 DEFAULTS = ("AUTOMATIC", "IMPLICIT", "EXPLICIT")
 CLASSES = ("UNIVERSAL", "APPLICATION", "", "PRIVATE")
 SIMPLE = {
-    "BOOLEAN": 1, "INTEGER (0..7)": 2, "BIT STRING": 3, "OCTET STRING (SIZE (2))": 4, "NULL": 5, "ENUMERATED { x, y }": 10,
-    "UTF8String": 12, "SEQUENCE { z NULL }": 16, "NumericString": 18, "PrintableString": 19, "IA5String": 22,
+    "BOOLEAN": 1, "INTEGER (0..7)": 2, "BIT STRING": 3, "OCTET STRING (SIZE (2))": 4, "NULL": 5,
+    "ENUMERATED { x, y }": 10, "UTF8String": 12, "SEQUENCE { z NULL }": 16, "NumericString": 18,
+    "PrintableString": 19, "IA5String": 22,
     "UTCTime": 23, "GeneralizedTime": 24, "VisibleString": 26,
 }
 TYPES = 1500
 
 
 class Member:
-    """A component or alternative: its name, its text, its tag as a class and a number, whether that is written, and whether
-    it is a CHOICE that has no tag of its own."""
+    """A component or alternative: its name, its text, its tag as a class and a number, whether that is written, and
+    whether it is a CHOICE that has no tag of its own."""
 
     def __init__(self, name, text, tag, is_written, is_choice=False):
         self.name, self.text, self.tag, self.is_written, self.is_choice = name, text, tag, is_written, is_choice
@@ -37,7 +38,8 @@ class Made:
     """A SET or CHOICE, or the like, with its root and its additions; a SET may begin with the COMPONENTS OF another."""
 
     def __init__(self, module, name, word, root, additions, other=None):
-        self.module, self.name, self.word, self.own, self.additions, self.other = module, name, word, root, additions, other
+        self.module, self.name, self.word, self.own = module, name, word, root
+        self.additions, self.other = additions, other
         written = any(it.is_written for it in root + (additions or []))
         self.is_automatic = DEFAULTS[module] == "AUTOMATIC" and not written
         self.root = (other.tagged()[: len(other.root)] if other else []) + root
@@ -157,7 +159,8 @@ def compare(test, seed=1, many=TYPES):
             continue
         names, more = [one[0] for one in found["root"]], [one[0] for one in found["more"] or []]
         well = names == order and more == [one.name for one in it.additions or []]
-        test.add(well and (it.name in said) == it.is_marked(), f"{what}: {names} {more}, wanted {order} {it.is_marked()}")
+        well = well and (it.name in said) == it.is_marked()
+        test.add(well, f"{what}: {names} {more}, wanted {order} {it.is_marked()}")
 
 
 script(__doc__, lambda test: compare(test, *map(int, test.words[1:])), words=range(1, 4))

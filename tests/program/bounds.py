@@ -3,9 +3,9 @@
 
 usage: tests/program/bounds.py PROGRAM      a built asn_tool
 
-A message of 102 octets has three million fields. A type of one line has no value with fewer than 3,600,000,000 elements.
-A line of 600 KB of JSON is a value of 13,000,000 entries. Each has a bound that the help of the program states, and
-`--budget` raises the bound. bounds.txt has the cases.
+A message of 102 octets has three million fields. A type of one line has no value with fewer than 3,600,000,000
+elements. A line of 600 KB of JSON is a value of 13,000,000 entries. Each has a bound that the help of the program
+states, and `--budget` raises the bound. bounds.txt has the cases.
 """
 from run import script
 

@@ -1,14 +1,14 @@
 #!/usr/bin/env python3
-"""Runs each command, and each block of C, Rust and Python, of README.md and docs/GUIDE.md, and each command of the page of
-asn_tool, and compares what is printed.
+"""Runs each command, and each block of C, Rust and Python, of README.md and docs/GUIDE.md, and each command of the page
+of asn_tool, and compares what is printed.
 
 usage: tests/program/guide.py TOOL LIBRARY      TOOL is asn_tool, LIBRARY a folder that bindings/build.py made
 
 A block marked `console` has commands after `$ ` and what they print; all commands of a page run in one shell, in a copy
-of `examples` with the file traffic.asn, the guide's module. A block marked `sh` installs the program, which is TOOL here.
-The blocks of a language on a page are one program: lines `use ..` and blocks that begin with `#include` go to its head.
-TEXT is the module of the page. A block prints what the next block marked `text` has, if one follows before the next
-block of its language. tests/program/page.py runs the blocks of Rattle.
+of `examples` with the file traffic.asn, the guide's module. A block marked `sh` installs the program, which is TOOL
+here. The blocks of a language on a page are one program: lines `use ..` and blocks that begin with `#include` go to its
+head. TEXT is the module of the page. A block prints what the next block marked `text` has, if one follows before the
+next block of its language. tests/program/page.py runs the blocks of Rattle.
 """
 import os
 import shutil
@@ -73,7 +73,8 @@ def program_in_c(codes, text):
     quoted = "".join(f'    "{it}\\n" \\\n' for it in text.splitlines())
     heads = "".join(it for it in codes if it.startswith("#include"))
     body = body_of(["" if it.startswith("#include") else it for it in codes], f'puts("{BREAK}");')
-    return f'#include "tulvorn.h"\n#include <stdio.h>\n#define TEXT \\\n{quoted}    ""\n{heads}\nint main(void) {{\n{body}}}\n'
+    head = f'#include "tulvorn.h"\n#include <stdio.h>\n#define TEXT \\\n{quoted}    ""\n{heads}'
+    return f"{head}\nint main(void) {{\n{body}}}\n"
 
 
 def program_in_rust(codes, text):

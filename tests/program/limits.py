@@ -7,10 +7,10 @@ usage: tests/program/limits.py PROGRAM [COUNT [SEED]]
 The limits are those of crates/asn_limits/src/lib.rt, and the reference has to have the same. The types are INTEGER with
 bounds at and near powers of two and the ends of the profile's integers, marked and not, and as components with a
 DEFAULT; CHOICE and ENUMERATED of the most alternatives and items, one less, and around the forms of their indexes and
-tags; SEQUENCE of the most components and additions; and these inside one another. Of each type values are made at random
-and at the edges, COUNT in all (100,000). Each is encoded by the program and by the reference, shown and converted to the
-other rules again. Of its octets some are changed: those that the program takes are the encoding, by the reference, of the
-value that it shows. Types and numbers past each limit are refused.
+tags; SEQUENCE of the most components and additions; and these inside one another. Of each type values are made at
+random and at the edges, COUNT in all (100,000). The program and the reference encode each. The program shows it, and
+converts it to the other rules. Of its octets some are changed: those that the program accepts are the encoding, by the
+reference, of the value that it shows. Types and numbers past each limit are refused.
 """
 import json
 import random
@@ -49,8 +49,8 @@ def bound(n, word):
 
 
 def integers(rand):
-    """INTEGER types: each pair of some bounds, and each bound with MIN and MAX; and bounds that lie so far apart as whole
-    octets tell, and words, or about."""
+    """INTEGER types: each pair of some bounds, and each bound with MIN and MAX; and bounds about as far apart as whole
+    octets and words reach."""
     near = [None, *rand.sample(edges(), 16), LOWEST, -1, 0, 1, (1 << 63) - 1, HIGHEST - 1, HIGHEST]
     for low in near:
         for high in near:
@@ -89,10 +89,12 @@ def listed(kind, root, more, part):
 
 def choices(rand):
     """CHOICE types: of how many alternatives before and after the mark."""
-    inner = ['BOOLEAN', 'NULL', 'INTEGER', 'INTEGER (0..255)', 'OCTET STRING (SIZE (0..200))', f'INTEGER ({LOWEST}..{HIGHEST})']
-    counts = {(ALTERNATIVES, None), (ALTERNATIVES - 1, None), (ALTERNATIVES, 0), (ALTERNATIVES - 1, 1), (1, ALTERNATIVES - 1)}
+    inner = ['BOOLEAN', 'NULL', 'INTEGER', 'INTEGER (0..255)', 'OCTET STRING (SIZE (0..200))']
+    inner.append(f'INTEGER ({LOWEST}..{HIGHEST})')
+    most, less = ALTERNATIVES, ALTERNATIVES - 1
+    counts = {(most, None), (less, None), (most, 0), (less, 1), (1, less)}
     for near in (1, 2, 3, 31, 32, 33, 61, 62, 63, 64, 65, 99, 100, 127, 128, 129, 199):
-        counts |= {(near, None), (near, 0), (near, 1), (near, ALTERNATIVES - near), (ALTERNATIVES - near, near), (1, near), (near, near)}
+        counts |= {(near, None), (near, 0), (near, 1), (near, most - near), (most - near, near), (1, near), (near, near)}
     for root, more in sorted(counts, key=str):
         if root > 0 and (more or 0) >= 0 and root + (more or 0) <= ALTERNATIVES:
             yield listed('CHOICE', root, more, lambda name, i: f'{name}{i} {rand.choice(inner)}')
@@ -106,14 +108,16 @@ def enumerations(rand):
     for root, more in sorted(counts, key=str):
         if root > 0 and (more or 0) <= ITEM_ADDITIONS and root + (more or 0) <= ITEMS:
             step, low = rand.choice([(1, 0), (1, -3), (97, -500), (8_000_000, -(1 << 31))])
-            yield listed('ENUMERATED', root, more, lambda name, i: f'{name}{i}({low + step * (i + (root if name == "x" else 0))})')
+            number = {'r': low, 'x': low + step * root}
+            yield listed('ENUMERATED', root, more, lambda name, i: f'{name}{i}({number[name] + step * i})')
             yield listed('ENUMERATED', root, more, lambda name, i: f'{name}{i}')
 
 
 def sequences(rand):
     """SEQUENCE types: of how many components and additions, each OPTIONAL."""
     inner = ['BOOLEAN', 'NULL', 'INTEGER (0..7)', 'INTEGER', f'INTEGER (0..{HIGHEST})']
-    for root, more in [(COMPONENTS, None), (COMPONENTS, ADDITIONS), (0, ADDITIONS), (1, ADDITIONS - 1), (63, 63), (7, 8), (8, 9), (0, 1)]:
+    counts = [(COMPONENTS, None), (COMPONENTS, ADDITIONS), (0, ADDITIONS), (1, ADDITIONS - 1)]
+    for root, more in [*counts, (63, 63), (7, 8), (8, 9), (0, 1)]:
         yield listed('SEQUENCE', root, more, lambda name, i: f'{name}{i} {rand.choice(inner)} OPTIONAL')
 
 
@@ -165,7 +169,10 @@ def value(rand, ty, types):
         name, inner = rand.choice(parts)
         return {name: value(rand, inner, types)}
     there = rand.choice([0, 0.05, 0.5, 0.95, 1])
-    return {name: value(rand, inner, types) for name, inner, need, _ in parts if need == 'MUST' or rand.random() < there}
+    return {
+        name: value(rand, inner, types)
+        for name, inner, need, _ in parts if need == 'MUST' or rand.random() < there
+    }
 
 
 def some_values(rand, ty, count):
@@ -200,7 +207,7 @@ def asked(program, order, rules, text, lines):
 def wanted(program, order, rules, text, lines, answers):
     for line, answer, told in zip(lines, answers, asked(program, order, rules, text, lines)):
         if answer != told:
-            raise Wrong(f'{order} {rules} of {text[:300]}: {line[:300]} is answered {told[:300]}, and not {answer[:300]}')
+            raise Wrong(f'{order} {rules} of {text[:300]}: {line[:300]}: {told[:300]}, and not {answer[:300]}')
 
 
 def dumped(v):

@@ -3,9 +3,9 @@
 
 usage: tests/program/octet_counts.py
 
-For each type of which the program tests/programs/hostile tries all octets and pairs, examples/reference.py encodes every
-value that has at most two octets, and some beyond. The counts `taken` and `with octets left` are compared with those that
-the program has to write.
+For each type of which the program tests/programs/hostile tries all octets and pairs, examples/reference.py encodes
+every value that has at most two octets, and some beyond. The counts `taken` and `with octets left` are compared with
+those that the program has to write.
 """
 import itertools
 
@@ -52,7 +52,7 @@ VALUES = {
     "One": sequences(a=TRUTHS, b=[*range(256), None]),
     "Tall": [{"height": it} for it in ("high", "low", "middle")],
     "SEQUENCE (SIZE (0..2)) OF BOOLEAN": [list(it) for it in rows(TRUTHS, 2)],
-    "Letter": [{"x": None}, *({"y": it} for it in TRUTHS), *({"z": it} for it in range(4)), *({"w": it} for it in octets(2))],
+    "Letter": [{key: it} for key, some in zip("xyzw", ([None], TRUTHS, range(4), octets(2))) for it in some],
 }
 
 

@@ -4,10 +4,10 @@
 usage: tests/program/page.py ROOM      ROOM is a folder to build in, as tests/program/room.py takes it
 
 The pages are crates/tulvorn/README.md, whose blocks marked `rust` are Rattle and the first the head of a program, and
-README.md and docs/GUIDE.md, whose blocks marked `rust rattle` are, and of which lines `use ..` go to the head. The other
-blocks of a page, one after the other, are the body of a function. TEXT is the module of the page. A block prints what
-the next block marked `text` has, if one follows before the next block of Rattle. All are one program of one room, built
-without a proof.
+README.md and docs/GUIDE.md, whose blocks marked `rust rattle` are, and of which lines `use ..` go to the head. The
+other blocks of a page, one after the other, are the body of a function. TEXT is the module of the page. A block prints
+what the next block marked `text` has, if one follows before the next block of Rattle. All are one program of one room,
+built without a proof.
 """
 import os
 import re
@@ -76,8 +76,9 @@ def programs():
     pages = {f"page_{index}": (page, blocks_of(page, "rust rattle")) for index, page in enumerate(PAGES)}
     calls = "".join(f"    {name}::shown(&rt)?;\n" for name in pages)
     modules = "".join(f"mod {name};\n" for name in pages)
-    main = f"//! The blocks of {REFERENCE}.\n#![tactic(auto)]\n\n{modules}\n{head[0]}\nfn main(rt: HostRuntime) -> Result<()>"
-    main += f" {{\n{calls}{in_rattle(code for code, _ in tasks)}    Ok(())\n}}\n"
+    body = calls + in_rattle(code for code, _ in tasks)
+    main = f"//! The blocks of {REFERENCE}.\n#![tactic(auto)]\n\n{modules}\n{head[0]}\n"
+    main += f"fn main(rt: HostRuntime) -> Result<()> {{\n{body}    Ok(())\n}}\n"
     files = {f"{name}.rt.in": function(page, blocks) for name, (page, blocks) in pages.items()}
     wanted = [printed for _, blocks in pages.values() for _, printed in blocks] + [printed for _, printed in tasks]
     return {"main.rt.in": main, **files, "uses": USES}, wanted

@@ -35,7 +35,6 @@ import shlex
 import subprocess
 import sys
 import tempfile
-import threading
 import traceback
 from collections import namedtuple
 
@@ -100,9 +99,9 @@ def feed(ran, given, size):
 def run(words, given=b"", *, most=None, pieces=None, ends=None, check=False, **how):
     """Runs a command. Its input is a text, octets, or an open file.
 
-    `most` limits its memory, in octets. `pieces` is how many octets it reads at a time, from a pipe. With `ends` only so
-    many last octets of its output, and first ones of standard error, are returned. With `check` it has to end well. The
-    rest goes to Popen.
+    `most` limits its address space, in octets. `pieces` is how many octets it reads at a time, from a pipe. With `ends`
+    only so many last octets of its output, and first ones of standard error, are returned. With `check` it has to end
+    well. The rest goes to Popen.
     """
     given = given.encode() if isinstance(given, str) else given
     with tempfile.TemporaryFile() as source, tempfile.TemporaryFile() as out, tempfile.TemporaryFile() as err:
@@ -263,7 +262,8 @@ class Test:
         """Runs the cases of a text file in tests/program."""
         for case in cases_of(expand(text_of(f"{HERE}/{name}"))):
             ran = self.run(case.words, case.said["<"].octets, most=case.most)
-            self.add(case.allows(ran), f"{name}: {shlex.join(case.words)}: {ran.status} {ran.out[:2000]} {ran.err[:2000]}")
+            said = f"{ran.status} {ran.out[:2000]} {ran.err[:2000]}"
+            self.add(case.allows(ran), f"{name}: {shlex.join(case.words)}: {said}")
 
 
 def script(doc, *parts, words=(1,)):

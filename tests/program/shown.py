@@ -5,10 +5,10 @@ usage: tests/program/shown.py PROGRAM      a built asn_tool
 
 The messages are those of `examples`, those of values that `example` writes, messages that are cut short, and ones with
 a bit turned. The fields are all units, in order, up to the last or to the refused one. What is marked of them are the
-bits of the octets. Their values are those of the JSON that `show` writes, and the last line has the refusal of `show`. The
-page of HTML has the same bits and lines, each field in one colour and its neighbours in others. The names of types are
-those in the text of the module, and the sizes of messages are within those that `types` shows. What `example` writes is
-encoded, and is the value again. shown.txt has other forms of octets, refusals, and sizes worked out by hand.
+bits of the octets. Their values are those of the JSON that `show` writes, and the last line has the refusal of `show`.
+The page of HTML has the same bits and lines, each field in one colour and its neighbours in others. The names of types
+are those in the text of the module, and the sizes of messages are within those that `types` shows. What `example` writes
+is encoded, and is the value again. shown.txt has other forms of octets, refusals, and sizes worked out by hand.
 """
 import html
 import json

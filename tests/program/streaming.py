@@ -153,7 +153,8 @@ def faults(test):
     with open("/dev/full", "wb") as full:
         ran = test.run(["show", *TYPE], b"50\n", stdout=full)
         test.add((ran.status, ran.err) == (3, b"write failed\n"), f"a full disk: {ran}")
-    for words in (["show", *TYPE], ["show", *TYPE, "--explain"], ["module", *TYPE[4:]], ["flatten", "m.asn"], ["--help"]):
+    orders = ["module", "--module", "m.asn"], ["flatten", "m.asn"], ["--help"]
+    for words in (["show", *TYPE], ["show", *TYPE, "--explain"], *orders):
         reads, writes = os.pipe()
         os.close(reads)
         ran = test.run(words, b"50\n", stdout=writes)

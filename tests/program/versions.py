@@ -152,7 +152,7 @@ def versions(test):
         for (name, rules), lines in walk.given.items():
             compare(test, walk, name, rules, lines)
             messages += len(lines)
-    print(f'{pairs_in_all} pairs of types, {messages} messages in both encoding rules, plain, as objects and taken back')
+    print(f'{pairs_in_all} pairs of types, {messages} messages in both encoding rules, plain, as objects and back')
 
 
 script(__doc__, versions)

@@ -4,10 +4,10 @@
 usage: tests/edits/edits.py CRATE..       tries all edits of these crates, and notes the crates where nothing failed
        tests/edits/edits.py CRATE/EDIT..  tries these edits, and notes nothing
        tests/edits/edits.py --all         tries all edits of all crates, and notes the same
-       tests/edits/edits.py --due         tries the crates that are due, as the gate does; with --note it notes them
-       tests/edits/edits.py --due --beside    tries the same, each crate once its name is read from the input
+       tests/edits/edits.py --due         tries the crates that are due; with --note it notes them, with --beside it
+                                          tries each crate once its name is read from the input, as in the gate
        tests/edits/edits.py --note CRATE..    notes these crates, and tries nothing
-       tests/edits/edits.py --list [CRATE..]  lists the edits, the functions that they change, and the crates that are due
+       tests/edits/edits.py --list [CRATE..]  lists the edits, what they change, and the crates that are due
 
 The edits of a crate are in tests/edits/CRATE.edits, one stanza each:
 
@@ -25,11 +25,13 @@ no goal is known that refuses it.
 
 A crate is due if `tried` notes other hashes than git has for its folder and its edits. The crate of the day is due too.
 
-Edits of different functions are judged in one check of those functions, over what earlier checks of the crate kept. An
-edit is refused if a goal of its function is false or does not type. It is broken if only a proof by hand no longer
-fits, and named if that proof only names what is gone. Broken and named edits fail, as those that are not refused.
+One check judges edits of different functions, over what earlier checks of the crate kept. In the gate nothing is kept:
+the check takes all other functions at their contracts. An edit is refused if a goal of its function is false or does not
+type. It is broken if only a proof by hand no longer fits, and named if that proof only names what is gone. Broken and
+named edits fail, as those that are not refused.
 """
 import datetime
+import glob
 import os
 import re
 import resource
@@ -39,6 +41,7 @@ import subprocess
 import sys
 import tempfile
 import threading
+from collections import namedtuple
 from concurrent.futures import ThreadPoolExecutor
 
 sys.dont_write_bytecode = True
@@ -64,43 +67,71 @@ def text_of(file):
 
 # ---- the functions of a formatted source file
 
-HEAD = re.compile(r'^( *)(?:pub(?:\([^)]*\))? )?(?:const |unsafe |extern "C" )*fn (\w+)', re.M)
+HEAD = re.compile(r'^( *)(?:pub(?:\([^)]*\))? )?((?:const |unsafe |extern "C" )*)fn (\w+)', re.M)
 OWNER = re.compile(r"^(?:pub(?:\([^)]*\))? )?(?:unsafe )?(impl|trait)\b([^{]*)\{", re.M)
+TYPE = re.compile(r"^(?:pub(?:\([^)]*\))? )?(?:struct|enum|trait) (\w+)", re.M)
+# (the mark of a cycle of types stays)
+CYCLE = re.compile(r"#\[cycle\((\w+)\)\](?!(?:\s*#\[[^\]]*\]|\s*//[^\n]*\n)*\s*(?:pub(?:\([^)]*\))? )?(?:struct|enum) )")
+Function = namedtuple("Function", "name cycle module owner last body end is_const")
+
+
+def without_angles(text):
+    while re.search(r"<[^<>]*>", text):
+        text = re.sub(r"<[^<>]*>", " ", text)
+    return text
+
+
+def arguments_of(front):
+    """The types that an impl gives its trait, as the checker spells them: `RefStr` of `From<&str>`."""
+    at, depth = len(front), 0
+    while front.endswith(">") and (depth or at == len(front)):
+        at -= 1
+        depth += {">": 1, "<": -1}.get(front[at], 0)
+    own = re.findall(r"\w+", front[:at].rpartition(">")[0])
+    words = re.findall(r"[&\[]|\w+", without_angles(front[at + 1 : -1]))
+    return "".join({"&": "Ref", "[": "Slice"}.get(it) or it[0].upper() + it[1:] for it in words if it not in own)
 
 
 def owner_of(kind, head):
     """The name that the checker gives an impl or a trait with this head."""
-    while re.search(r"<[^<>]*>", head):
-        head = re.sub(r"<[^<>]*>", " ", head)
-    words = re.findall(r"\w+", re.sub(r"\bwhere\b.*|'\w+", "", head, flags=re.S))
-    return words[0] if kind == "trait" else words[-1] + (words[words.index("for") - 1] if "for" in words else "")
+    head = re.sub(r"\bwhere\b.*|'\w+", "", head, flags=re.S)
+    front, is_of_trait, of = head.partition(" for ")
+    if kind == "trait":
+        return re.findall(r"\w+", head)[0]
+    if not is_of_trait:
+        return re.findall(r"\w+", without_angles(head))[-1]
+    names = [re.findall(r"\w+", without_angles(it))[-1] for it in (of, front)]
+    return "Ref" * of.strip().startswith("&") + "".join(names) + arguments_of(front.strip())
+
+
+def module_of(path):
+    return re.sub(r"^src/(?:(?:lib|main)\.rt)?|\.rt$", "", path).replace("/", "::")
+
+
+def functions_in(path, text):
+    """The functions of a source file that have a body."""
+    for head in HEAD.finditer(text):
+        ends = re.compile(rf"^{head[1]}(?:\S.*)?(?:\{{|\{{\}})$|;$", re.M).finditer(text, head.start())
+        # (in a clause, whose brace is open, a `;` ends no function)
+        count = lambda brace, it: text.count(brace, head.start(), it.start())
+        body = next((it for it in ends if it[0] != ";" or count("{", it) == count("}", it)), None)
+        if body and body[0] != ";":
+            is_empty = body[0].endswith("}")
+            end = body if is_empty else re.compile(rf"^{head[1]}\}}", re.M).search(text, body.end())
+            brace = body.end() - (2 if is_empty else 1)
+            owners = [*OWNER.finditer(text, 0, head.start())] if head[1] else []
+            owner = owner_of(*owners[-1].groups()) if owners else None
+            module = module_of(path)
+            cycle = re.search(r"#\[cycle\((\w+)\)\][^{};]*\Z", text[: head.start()])
+            name = f"{owner or module}::{head[3]}".removeprefix("::")
+            cycle = cycle and f"{path} {cycle[1]}"
+            yield Function(name, cycle, module, owner, head[3], brace, end.end(), "const" in head[2])
 
 
 def function_at(path, text, at):
-    """The function in whose body a place is, by its name and its cycle, or None."""
-    for head in reversed([*HEAD.finditer(text, 0, at)]):
-        body = re.compile(rf"^{head[1]}(?:\S.*)?\{{$", re.M).search(text, head.start())
-        end = body and re.compile(rf"^{head[1]}\}}", re.M).search(text, body.end())
-        if end and body.end() <= at < end.start():
-            owners = [*OWNER.finditer(text, 0, head.start())] if head[1] else []
-            module = re.sub(r"^src/(?:(?:lib|main)\.rt)?|\.rt$", "", path).replace("/", "::")
-            owner = owner_of(*owners[-1].groups()) if owners else module
-            return f"{owner}::{head[2]}".removeprefix("::"), cycle_of(path, text, head.start())
-    return None
-
-
-def cycle_of(path, text, at):
-    """The cycle of the function whose head is at a place, or None."""
-    found = re.search(r"#\[cycle\((\w+)\)\][^{};]*\Z", text[:at])
-    return found and f"{path} {found[1]}"
-
-
-def cycle_of_named(name, folder, paths):
-    """The cycle of the function that the checker calls so, in one of these files, or None."""
-    texts = [(it, text_of(f"{folder}/{it}")) for it in paths if it.startswith("src/")]
-    last = name.rpartition("::")[2]
-    heads = [(path, text, it.start()) for path, text in texts for it in HEAD.finditer(text) if it[2] == last]
-    return next(filter(None, (cycle_of(*it) for it in heads)), None)
+    """The name and the cycle of the function in whose body a place is, or None."""
+    found = [it for it in functions_in(path, text) if it.body < at < it.end]
+    return found[-1][:2] if found else None
 
 
 # ---- edits
@@ -151,7 +182,8 @@ class Edit:
                 found.append(function_at(path, text, at) if path.startswith("src/") else None)
         self.is_body = None not in found
         paths = dict.fromkeys(path for path, _, _ in self.pairs)
-        named = [(it, cycle_of_named(it, self.crate.folder, paths)) for it in self.by]
+        known = [it for path in paths for it in functions_in(path, text_of(f"{self.crate.folder}/{path}"))]
+        named = [(it, next((one.cycle for one in known if it.endswith(one.name)), None)) for it in self.by]
         self.functions = named or (sorted({*found}, key=str) if self.is_body else [])
 
 
@@ -194,9 +226,50 @@ def groups_of(edits, rule):
     return groups
 
 
+# ---- functions taken at their contracts
+
+HOLE = """use Rattle.{crate}.proofs.{path}.Statement.{{statement}}
+
+pub {name}_spec : {{M : Type 1}} → statement M
+{name}_spec = ?
+"""
+
+
+def take_at_contracts(crate, folder, functions):
+    """In a copy of a crate, gives each other function, that is in no cycle with these, a hole for its proof and no body. A
+    check that allows holes reads its contract alone."""
+    files = {os.path.relpath(it, folder): text_of(it) for it in rtlib.files_of(folder) if it.endswith(".rt")}
+    types = {name: module_of(path) for path, text in files.items() for name in TYPE.findall(text)}
+    own, cycles = {it[0] for it in functions}, {it[1].split()[1] for it in functions if it[1]}
+    for path, text in files.items():
+        kept, at = [], 0
+        for it in sorted(functions_in(path, text), key=lambda it: it.body):
+            is_in_cycle = it.cycle and it.cycle.split()[1] in cycles
+            if it.body >= at and not is_in_cycle and not it.is_const and not {it.name, f"{it.module}::{it.name}"} & own:
+                kept, at = [*kept, text[at : it.body], "{ unreachable!() }"], it.end
+                module = it.module if it.owner in TYPE.findall(text) else types.get(it.owner, it.module)
+                put_hole(crate, folder, "/".join(filter(None, [*module.split("::"), it.owner, it.last])))
+        with open(f"{folder}/{path}", "w", encoding="utf-8") as file:
+            file.write(CYCLE.sub(lambda it: it[0] if it[1] in cycles else "", "".join(kept) + text[at:]))
+    stay = cycles | {it.rpartition("::")[2] for it in own}
+    for it in glob.glob(f"{folder}/proofs/**/+*", recursive=True):
+        if os.path.basename(it)[1:] not in stay:
+            shutil.rmtree(it)
+
+
+def put_hole(crate, folder, home):
+    """Puts a hole in place of a function's proof."""
+    at = f"{folder}/proofs/{home}"
+    os.makedirs(at, exist_ok=True)
+    for name in {"Invariants.antt", "Answers.antt"} & {*os.listdir(at)}:
+        os.remove(f"{at}/{name}")
+    with open(f"{at}/Proof.antt", "w", encoding="utf-8") as it:
+        it.write(HOLE.format(crate=crate.name, path=home.replace("/", "."), name=os.path.basename(home)))
+
+
 # ---- what a check says
 
-LINE = re.compile(r"fn (\S+): (proved|not proved|no proof)(.*)")
+LINE = re.compile(r"fn (\S+): (proved|no holes|depends on a hole|not proved|no proof)(.*)")
 NOTE = re.compile(r"note: src/\S+: .*not proved.*\(`([^`]*)`\)(.*)")
 ERROR = re.compile(r"(?:\./)?proofs/(\S+)/\w+\.antt:\d+:\d+: error: (?:`([^`]*)`: )?(.*)")
 IS_FALSE = "allow values at which this goal is false"
@@ -246,7 +319,7 @@ class Report:
 
     def of_path(self, path, cycle):
         verdict, more = self.lines[path]
-        if verdict == "proved":
+        if verdict in ("proved", "no holes", "depends on a hole"):
             return "NOT REFUSED", "its function is proved"
         last, home = path.rpartition("::")[2], path.partition("::")[2].replace("::", "/")
         homes = home, f"{os.path.dirname(home)}/+{last}".removeprefix("/")
@@ -257,27 +330,23 @@ class Report:
 
         notes = sorted((not is_false, goal) for goal, is_false in self.notes[path] if is_own(goal))
         is_home = lambda it: it in homes or cycle and os.path.basename(it).startswith("+")
-        errors = [(kind, f"`{goal}`: {text[:200]}") for at, kind, goal, text in self.errors if is_home(at) and is_own(goal)]
-        if notes and (not notes[0][0] or all(kind == "refused" for kind, _ in errors)):
+        errors = [(kind, goal, text) for at, kind, goal, text in self.errors if is_home(at) and is_own(goal)]
+        if notes and (not notes[0][0] or all(it[0] == "refused" for it in errors)):
             # (where a proof by hand no longer fits, a goal counts only if it is known to be false)
             return "refused", f"`{notes[0][1]}`"
         if errors:
-            return first_of(errors)
+            kind, goal, text = first_of(errors)
+            return kind, f"`{goal}`: {text[:200]}"
         return "waits", "it calls a function that is not proved" if "it calls" in more else "no goal of its own is open"
 
 
 # ---- checks
 
 
-def lanes(is_beside):
-    """How many checks run side by side: `RT_JOBS`, or as processors and memory allow. Proofs get half the processors."""
-    number = rt.processors() // (2 if is_beside else 1)
-    return int(os.environ.get("RT_JOBS", "0")) or max(1, min(number, int(rt.free() // MEMORY)))
-
-
-def checked(crate, edits, kept):
-    """Runs a check of a copy of the crate with these edits, over what is kept: its status and what it says."""
-    only = [word for edit in edits for name, _ in edit.functions for word in ("--only", name)]
+def checked(crate, edits, functions, kept, at_contracts=False):
+    """Checks these functions, or all, in a copy of the crate with these edits, over what is kept: the status, and what the
+    check says."""
+    only = [word for name, _ in functions for word in ("--only", name)] + ["--allow-holes"] * at_contracts
     with tempfile.TemporaryDirectory(prefix=f"rt-edits-{os.getpid()}-") as room:
         for part in rtlib.PARTS:
             if os.path.isdir(f"{crate.folder}/{part}"):
@@ -285,6 +354,8 @@ def checked(crate, edits, kept):
         for path, text in applied(edits).items():
             with open(f"{room}/{path}", "w", encoding="utf-8") as it:
                 it.write(text)
+        if at_contracts:
+            take_at_contracts(crate, room, functions)
         words = crate.words(["--jobs", "1", *only], keeps=False)
         words = [*rtlib.guarded(), rtlib.RATTLE, "check", *words, "--incremental", kept]
         how = {"cwd": room, "stdin": subprocess.DEVNULL, "stdout": subprocess.PIPE, "stderr": subprocess.STDOUT}
@@ -298,8 +369,9 @@ def checked(crate, edits, kept):
 class Tries:
     """The tries of a crate's edits, and the verdict over each: (kind, why)."""
 
-    def __init__(self, crate, edits):
-        self.crate, self.seed, self.checks = crate, None, 0
+    def __init__(self, crate, edits, is_beside):
+        self.crate, self.seed, self.checks, self.kept = crate, None, 0, f"{crate.folder}/out/incremental"
+        self.at_contracts = is_beside and not os.path.isdir(self.kept)
         self.verdicts = {it: ("bad edit", it.fault) for it in edits if it.fault}
         self.verdicts.update({it: ("weak", it.weak) for it in edits if it.weak and not it.fault})
         self.left = [it for it in edits if it not in self.verdicts]
@@ -307,27 +379,42 @@ class Tries:
     def run(self, pool):
         with tempfile.TemporaryDirectory(prefix=f"rt-edits-{os.getpid()}-") as room:
             self.seed = f"{room}/seed"
-            if os.path.isdir(f"{self.crate.folder}/out/incremental"):
-                shutil.copytree(f"{self.crate.folder}/out/incremental", self.seed, copy_function=os.link)
-            status = pool.submit(checked, self.crate, [], self.seed).result()[0] if self.left else 0
-            if status:
+            if os.path.isdir(self.kept):
+                shutil.copytree(self.kept, self.seed, copy_function=os.link)
+            if self.left and not pool.submit(self.is_begun).result():
                 self.verdicts.update({it: ("not tried", "the crate itself is not proved") for it in self.left})
                 self.left = []
             for rule in ("function", "cycle", "alone"):
-                [*pool.map(self.together, groups_of(self.left, rule))]
-                self.left = [it for it in self.left if it.is_body and self.is_open(it)] if rule != "alone" else []
+                groups = groups_of(self.left, rule)
+                if self.at_contracts and rule == "function" and groups:
+                    # (the lemmas that it proves serve the others)
+                    pool.submit(self.together, groups.pop(0), self.seed).result()
+                [*pool.map(self.together, groups)]
+                self.left = [it for it in self.left if it.is_body and self.is_open(it)]
         self.show()
+
+    def is_begun(self):
+        """Proves the crate as it is, over what is kept. At contracts, only the cycles of functions that edits change."""
+        if not self.at_contracts:
+            return checked(self.crate, [], [], self.seed)[0] == 0
+        members = {cycle: name for it in self.left for name, cycle in it.functions if cycle}
+        if members:
+            checked(self.crate, [], [(name, cycle) for cycle, name in members.items()], self.seed, True)
+        return True
 
     def is_open(self, edit):
         """Whether another check, with fewer edits, may give another verdict."""
         kind = self.verdicts[edit][0]
         return kind in ("waits", "silent") or kind != "refused" and any(cycle for _, cycle in edit.functions)
 
-    def together(self, group):
+    def together(self, group, kept=None):
         """Tries edits in one check. If it says nothing, one of them cannot be read or does not end."""
+        functions = [one for it in group for one in it.functions]
         with tempfile.TemporaryDirectory(prefix=f"rt-edits-{os.getpid()}-") as room:
-            shutil.copytree(self.seed, f"{room}/kept", copy_function=os.link)
-            said = checked(self.crate, group, f"{room}/kept")[1]
+            if not kept and os.path.isdir(self.seed):
+                shutil.copytree(self.seed, f"{room}/kept", copy_function=os.link)
+            kept = kept or f"{room}/kept"
+            said = checked(self.crate, group, functions, kept, self.at_contracts and bool(functions))[1]
         self.checks += 1
         report = Report(said)
         if not report.lines and len(group) > 1:
@@ -424,10 +511,12 @@ def try_all(crates, edits, is_beside):
     if not is_beside:
         share_work()
     pairs = proved_names(crates) if is_beside else ((it, build_below(it)) for it in crates)
-    with ThreadPoolExecutor(lanes(is_beside)) as pool, ThreadPoolExecutor(max(len(crates), 1)) as drivers:
+    # (beside proofs, which take half of the processors)
+    most = max(1, min(rt.processors() // (2 if is_beside else 1), int(rt.free() // MEMORY)))
+    with ThreadPoolExecutor(int(os.environ.get("RT_JOBS") or most)) as pool, ThreadPoolExecutor(max(len(crates), 1)) as drivers:
         for crate, is_proved in pairs:
             crate.out = open(os.devnull, "w", encoding="utf-8")
-            tries.append(Tries(crate, edits[crate.name]))
+            tries.append(Tries(crate, edits[crate.name], is_beside))
             drivers.submit(run, tries[-1], is_proved, pool)
     return tries
 

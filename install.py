@@ -20,7 +20,7 @@ import time
 
 sys.dont_write_bytecode = True
 TOP = os.path.dirname(os.path.abspath(__file__))
-sys.path.insert(0, f"{TOP}/tests")
+sys.path.insert(0, f"{TOP}/tests/program")
 import room
 
 NAME = "asn_tool"
@@ -37,7 +37,7 @@ def build(program):
         with open(words, "w", encoding="utf-8") as it:
             it.write(VERSION.sub(r'.version("\1, unproved build")', text))
         made = f"{folder}/{NAME}"
-        waited_for([sys.executable, f"{TOP}/tests/unproved.py", f"{folder}/crates/{NAME}", TOP, made])
+        waited_for([sys.executable, f"{TOP}/tests/program/unproved.py", f"{folder}/crates/{NAME}", TOP, made])
         shutil.copy2(made, program)
 
 

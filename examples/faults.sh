@@ -123,14 +123,14 @@ status=0
 [ "$status" = 3 ] || fail "write failed: status $status"
 [ "$(cat "$work/told")" = 'write failed' ] || fail "write failed: standard error: $(cat "$work/told")"
 
-# each read and each write in turn, by a library that is preloaded (tests/fail_call.c)
+# each read and each write in turn, by a library that is preloaded (tests/memory/fail_call.c)
 kit=$(dirname "$(rt doc)")/toolchain
 fails=$work/fail_call.so
 if [ -x "$kit/bin/clang" ]; then
   "$kit/bin/clang" -O2 -Wall -shared -fPIC -nostdlib -B"$kit/lib" -fuse-ld="$kit/bin/ld.lld" -o "$fails" \
-    ../tests/fail_call.c
+    ../tests/memory/fail_call.c
 else
-  "${CC:-cc}" -O2 -shared -fPIC -nostdlib -o "$fails" ../tests/fail_call.c
+  "${CC:-cc}" -O2 -shared -fPIC -nostdlib -o "$fails" ../tests/memory/fail_call.c
 fi
 
 printf '%s\n' 'M DEFINITIONS AUTOMATIC TAGS ::= BEGIN N ::= NULL END' ==== 00 zz >"$work/input"

@@ -1,6 +1,6 @@
 /* Inputs made at random, of which all calls have to say what agrees. bindings/fuzz.sh builds it with libFuzzer.
 
-   The types are those of the file that TULVORN_ROWS names (bindings/rows.py). The first octet of an input chooses the
+   The types are those of the file that TULVORN_ROWS names (bindings/tests/rows.py). The first octet of an input chooses the
    type, and the second what the others are: by its lowest bit the rules, and by the two above it octets (0 or 1), JSON
    (2) or the text of a module (3); the rest of it chooses the pieces of a session. */
 #define _POSIX_C_SOURCE 200809L

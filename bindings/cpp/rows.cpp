@@ -1,4 +1,4 @@
-// Calls the library from C++ on the rows that bindings/rows.py writes, and ends with 0 where each answer is right.
+// Calls the library from C++ on the rows that bindings/tests/rows.py writes, and ends with 0 where each answer is right.
 //
 // usage: rows FILE
 #include "tulvorn.hpp"

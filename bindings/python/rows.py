@@ -1,4 +1,4 @@
-"""Calls the library from Python on the rows that bindings/rows.py writes, and ends with status 0 where each answer is
+"""Calls the library from Python on the rows that bindings/tests/rows.py writes, and ends with status 0 where each answer is
 right.
 
 usage: python3 bindings/python/rows.py FILE

@@ -74,8 +74,8 @@ class Budget(ctypes.Structure):
     _fields_ = [("entries", ctypes.c_uint64), ("octets", ctypes.c_uint64)]
 
 
-# the parameters of each function and what it gives, by the letters below; bindings/compare.py compares them with the
-# exports
+# the parameters and the result of each function, by the letters below; bindings/tests/declarations.py compares them with
+# the exports
 FUNCTIONS = {
     "tulvorn_module": "oshf:u",
     "tulvorn_explain_module": "osh:u",

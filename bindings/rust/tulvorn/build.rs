@@ -1,4 +1,4 @@
-//! Links libtulvorn.a, which lies in the folder that TULVORN_ARCHIVES names: bindings/build.sh leaves it there.
+//! Links libtulvorn.a, which lies in the folder that TULVORN_ARCHIVES names: bindings/build.py leaves it there.
 
 use std::env;
 

@@ -1,4 +1,4 @@
-//! The declarations of tulvorn.h. bindings/compare.py compares them with the exports of the library.
+//! The declarations of tulvorn.h. bindings/tests/declarations.py compares them with the exports of the library.
 
 use std::ptr::null_mut;
 

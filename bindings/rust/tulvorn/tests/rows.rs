@@ -1,4 +1,4 @@
-//! Calls the library on the rows that `bindings/rows.py` writes, in the file that TULVORN_ROWS names; without one, on none.
+//! Calls the library on the rows that `bindings/tests/rows.py` writes, in the file that TULVORN_ROWS names; without one, on none.
 
 use tulvorn::{Module, Reason, Rules, Type, Value, Why};
 

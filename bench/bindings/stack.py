@@ -1,0 +1,112 @@
+#!/usr/bin/env python3
+"""Measures how much stack each call of the library takes, for types of the greatest depth.
+
+usage: bench/bindings/stack.py LIBRARY     the folder in which bindings/build.py left the library
+
+For each call it prints the most bytes that any of the types below takes, and the type. Then it does so for texts that are
+nested far deeper, which the library rejects. It needs gcc.
+"""
+import os
+import subprocess
+import sys
+import tempfile
+
+HERE = os.path.dirname(os.path.abspath(__file__))
+HEADERS = f"{os.path.dirname(os.path.dirname(HERE))}/bindings/c"
+# a type around a type, and a value around its value
+AROUND = {
+    "SEQUENCE": ("SEQUENCE {{ a {0} }}", '{{"a":{0}}}'),
+    "OPTIONAL": ("SEQUENCE {{ a {0} OPTIONAL, b BOOLEAN DEFAULT TRUE }}", '{{"a":{0}}}'),
+    "addition": ("SEQUENCE {{ b BOOLEAN, ..., a {0} OPTIONAL }}", '{{"b":true,"a":{0}}}'),
+    "CHOICE": ("CHOICE {{ a {0}, b NULL }}", '{{"a":{0}}}'),
+    "alternative after the extension mark": ("CHOICE {{ b NULL, ..., a {0} }}", '{{"a":{0}}}'),
+    "SEQUENCE OF": ("SEQUENCE OF {0}", "[{0}]"),
+    "SEQUENCE OF (SIZE (0..3))": ("SEQUENCE (SIZE (0..3)) OF {0}", "[{0}]"),
+}
+# what is innermost, and a value of it
+INNERMOST = {
+    "INTEGER": ("INTEGER", "-7"),
+    "ENUMERATED": ("ENUMERATED { x, y, ..., z }", '"z"'),
+    "UTF8String": ("UTF8String", '"text"'),
+    "IA5String": ("IA5String", '"text"'),
+    "BIT STRING": ("BIT STRING", '"101"'),
+    "OCTET STRING": ("OCTET STRING", '"00ff"'),
+}
+LEVELS = 32
+
+
+def deep(around, innermost, levels):
+    """A type of that many levels, whose kinds take turns, and a value of it."""
+    kind, value = INNERMOST[innermost]
+    for level in reversed(range(levels - 1)):
+        of_type, of_value = AROUND[around[level % len(around)]]
+        kind, value = of_type.format(kind), of_value.format(value)
+    return kind, value
+
+
+def subjects():
+    """The types, each with a name."""
+    for around in [(it,) for it in AROUND] + [("addition", "SEQUENCE OF"), ("SEQUENCE", "CHOICE", "SEQUENCE OF"),
+                                              ("alternative after the extension mark", "addition")]:
+        for innermost in INNERMOST:
+            yield f"{' and '.join(around)}, of {innermost}", deep(around, innermost, LEVELS)
+
+
+def module(assignments):
+    return f"M DEFINITIONS AUTOMATIC TAGS ::= BEGIN {assignments} END"
+
+
+def refused():
+    """Texts of modules and of JSON that are nested far deeper than a type may be, each with a name."""
+    for kind, (of_type, of_value) in AROUND.items():
+        before, after = of_type.format("#").split("#")
+        yield f"100,000 times {kind}", (module(f"T ::= {before * 100000} INTEGER {after * 100000}"), "1")
+        yield f"1,000,000 times {kind} begun", (f"M DEFINITIONS AUTOMATIC TAGS ::= BEGIN T ::= {before * 1000000}", "1")
+        before, after = of_value.format("#").split("#")
+        yield f"JSON, 100,000 times {kind}", (module("T ::= NULL"), f"{before * 100000}1{after * 100000}")
+    parts = " ".join(f"A{it} ::= SEQUENCE {{ a A{it + 1}, b A{it + 1} }}" for it in range(29))
+    yield "a type of 2^29 parts", (module(f"T ::= A0 {parts} A29 ::= NULL"), "1")
+    yield "1,000,000 parentheses", (module(f"T ::= INTEGER {'(' * 1000000}"), "1")
+    chain = " ".join(f"A{it} ::= A{it + 1}" for it in range(20000))
+    yield "a chain of 20,000 references", (module(f"T ::= A0 {chain} A20000 ::= NULL"), "1")
+
+
+def measure(folder, texts, more):
+    """The bytes of stack that each call takes, by its name."""
+    for file, text in zip(("module", "json"), texts, strict=True):
+        with open(f"{folder}/{file}", "w", encoding="utf-8") as it:
+            it.write(text)
+    words = [f"{folder}/stack", f"{folder}/module", "T", f"{folder}/json", *more]
+    ran = subprocess.run(words, stdout=subprocess.PIPE, text=True)
+    lines = ran.stdout.splitlines()
+    if ran.returncode:
+        sys.exit(f"stack: {lines[-1:]}, with status {ran.returncode}")
+    return {call: int(octets) for call, octets in (line.rsplit(": ", 1) for line in lines)}
+
+
+def most_of(folder, subjects, more=()):
+    """Prints for each call the most that one of the subjects takes, and the subject's name."""
+    most = {}
+    for name, texts in subjects:
+        for call, octets in measure(folder, texts, more).items():
+            most[call] = max(most.get(call, (0, "")), (octets, name))
+    for call, (octets, name) in most.items():
+        print(f"{call}: {octets} ({name})")
+
+
+def main():
+    if len(sys.argv) != 2:
+        sys.exit(__doc__)
+    out = os.path.abspath(sys.argv[1])
+    with tempfile.TemporaryDirectory() as folder:
+        source = [f"{HERE}/stack.c", f"{out}/libtulvorn.a", "-o", f"{folder}/stack"]
+        build = ["gcc", "-std=c11", "-O2", "-Wall", "-Wextra", "-pthread", f"-I{out}", f"-I{HEADERS}", *source]
+        subprocess.run(build, check=True)
+        print(f"types of {LEVELS} levels:")
+        most_of(folder, [(name, (module(f"T ::= {kind}"), value)) for name, (kind, value) in subjects()])
+        print("texts that the library rejects:")
+        most_of(folder, refused(), ["-"])
+
+
+if __name__ == "__main__":
+    main()

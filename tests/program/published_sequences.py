@@ -1,0 +1,209 @@
+#!/usr/bin/env python3
+"""Compares the SEQUENCE types that `asn_tool flatten` gives with a second reading of them.
+
+usage: tests/program/published_sequences.py PROGRAM [SEED [COUNT]]
+
+Types are made at random in two modules, one with EXTENSIBILITY IMPLIED. They have components of simple types and of one
+another, with OPTIONAL and DEFAULT, extension marks, additions, groups with and without versions, and a second mark with
+components after it. They have COMPONENTS OF in the root, among the additions and in groups, and references to
+parameterized types. The type of the profile is the one that is made together with the text. The report has the status
+that follows from its components.
+"""
+import json
+import random
+
+from run import reference, script, write
+
+REFERENCE = reference()
+STATUSES = ("same", "narrower", "wider", "owed", "per only", "refused")
+# a simple type: as it is published, as it is in the profile, its status, and a DEFAULT with what becomes of it
+SIMPLE = (
+    ("BOOLEAN", "BOOLEAN", "same", "yes", "TRUE"),
+    ("NULL", "NULL", "same", "NULL", None),
+    ("INTEGER (0..7)", "INTEGER (0..7)", "same", "-- three -- three", "3"),
+    ("INTEGER { a(3), b(5) } (a..b)", "INTEGER (3..5)", "same", "b", "5"),
+    ("INTEGER (0..7, ...)", "INTEGER (0..7, ...)", "same", "3", None),
+    ("INTEGER (1 | 9)", "INTEGER (1..9)", "wider", "9", "9"),
+    ("INTEGER", "INTEGER", "narrower", "-7", "-7"),
+    ("OCTET STRING (SIZE (2))", "OCTET STRING (SIZE (2..2))", "same", "'ABCD'H", None),
+    ("OCTET STRING (CONTAINING NULL)", "OCTET STRING", "wider", "'00'H", None),
+    ("BIT STRING { f(0), g(1) } (SIZE (4))", "BIT STRING (SIZE (4..4))", "same", "{ f, g }", None),
+    ("BIT STRING { f(0) }", "BIT STRING", "owed", "{}", None),
+    ("PrintableString", "VisibleString", "wider", '"a, b }"', None),
+    ("UTF8String (SIZE (1..9))", "UTF8String", "wider", '"x"', None),
+    ("UTCTime", "VisibleString", "wider", '"700101000000Z"', None),
+    ("C.&id ({Set})", "INTEGER (0..255)", "wider", "7", "7"),
+    ("C.&Type", "OCTET STRING", "wider", "NULL : NULL", None),
+    ("SEQUENCE (SIZE (1..3)) OF BOOLEAN", "SEQUENCE (SIZE (1..3)) OF BOOLEAN", "same", "{ TRUE, FALSE }", None),
+    ("CHOICE { x NULL, y BOOLEAN }", "CHOICE { x NULL, y BOOLEAN }", "same", "y : TRUE", None),
+)
+BARRED = ("BMPString", "SET OF BOOLEAN", "EXTERNAL", "DATE", "Unknown", "Nowhere.T")
+VALUES = """C ::= CLASS { &id INTEGER (0..255) UNIQUE, &Type } Set C ::= { ... }
+yes BOOLEAN ::= TRUE three INTEGER ::= 3
+Opt { X } ::= SEQUENCE { v X, n NULL OPTIONAL }
+"""
+TYPES = 1500
+
+
+def worse(one, other):
+    return max(one, other, key=STATUSES.index)
+
+
+class Part:
+    """A component: its text, its line in the profile without OPTIONAL and DEFAULT, its status, need and DEFAULT."""
+
+    def __init__(self, name, text, flat, status, need="", default=None, default_flat=None):
+        self.name, self.need = name, need
+        self.text = f"{name} {text}" + (f" DEFAULT {default}" if need == "DEFAULT" else f" {need}" * bool(need))
+        self.flat, self.status = f"{name} {flat}", status
+        # a DEFAULT that the profile does not have is OPTIONAL
+        self.suffix = f" DEFAULT {default_flat}" if need == "DEFAULT" and default_flat else " OPTIONAL" if need else ""
+        self.root_status = worse(status, "wider") if need == "DEFAULT" and not default_flat else status
+        self.addition_status = worse(status, "wider") if need == "DEFAULT" else status
+
+
+class Made:
+    """A SEQUENCE: its text, the components of its root, its type in the profile, its status, and its nodes."""
+
+    def __init__(self, module, name):
+        self.module, self.name, self.root, self.status, self.nodes, self.depth = module, name, [], "same", 1, 1
+
+    def reference(self, module):
+        return self.name if self.module == module else f"M{self.module}.{self.name}"
+
+
+class Maker:
+    def __init__(self, chance):
+        self.chance, self.types, self.count = chance, [], 0
+
+    def need(self):
+        return self.chance.choice(("", "", "OPTIONAL", "DEFAULT"))
+
+    def part(self, one):
+        """A component of a type: of a simple one, of another type or of a parameterized one."""
+        self.count += 1
+        name, kind, need = f"c{self.count}", self.chance.random(), self.need()
+        others = [it for it in self.types[-30:] if it.nodes < 300 and it.depth < 12]
+        if kind < 0.15 and others:
+            other = self.chance.choice(others)
+            one.nodes, one.depth = one.nodes + other.nodes, max(one.depth, other.depth + 1)
+            need = "OPTIONAL" if need == "DEFAULT" else need
+            return Part(name, other.reference(one.module), other.flat, other.status, need)
+        if kind < 0.16:
+            return Part(name, self.chance.choice(BARRED), "", "refused", "")
+        text, flat, status, default, default_flat = self.chance.choice(SIMPLE)
+        mark = ", ..." * one.module
+        flat = flat.replace("y BOOLEAN", f"y BOOLEAN{mark}")
+        if kind < 0.26:
+            need = "OPTIONAL" if need == "DEFAULT" else need
+            text, flat = f"Opt {{{text}}}", f"SEQUENCE {{ v {flat}, n NULL OPTIONAL{mark} }}"
+        return Part(name, text, flat, status, need, default, default_flat)
+
+    def included(self, one, used):
+        """Sometimes a type for COMPONENTS OF, whose components have names that are not used yet."""
+        others = [it for it in self.types[-30:] if it.status != "refused" and 0 < len(it.root) < 9]
+        others = [it for it in others if not used & {part.name for part in it.root}]
+        if self.chance.random() >= 0.08 or not others:
+            return None
+        other = self.chance.choice(others)
+        used |= {part.name for part in other.root}
+        one.nodes += other.nodes
+        return other
+
+    def components(self, one, most, used):
+        """Components of a root, with COMPONENTS OF others whose names are not used yet: the texts and the parts."""
+        texts, parts = [], []
+        for _ in range(self.chance.randint(0, most)):
+            other = self.included(one, used)
+            if other:
+                texts.append(f"COMPONENTS OF {other.reference(one.module)}")
+                parts += other.root
+            else:
+                parts.append(self.part(one))
+                texts.append(parts[-1].text)
+        return texts, parts
+
+    def group(self, one, number):
+        """A group: its text, its line in the profile, and whether it has to be present.
+
+        It is owed if each component may be absent."""
+        other = self.included(one, set())
+        parts = other.root if other else [self.part(one) for _ in range(self.chance.randint(1, 3))]
+        said = f"COMPONENTS OF {other.reference(one.module)}" if other else ", ".join(it.text for it in parts)
+        version = f"{number + 1}: " if self.chance.random() < 0.5 else ""
+        for it in parts:
+            one.status = worse(one.status, it.root_status)
+        if all(it.need for it in parts):
+            one.status = worse(one.status, "owed")
+        inner = ", ".join(it.flat + it.suffix for it in parts)
+        flat = f"ext{number} SEQUENCE {{ {inner} }} OPTIONAL"
+        return f"[[ {version}{said} ]]", flat, not all(it.need for it in parts)
+
+    def additions(self, one, used):
+        """Additions, groups and COMPONENTS OF others among them: their texts, and their lines in the profile."""
+        texts, flats, groups, needed = [], [], 0, []
+        for _ in range(self.chance.randint(0, 3)):
+            if self.chance.random() < 0.5:
+                groups += 1
+                text, flat, is_needed = self.group(one, groups)
+                texts.append(text)
+                flats.append(flat)
+                needed.append(is_needed)
+                continue
+            other = self.included(one, used)
+            parts = other.root if other else [self.part(one)]
+            texts.append(f"COMPONENTS OF {other.reference(one.module)}" if other else parts[0].text)
+            for it in parts:
+                one.status = worse(one.status, it.addition_status)
+                flats.append(it.flat + " OPTIONAL")
+                needed.append(not it.need)
+        # one that has to be there before another may be left out
+        if any(needed[:-1]):
+            one.status = worse(one.status, "owed")
+        return texts, flats
+
+    def type(self):
+        one = Made(self.chance.randrange(2), f"T{len(self.types)}")
+        used = set()
+        texts, one.root = self.components(one, 5, used)
+        flats, is_marked = [], self.chance.random() < 0.6
+        if is_marked:
+            texts.append(self.chance.choice(("...", "... ! 5")))
+            more, flats = self.additions(one, used)
+            texts += more
+            if self.chance.random() < 0.4:
+                more, parts = self.components(one, 2, used)
+                texts += ["...", *more]
+                one.root = one.root + parts
+        for it in one.root:
+            one.status = worse(one.status, it.root_status)
+        mark = ["..."] if is_marked or one.module else []
+        one.flat = f"SEQUENCE {{ {', '.join([it.flat + it.suffix for it in one.root] + mark + flats)} }}"
+        one.text = f"{one.name} ::= SEQUENCE {{ {', '.join(texts)} }}"
+        one.nodes += len(one.root) + 12
+        self.types.append(one)
+
+
+def words(text):
+    return REFERENCE.TOKEN.findall(text)
+
+
+def compare(test, seed=1, many=TYPES):
+    maker, files = Maker(random.Random(seed)), []
+    for _ in range(many):
+        maker.type()
+    for module, more in enumerate(("", " EXTENSIBILITY IMPLIED")):
+        text = "".join(f"{one.text}\n" for one in maker.types if one.module == module)
+        head = f"M{module} DEFINITIONS AUTOMATIC TAGS{more} ::= BEGIN\n"
+        files.append(write(f"{module}.asn", f"{head}{VALUES}{text}END\n"))
+    ran = test.run(["flatten", "--plain-bits", "--report", "json", *files])
+    found = dict(line.split(" ::= ", 1) for line in ran.out.decode().splitlines()[1:-1])
+    said = {it["type"]: it["status"] for it in map(json.loads, ran.err.splitlines())}
+    for one in maker.types:
+        wanted = words(one.flat) if one.status != "refused" else None
+        flat = words(found[one.name]) if one.name in found else None
+        what = f"{said[one.name]} {found.get(one.name)}, wanted {one.status} {one.flat}"
+        test.add(said[one.name] == one.status and flat == wanted, f"seed {seed}: M{one.module} {one.text}: {what}")
+
+
+script(__doc__, lambda test: compare(test, *map(int, test.words[1:])), words=range(1, 4))

@@ -16,7 +16,7 @@ import tempfile
 sys.dont_write_bytecode = True
 HERE = os.path.dirname(os.path.abspath(__file__))
 TOP = os.path.dirname(HERE)
-sys.path[:0] = [f"{TOP}/tests/program", f"{TOP}/tests"]
+sys.path[:0] = [f"{TOP}/tests/program", f"{TOP}/tests/tools", f"{TOP}/tests"]
 CRATE = "tulvorn_c"
 NEEDED = ("rt", "gcc", "ld", "objcopy", "ar", "nm")
 COMPILERS = ("llvm", "rattle")

@@ -48,7 +48,7 @@ from room import files_of
 from speed import Speed
 
 # the test programs that are parts of one (tests/programs/checks)
-PARTS_OF_ONE = ("rows", "hostile", "texts", "types", "names", "fields", "published", "memory", "memory_texts")
+PARTS_OF_ONE = ("rows", "hostile", "texts", "types", "names", "fields", "uses", "published", "memory", "memory_texts")
 # before the words of what goes beside the proofs: it takes what processors these leave, as they all are taken until few
 # crates are left
 BEHIND = ["nice", "-n", "19"]

@@ -40,8 +40,7 @@ import signal
 import subprocess
 import sys
 import tempfile
-import threading
-from collections import namedtuple
+from collections import Counter, namedtuple
 from concurrent.futures import ThreadPoolExecutor
 
 sys.dont_write_bytecode = True
@@ -52,12 +51,11 @@ from kit import rt, rtlib, share_work  # noqa: E402
 FOLDER, TRIED = "tests/edits", "tests/edits/tried"
 # the seconds of a processor that one check may take, and the memory that it needs
 LIMIT, MEMORY = 1200, 4_500_000_000
-PRINTING = threading.Lock()
 
 
 def say(text):
-    with PRINTING:
-        print(text, flush=True)
+    sys.stdout.write(f"{text}\n")
+    sys.stdout.flush()
 
 
 def text_of(file):
@@ -132,9 +130,6 @@ def function_at(path, text, at):
     """The name and the cycle of the function in whose body a place is, or None."""
     found = [it for it in functions_in(path, text) if it.body < at < it.end]
     return found[-1][:2] if found else None
-
-
-# ---- edits
 
 
 class Edit:
@@ -236,8 +231,8 @@ pub {name}_spec : {{M : Type 1}} → statement M
 
 
 def take_at_contracts(crate, folder, functions):
-    """In a copy of a crate, gives each other function, that is in no cycle with these, a hole for its proof and no body. A
-    check that allows holes reads its contract alone."""
+    """In a copy of a crate, gives each function that is in no cycle with these a hole for its proof and no body. A check
+    that allows holes reads its contract alone."""
     files = {os.path.relpath(it, folder): text_of(it) for it in rtlib.files_of(folder) if it.endswith(".rt")}
     types = {name: module_of(path) for path, text in files.items() for name in TYPE.findall(text)}
     own, cycles = {it[0] for it in functions}, {it[1].split()[1] for it in functions if it[1]}
@@ -344,8 +339,8 @@ class Report:
 
 
 def checked(crate, edits, functions, kept, at_contracts=False):
-    """Checks these functions, or all, in a copy of the crate with these edits, over what is kept: the status, and what the
-    check says."""
+    """Checks these functions, or all, in a copy of the crate with these edits, over what is kept: the status and the
+    output."""
     only = [word for name, _ in functions for word in ("--only", name)] + ["--allow-holes"] * at_contracts
     with tempfile.TemporaryDirectory(prefix=f"rt-edits-{os.getpid()}-") as room:
         for part in rtlib.PARTS:
@@ -420,13 +415,10 @@ class Tries:
         if not report.lines and len(group) > 1:
             half = len(group) // 2
             return self.together(group[:half]), self.together(group[half:])
-        lines = [line for line in said.split("\n") if "error" in line] or ["it says nothing"]
-        unread = "bad edit", f"the checker cannot read it, or does not end: {lines[0][:200]}"
+        errors = [line for line in said.split("\n") if "error" in line] or [""]
+        unread = "bad edit", f"the checker cannot read it, or does not end: {errors[0][:200]}"
         self.verdicts.update({it: report.of(it.functions) if report.lines else unread for it in group})
         return None
-
-    def count(self, kind):
-        return sum(it[0] == kind for it in self.verdicts.values())
 
     def failed(self):
         return [it for it in self.verdicts if self.verdicts[it][0] not in ("refused", "weak")]
@@ -434,7 +426,8 @@ class Tries:
     def show(self):
         for edit in self.failed():
             say(f"{edit.label}: {': '.join(self.verdicts[edit])}")
-        kinds = ", ".join(f"{self.count(kind)} {kind}" for kind in sorted({it[0] for it in self.verdicts.values()}))
+        counts = Counter(kind for kind, _ in self.verdicts.values())
+        kinds = ", ".join(f"{count} {kind}" for kind, count in sorted(counts.items()))
         say(f"{self.crate.name}: {len(self.verdicts)} edits in {self.checks} checks: {kinds}")
 
 
@@ -476,9 +469,6 @@ def note(passed, failed, now):
         it.writelines(f"{name} {' '.join(known[name])}\n" for name in sorted(known))
 
 
-# ---- all crates
-
-
 def build_below(crate):
     """Builds the libraries below a crate that are not built, and returns whether all are."""
     return all(os.path.isdir(it.rlib) or not it.build_rlib(["--jobs", "1"], anew=False) for it in crate.below())
@@ -511,9 +501,10 @@ def try_all(crates, edits, is_beside):
     if not is_beside:
         share_work()
     pairs = proved_names(crates) if is_beside else ((it, build_below(it)) for it in crates)
-    # (beside proofs, which take half of the processors)
+    # (proofs take half of the processors)
     most = max(1, min(rt.processors() // (2 if is_beside else 1), int(rt.free() // MEMORY)))
-    with ThreadPoolExecutor(int(os.environ.get("RT_JOBS") or most)) as pool, ThreadPoolExecutor(max(len(crates), 1)) as drivers:
+    lanes = ThreadPoolExecutor(int(os.environ.get("RT_JOBS") or most))
+    with lanes as pool, ThreadPoolExecutor(max(len(crates), 1)) as drivers:
         for crate, is_proved in pairs:
             crate.out = open(os.devnull, "w", encoding="utf-8")
             tries.append(Tries(crate, edits[crate.name], is_beside))
@@ -549,10 +540,10 @@ def main(words):
     if not single and ("--due" not in flags or "--note" in flags):
         failed = {it.crate.name for it in tries if it.failed()}
         note([it.crate.name for it in tries if it.crate.name not in failed], failed, now)
-    lost, kinds = sum(len(it.failed()) for it in tries), ("refused", "broken", "named", "weak", "NOT REFUSED")
-    counts = ", ".join(f"{sum(it.count(kind) for it in tries)} {kind}" for kind in kinds)
-    say(f"edits of {len(tries)} crates: {counts}")
-    say(f"{sum(it.count('refused') for it in tries)} passed, {lost} failed")
+    counts = Counter(kind for it in tries for kind, _ in it.verdicts.values())
+    lost = sum(len(it.failed()) for it in tries)
+    kinds = ", ".join(f"{count} {kind}" for kind, count in sorted(counts.items())) or "none"
+    say(f"edits of {len(tries)} crates: {kinds}\n{counts['refused']} passed, {lost} failed")
     return 1 if lost else 0
 
 

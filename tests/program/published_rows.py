@@ -19,44 +19,31 @@ LISTED = ("stdin", "stdin.subjects")
 REFERENCE = reference()
 
 
-class Case:
-    """The lines of one case: its texts with the options before them, and the rows about them."""
-
-    def __init__(self):
-        self.lines = []
-
-    def text(self):
-        return "\n".join(self.lines) + "\n"
-
-    def statuses(self):
-        """What the report says of T and of other types."""
-        if any(it.startswith("! ") for it in self.lines):
-            return {"fault"}
-        said = [it[2:] for it in self.lines if it.startswith("* ")]
-        said += [it.split(" ", 2)[2] for it in self.lines if it.startswith("named ")]
-        return {word for it in said for word in ("per only", *it.replace(":", "").split()[:1]) if it.startswith(word)}
-
-    def octets(self):
-        """Each value with its octets in PER and in OER."""
-        return [it.split(" | ") for it in self.lines if it.count(" | ") == 2 and it[0] not in "*!:+=~"]
-
-    def type(self):
-        """The type T of the profile."""
-        return next((it[2:] for it in self.lines if it.startswith("= ")), None)
-
-
 def cases_of(file):
-    """The cases of a file of rows."""
+    """The cases of a file of rows, each as its lines: texts with the options before them, and the rows about them."""
     cases, was_text = [], False
     for line in text_of(file).splitlines():
-        if not line or line.startswith("#"):
-            continue
-        is_text = line.startswith((": ", "+ ", "options "))
-        if is_text and not was_text:
-            cases.append(Case())
-        was_text = is_text
-        cases[-1].lines.append(line)
+        if line and not line.startswith("#"):
+            is_text = line.startswith((": ", "+ ", "options "))
+            if is_text and not was_text:
+                cases.append([])
+            was_text = is_text
+            cases[-1].append(line)
     return cases
+
+
+def statuses_of(case):
+    """What the report says of T and of other types."""
+    if any(it.startswith("! ") for it in case):
+        return {"fault"}
+    said = [it[2:] for it in case if it.startswith("* ")]
+    said += [it.split(" ", 2)[2] for it in case if it.startswith("named ")]
+    return {word for it in said for word in ("per only", *it.replace(":", "").split()[:1]) if it.startswith(word)}
+
+
+def octets_of(case):
+    """Each value of T with its octets in PER and in OER."""
+    return [it.split(" | ") for it in case if it.count(" | ") == 2 and it[0] not in "*!:+=~"]
 
 
 def listed():
@@ -69,19 +56,19 @@ def listed():
 
 def names(test):
     """ROWS.txt names a case with what it says, and leaves none out."""
-    cases, named = [it for file in LISTED for it in cases_of(f"{FOLDER}/{file}")], set()
+    cases = {"\n".join([*it, ""]): it for file in LISTED for it in cases_of(f"{FOLDER}/{file}")}
+    named = set()
     for status, piece in listed():
-        found = [it for it in cases if piece in it.text() or piece.replace("\n", "\\n") in it.text()]
-        if not test.add(len(found) == 1, f"ROWS.txt: {piece!r} is a piece of {len(found)} cases"):
-            continue
-        case, = found
-        named.add(case)
-        test.add(status in case.statuses(), f"ROWS.txt: {piece!r}: {status}, and the case has {case.statuses()}")
-        whole = any("-" not in it[1:] for it in case.octets())
-        in_per = status == "per only" and bool(case.octets())
-        test.add(status in ("refused", "fault") or whole or in_per, f"ROWS.txt: {piece!r}: no octets in both rules")
-    for case in cases:
-        test.add(case in named, f"ROWS.txt does not name the case {case.lines[:2]}")
+        found = [it for it in cases if piece in it or piece.replace("\n", "\\n") in it]
+        if test.add(len(found) == 1, f"ROWS.txt: {piece!r} is a piece of {len(found)} cases"):
+            named.update(found)
+            case = cases[found[0]]
+            said, octets = statuses_of(case), octets_of(case)
+            test.add(status in said, f"ROWS.txt: {piece!r}: {status}, and the case has {said}")
+            is_whole = any("-" not in it[1:] for it in octets) or status == "per only" and octets
+            test.add(status in ("refused", "fault") or is_whole, f"ROWS.txt: {piece!r}: no octets in both rules")
+    for text, case in cases.items():
+        test.add(text in named, f"ROWS.txt does not name the case {case[:2]}")
 
 
 def agree(test, module, name, rows):
@@ -95,10 +82,10 @@ def agree(test, module, name, rows):
 
 
 def octets(test):
-    cases = [it for file in sorted(glob.glob(f"{FOLDER}/stdin*")) for it in cases_of(file)]
-    for case in cases:
-        if case.type():
-            agree(test, f"M DEFINITIONS AUTOMATIC TAGS ::= BEGIN T ::= {case.type()} END", "T", case.octets())
+    for case in (it for file in sorted(glob.glob(f"{FOLDER}/stdin*")) for it in cases_of(file)):
+        for line in case:
+            if line.startswith("= "):
+                agree(test, f"M DEFINITIONS AUTOMATIC TAGS ::= BEGIN T ::= {line[2:]} END", "T", octets_of(case))
     stored = [text_of(f"examples/published/report.{it}").splitlines() for it in ("values", "per", "oer")]
     agree(test, text_of("examples/published/flattened.asn"), "Report", zip(*stored))
 

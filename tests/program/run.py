@@ -26,7 +26,7 @@ A second character, right after `|`, `<`, `>` or `!`, says what the text is:
 In all of a text `%[COUNT|TEXT%]` is TEXT so many times, and `%[COUNT|"BETWEEN"|TEXT%]` has BETWEEN in between. `%i` is
 the number of each, from 0 on, `%j` that of an inner one, and `%(..)` an expression of Python.
 """
-import importlib.util
+import importlib
 import itertools
 import os
 import re
@@ -44,7 +44,6 @@ TOP = os.path.dirname(os.path.dirname(HERE))
 # seconds of a processor after which a program does not end
 SECONDS = 300
 MARK = re.compile(r"([|<>!])([|<>!@~*]?) ?(.*)", re.S)
-
 REPEAT = re.compile(r'%(?:\[([^|]*)\|(?:"([^"]*)"\|)?|(\])|([a-z])\b|\(((?:[^()]|\([^()]*\))*)\))')
 
 Ran = namedtuple("Ran", "status out err seconds megabytes")
@@ -52,10 +51,8 @@ Ran = namedtuple("Ran", "status out err seconds megabytes")
 
 def reference():
     """The second implementation, examples/reference.py."""
-    spec = importlib.util.spec_from_file_location("reference", f"{TOP}/examples/reference.py")
-    module = importlib.util.module_from_spec(spec)
-    spec.loader.exec_module(module)
-    return module
+    sys.path.append(f"{TOP}/examples")
+    return importlib.import_module("reference")
 
 
 def octets_of(file):
@@ -89,13 +86,6 @@ def begin(words, **how):
     return subprocess.Popen(words, **{"stdin": subprocess.PIPE, "stdout": subprocess.PIPE, "bufsize": 0, **how})
 
 
-def feed(ran, given, size):
-    """Writes to a command in pieces."""
-    for at in range(0, len(given), size):
-        os.write(ran.stdin.fileno(), given[at : at + size])
-    ran.stdin.close()
-
-
 def run(words, given=b"", *, most=None, pieces=None, ends=None, check=False, **how):
     """Runs a command. Its input is a text, octets, or an open file.
 
@@ -105,18 +95,19 @@ def run(words, given=b"", *, most=None, pieces=None, ends=None, check=False, **h
     """
     given = given.encode() if isinstance(given, str) else given
     with tempfile.TemporaryFile() as source, tempfile.TemporaryFile() as out, tempfile.TemporaryFile() as err:
+        streams = {"stdin": subprocess.PIPE if pieces else given, "stdout": out, "stderr": err}
         if isinstance(given, bytes) and not pieces:
             source.write(given)
             source.seek(0)
-        streams = {"stdin": source if isinstance(given, bytes) else given, "stdout": out, "stderr": err}
-        if pieces:
-            streams["stdin"] = subprocess.PIPE
+            streams["stdin"] = source
         if most:
             how["preexec_fn"] = lambda: resource.setrlimit(resource.RLIMIT_AS, (most, most))
         ran = subprocess.Popen(words, **{**streams, **how})
         resource.prlimit(ran.pid, resource.RLIMIT_CPU, (SECONDS, SECONDS))
         if pieces:
-            feed(ran, given, pieces)
+            for at in range(0, len(given), pieces):
+                os.write(ran.stdin.fileno(), given[at : at + pieces])
+            ran.stdin.close()
         _, status, used = os.wait4(ran.pid, 0)
         ran.returncode = os.waitstatus_to_exitcode(status)
         out.seek(max(0, os.fstat(out.fileno()).st_size - ends) if ends else 0)
@@ -146,11 +137,6 @@ def expand(text, **numbers):
     return eval(f"{form + text[at:].replace('%', '%%')!r} % ({values})", numbers)
 
 
-def split(words):
-    """The words of a command line."""
-    return shlex.split(words) if isinstance(words, str) else [*words]
-
-
 class Written:
     """What a case says of a file, an input or an output: octets, expressions that match, or nothing."""
 
@@ -177,9 +163,18 @@ class Written:
 class Case:
     """The words of a case, its input, and what it has to write, by their marks."""
 
-    def __init__(self, words):
-        self.words = [it.encode("latin-1", "backslashreplace").decode("unicode_escape") for it in shlex.split(words)]
+    def __init__(self, head, *rest):
+        words = shlex.split(head[1:])
+        self.words = [it.encode("latin-1", "backslashreplace").decode("unicode_escape") for it in words]
         self.status, self.most, self.said = 0, None, {mark: Written() for mark in "<>!"}
+        for line in rest:
+            if line[0] == "^":
+                self.most = int(line[1:]) << 20
+            elif line[0] == "=":
+                self.status = int(line[1:])
+            else:
+                mark, form, text = MARK.fullmatch(line).groups()
+                self.said[mark].add(form, text)
 
     def allows(self, ran):
         return ran.status == self.status and self.said[">"].allows(ran.out) and self.said["!"].allows(ran.err)
@@ -202,19 +197,6 @@ def parts_of(text):
         yield part
 
 
-def case_of(head, rest):
-    case = Case(head[1:])
-    for line in rest:
-        if line[0] == "^":
-            case.most = int(line[1:]) << 20
-        elif line[0] == "=":
-            case.status = int(line[1:])
-        else:
-            mark, form, text = MARK.fullmatch(line).groups()
-            case.said[mark].add(form, text)
-    return case
-
-
 def cases_of(text):
     """Writes the files of a text to the room, and returns its cases, as they come."""
     for part, names in parts_of(text):
@@ -228,7 +210,7 @@ def cases_of(text):
             made = part
             for name, it in chosen:
                 made = [line.replace(name, it) for line in made]
-            yield case_of(made[0], made[1:])
+            yield Case(*made)
 
 
 class Test:
@@ -249,8 +231,8 @@ class Test:
         print(f"SKIPPED: {what}", flush=True)
 
     def run(self, words, given=b"", **how):
-        """Runs the program."""
-        return run([self.program, *split(words)], given, **how)
+        """Runs the program on words, or on a line of words."""
+        return run([self.program, *(shlex.split(words) if isinstance(words, str) else words)], given, **how)
 
     def expect(self, words, given, wanted, **how):
         """Runs the program, compares its status, output and standard error, as many as are wanted, and returns them."""

@@ -318,11 +318,8 @@ class Report:
             return "NOT REFUSED", "its function is proved"
         last, home = path.rpartition("::")[2], path.partition("::")[2].replace("::", "/")
         homes = home, f"{os.path.dirname(home)}/+{last}".removeprefix("/")
-
         # (in a cycle the goal of a function begins with its name)
-        def is_own(goal):
-            return not cycle or goal.split("-")[0].split("::")[-1] == last
-
+        is_own = lambda goal: not cycle or goal.split("-")[0].split("::")[-1] == last
         notes = sorted((not is_false, goal) for goal, is_false in self.notes[path] if is_own(goal))
         is_home = lambda it: it in homes or cycle and os.path.basename(it).startswith("+")
         errors = [(kind, goal, text) for at, kind, goal, text in self.errors if is_home(at) and is_own(goal)]

@@ -18,7 +18,7 @@ The edits of a crate are in tests/edits/CRATE.edits, one stanza each:
     by: FUNCTION ..
     weak: reason
 
-A line that begins with `+ ` continues the text above it. `file:`, `old:` and `new:` may repeat, and `new:` may be empty.
+A line that begins with `+ ` continues the text above it. `file:`, `old:` and `new:` may repeat. `new:` may be empty.
 Without `by:` the goals count of the functions whose bodies have the old texts. With `by:` those of the named functions
 count, by the names that the checker prints. An edit outside bodies is checked alone. An edit with `weak:` is not tried:
 no goal is known that refuses it.
@@ -26,9 +26,9 @@ no goal is known that refuses it.
 A crate is due if `tried` notes other hashes than git has for its folder and its edits. The crate of the day is due too.
 
 One check judges edits of different functions, over what earlier checks of the crate kept. In the gate nothing is kept:
-the check takes all other functions at their contracts. An edit is refused if a goal of its function is false or does not
-type. It is broken if only a proof by hand no longer fits, and named if that proof only names what is gone. Broken and
-named edits fail, as those that are not refused.
+the check takes the other functions at their contracts. An edit is refused if a goal of its function is false or does
+not type. It is broken if only a proof by hand no longer fits, and named if that proof only names what is gone. Broken
+and named edits fail, as those that are not refused.
 """
 import datetime
 import glob
@@ -69,7 +69,7 @@ HEAD = re.compile(r'^( *)(?:pub(?:\([^)]*\))? )?((?:const |unsafe |extern "C" )*
 OWNER = re.compile(r"^(?:pub(?:\([^)]*\))? )?(?:unsafe )?(impl|trait)\b([^{]*)\{", re.M)
 TYPE = re.compile(r"^(?:pub(?:\([^)]*\))? )?(?:struct|enum|trait) (\w+)", re.M)
 # (the mark of a cycle of types stays)
-CYCLE = re.compile(r"#\[cycle\((\w+)\)\](?!(?:\s*#\[[^\]]*\]|\s*//[^\n]*\n)*\s*(?:pub(?:\([^)]*\))? )?(?:struct|enum) )")
+CYCLE = re.compile(r"#\[cycle\((\w+)\)\](?!(?:\s*#\[[^\]]*\]|\s*//[^\n]*\n)*\s*(?:pub\S* )?(?:struct|enum) )")
 Function = namedtuple("Function", "name cycle module owner last body end is_const")
 
 
@@ -231,8 +231,8 @@ pub {name}_spec : {{M : Type 1}} → statement M
 
 
 def take_at_contracts(crate, folder, functions):
-    """In a copy of a crate, gives each function that is in no cycle with these a hole for its proof and no body. A check
-    that allows holes reads its contract alone."""
+    """In a copy of a crate, gives each other function, if in no cycle with these, a hole for its proof and no body. A
+    check that allows holes reads its contract alone."""
     files = {os.path.relpath(it, folder): text_of(it) for it in rtlib.files_of(folder) if it.endswith(".rt")}
     types = {name: module_of(path) for path, text in files.items() for name in TYPE.findall(text)}
     own, cycles = {it[0] for it in functions}, {it[1].split()[1] for it in functions if it[1]}
@@ -386,7 +386,7 @@ class Tries:
         self.show()
 
     def is_begun(self):
-        """Proves the crate as it is, over what is kept. At contracts, only the cycles of functions that edits change."""
+        """Proves the crate as it is, over what is kept. At contracts, only the cycles that edits change."""
         if not self.at_contracts:
             return checked(self.crate, [], [], self.seed)[0] == 0
         members = {cycle: name for it in self.left for name, cycle in it.functions if cycle}

@@ -45,14 +45,14 @@ def say(text):
         print(text, flush=True)
 
 
-def run(words, hear, **how):
+def run(words, hear, is_shown, **how):
     """Runs a command: what it prints, its status, and the seconds of a processor that it took."""
     said, how = [], {"stdout": subprocess.PIPE, "stderr": subprocess.STDOUT, "encoding": "utf-8", **how}
     with subprocess.Popen(words, errors="replace", **how) as ran:
         for line in ran.stdout:
             said.append(line)
             hear(line)
-            if not COUNT.match(line):
+            if is_shown and not COUNT.match(line) or line.startswith("counted: "):
                 say(line.rstrip("\n"))
         _, status, used = os.wait4(ran.pid, 0)
         ran.returncode = os.waitstatus_to_exitcode(status)
@@ -64,12 +64,13 @@ def step(part, words, hear=str, given=os.devnull, stored=None, is_behind=False, 
     it, begun, seconds, skipped = PARTS[part], time.time(), 0, 0
     try:
         with open(given, "rb", closefd=isinstance(given, str)) as stdin:
-            said, status, seconds = run([*BEHIND, *words] if is_behind else words, hear, stdin=stdin, **how)
+            said, status, seconds = run([*BEHIND, *words] if is_behind else words, hear, not stored, stdin=stdin, **how)
         counts = [] if stored else COUNT.findall(said)
         passed, failed, skipped = (int(it or 0) for it in counts[-1]) if counts else (int(not status), 0, 0)
         if stored:
             with open(stored, encoding="utf-8") as file:
                 failed = int(re.sub(r"^counted: .*\n", "", said, flags=re.M) != file.read())
+            say(said if failed else f"as {stored}")
             passed = 0 if failed else int((re.findall(r"^(\d+) rows", said, re.M) or [1])[0])
         failed = max(failed, int(status != 0))
     except Exception as error:

@@ -18,7 +18,7 @@ The edits of a crate are in tests/edits/CRATE.edits, one stanza each:
     by: FUNCTION ..
     weak: reason
 
-A line that begins with `+ ` continues the text above it. `file:`, `old:` and `new:` may repeat, and `new:` may be empty.
+A line that begins with `+ ` continues the text above it. `file:`, `old:` and `new:` may repeat. `new:` may be empty.
 Without `by:` the goals count of the functions whose bodies have the old texts. With `by:` those of the named functions
 count, by the names that the checker prints. An edit outside bodies is checked alone. An edit with `weak:` is not tried:
 no goal is known that refuses it.
@@ -26,9 +26,9 @@ no goal is known that refuses it.
 A crate is due if `tried` notes other hashes than git has for its folder and its edits. The crate of the day is due too.
 
 One check judges edits of different functions, over what earlier checks of the crate kept. In the gate nothing is kept:
-the check takes all other functions at their contracts. An edit is refused if a goal of its function is false or does not
-type. It is broken if only a proof by hand no longer fits, and named if that proof only names what is gone. Broken and
-named edits fail, as those that are not refused.
+the check takes the other functions at their contracts. An edit is refused if a goal of its function is false or does
+not type. It is broken if only a proof by hand no longer fits, and named if that proof only names what is gone. Broken
+and named edits fail, as those that are not refused.
 """
 import datetime
 import glob
@@ -40,8 +40,7 @@ import signal
 import subprocess
 import sys
 import tempfile
-import threading
-from collections import namedtuple
+from collections import Counter, namedtuple
 from concurrent.futures import ThreadPoolExecutor
 
 sys.dont_write_bytecode = True
@@ -52,12 +51,11 @@ from kit import rt, rtlib, share_work  # noqa: E402
 FOLDER, TRIED = "tests/edits", "tests/edits/tried"
 # the seconds of a processor that one check may take, and the memory that it needs
 LIMIT, MEMORY = 1200, 4_500_000_000
-PRINTING = threading.Lock()
 
 
 def say(text):
-    with PRINTING:
-        print(text, flush=True)
+    sys.stdout.write(f"{text}\n")
+    sys.stdout.flush()
 
 
 def text_of(file):
@@ -71,7 +69,7 @@ HEAD = re.compile(r'^( *)(?:pub(?:\([^)]*\))? )?((?:const |unsafe |extern "C" )*
 OWNER = re.compile(r"^(?:pub(?:\([^)]*\))? )?(?:unsafe )?(impl|trait)\b([^{]*)\{", re.M)
 TYPE = re.compile(r"^(?:pub(?:\([^)]*\))? )?(?:struct|enum|trait) (\w+)", re.M)
 # (the mark of a cycle of types stays)
-CYCLE = re.compile(r"#\[cycle\((\w+)\)\](?!(?:\s*#\[[^\]]*\]|\s*//[^\n]*\n)*\s*(?:pub(?:\([^)]*\))? )?(?:struct|enum) )")
+CYCLE = re.compile(r"#\[cycle\((\w+)\)\](?!(?:\s*#\[[^\]]*\]|\s*//[^\n]*\n)*\s*(?:pub\S* )?(?:struct|enum) )")
 Function = namedtuple("Function", "name cycle module owner last body end is_const")
 
 
@@ -132,9 +130,6 @@ def function_at(path, text, at):
     """The name and the cycle of the function in whose body a place is, or None."""
     found = [it for it in functions_in(path, text) if it.body < at < it.end]
     return found[-1][:2] if found else None
-
-
-# ---- edits
 
 
 class Edit:
@@ -236,7 +231,7 @@ pub {name}_spec : {{M : Type 1}} → statement M
 
 
 def take_at_contracts(crate, folder, functions):
-    """In a copy of a crate, gives each other function, that is in no cycle with these, a hole for its proof and no body. A
+    """In a copy of a crate, gives each other function, if in no cycle with these, a hole for its proof and no body. A
     check that allows holes reads its contract alone."""
     files = {os.path.relpath(it, folder): text_of(it) for it in rtlib.files_of(folder) if it.endswith(".rt")}
     types = {name: module_of(path) for path, text in files.items() for name in TYPE.findall(text)}
@@ -323,11 +318,8 @@ class Report:
             return "NOT REFUSED", "its function is proved"
         last, home = path.rpartition("::")[2], path.partition("::")[2].replace("::", "/")
         homes = home, f"{os.path.dirname(home)}/+{last}".removeprefix("/")
-
         # (in a cycle the goal of a function begins with its name)
-        def is_own(goal):
-            return not cycle or goal.split("-")[0].split("::")[-1] == last
-
+        is_own = lambda goal: not cycle or goal.split("-")[0].split("::")[-1] == last
         notes = sorted((not is_false, goal) for goal, is_false in self.notes[path] if is_own(goal))
         is_home = lambda it: it in homes or cycle and os.path.basename(it).startswith("+")
         errors = [(kind, goal, text) for at, kind, goal, text in self.errors if is_home(at) and is_own(goal)]
@@ -344,8 +336,8 @@ class Report:
 
 
 def checked(crate, edits, functions, kept, at_contracts=False):
-    """Checks these functions, or all, in a copy of the crate with these edits, over what is kept: the status, and what the
-    check says."""
+    """Checks these functions, or all, in a copy of the crate with these edits, over what is kept: the status and the
+    output."""
     only = [word for name, _ in functions for word in ("--only", name)] + ["--allow-holes"] * at_contracts
     with tempfile.TemporaryDirectory(prefix=f"rt-edits-{os.getpid()}-") as room:
         for part in rtlib.PARTS:
@@ -394,7 +386,7 @@ class Tries:
         self.show()
 
     def is_begun(self):
-        """Proves the crate as it is, over what is kept. At contracts, only the cycles of functions that edits change."""
+        """Proves the crate as it is, over what is kept. At contracts, only the cycles that edits change."""
         if not self.at_contracts:
             return checked(self.crate, [], [], self.seed)[0] == 0
         members = {cycle: name for it in self.left for name, cycle in it.functions if cycle}
@@ -420,13 +412,10 @@ class Tries:
         if not report.lines and len(group) > 1:
             half = len(group) // 2
             return self.together(group[:half]), self.together(group[half:])
-        lines = [line for line in said.split("\n") if "error" in line] or ["it says nothing"]
-        unread = "bad edit", f"the checker cannot read it, or does not end: {lines[0][:200]}"
+        errors = [line for line in said.split("\n") if "error" in line] or [""]
+        unread = "bad edit", f"the checker cannot read it, or does not end: {errors[0][:200]}"
         self.verdicts.update({it: report.of(it.functions) if report.lines else unread for it in group})
         return None
-
-    def count(self, kind):
-        return sum(it[0] == kind for it in self.verdicts.values())
 
     def failed(self):
         return [it for it in self.verdicts if self.verdicts[it][0] not in ("refused", "weak")]
@@ -434,7 +423,8 @@ class Tries:
     def show(self):
         for edit in self.failed():
             say(f"{edit.label}: {': '.join(self.verdicts[edit])}")
-        kinds = ", ".join(f"{self.count(kind)} {kind}" for kind in sorted({it[0] for it in self.verdicts.values()}))
+        counts = Counter(kind for kind, _ in self.verdicts.values())
+        kinds = ", ".join(f"{count} {kind}" for kind, count in sorted(counts.items()))
         say(f"{self.crate.name}: {len(self.verdicts)} edits in {self.checks} checks: {kinds}")
 
 
@@ -476,9 +466,6 @@ def note(passed, failed, now):
         it.writelines(f"{name} {' '.join(known[name])}\n" for name in sorted(known))
 
 
-# ---- all crates
-
-
 def build_below(crate):
     """Builds the libraries below a crate that are not built, and returns whether all are."""
     return all(os.path.isdir(it.rlib) or not it.build_rlib(["--jobs", "1"], anew=False) for it in crate.below())
@@ -511,9 +498,10 @@ def try_all(crates, edits, is_beside):
     if not is_beside:
         share_work()
     pairs = proved_names(crates) if is_beside else ((it, build_below(it)) for it in crates)
-    # (beside proofs, which take half of the processors)
+    # (proofs take half of the processors)
     most = max(1, min(rt.processors() // (2 if is_beside else 1), int(rt.free() // MEMORY)))
-    with ThreadPoolExecutor(int(os.environ.get("RT_JOBS") or most)) as pool, ThreadPoolExecutor(max(len(crates), 1)) as drivers:
+    lanes = ThreadPoolExecutor(int(os.environ.get("RT_JOBS") or most))
+    with lanes as pool, ThreadPoolExecutor(max(len(crates), 1)) as drivers:
         for crate, is_proved in pairs:
             crate.out = open(os.devnull, "w", encoding="utf-8")
             tries.append(Tries(crate, edits[crate.name], is_beside))
@@ -549,10 +537,10 @@ def main(words):
     if not single and ("--due" not in flags or "--note" in flags):
         failed = {it.crate.name for it in tries if it.failed()}
         note([it.crate.name for it in tries if it.crate.name not in failed], failed, now)
-    lost, kinds = sum(len(it.failed()) for it in tries), ("refused", "broken", "named", "weak", "NOT REFUSED")
-    counts = ", ".join(f"{sum(it.count(kind) for it in tries)} {kind}" for kind in kinds)
-    say(f"edits of {len(tries)} crates: {counts}")
-    say(f"{sum(it.count('refused') for it in tries)} passed, {lost} failed")
+    counts = Counter(kind for it in tries for kind, _ in it.verdicts.values())
+    lost = sum(len(it.failed()) for it in tries)
+    kinds = ", ".join(f"{count} {kind}" for kind, count in sorted(counts.items())) or "none"
+    say(f"edits of {len(tries)} crates: {kinds}\n{counts['refused']} passed, {lost} failed")
     return 1 if lost else 0
 
 

@@ -11,6 +11,7 @@ pub mod Growing
 pub mod IntegerRanges
 pub mod LeafTypes
 pub mod LeanAnswers
+pub mod LeanTypes
 pub mod Leans
 pub mod Messages
 pub mod NodeKinds

@@ -2,4 +2,5 @@
 pub mod OctetsRead
 pub mod StringsHeld
 pub mod FieldsRead
+pub mod NothingSpelt
 pub mod OpenOctets

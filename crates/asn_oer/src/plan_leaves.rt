@@ -20,6 +20,8 @@ use asn_walk::{Preamble, ReadLeaves};
 
 #[tactic(auto, unfolding(crate::specs::Walk::oer_coding, crate::specs::Rules::oer_ruling))]
 impl PlanLeaves for Oer {
+    fn keep_nothing() {}
+
     #[inline(always)]
     fn take_word(run: Run, units: &mut BitCursor<'_>) -> Word {
         if run.octets > MOST_OCTETS {

@@ -3,4 +3,5 @@ pub mod WordsRead
 pub mod RangedRead
 pub mod StringsRead
 pub mod FieldsRead
+pub mod NothingSpelt
 pub mod OpenHere

@@ -14,6 +14,8 @@ use asn_walk::Preamble;
 
 #[tactic(auto, unfolding(crate::specs::Walk::per_coding, crate::specs::Rules::per_ruling))]
 impl PlanLeaves for Per {
+    fn keep_nothing() {}
+
     #[inline(always)]
     fn take_word(run: Run, units: &mut BitCursor<'_>) -> Word {
         take_bits(run.bits, units)

@@ -7,6 +7,7 @@ use Rattle.asn_values.specs.Shape.{Shape, Fields, MoreFields, Alternatives, More
 use Rattle.asn_values.specs.View.{shape_of, size_range_of}
 use Rattle.asn_rules.specs.Listed.{bitmap_length}
 use Rattle.asn_walk.specs.Coding.{added, added_alternatives}
+use Rattle.asn_plan.specs.Nothing.{HasEntriesIfAny}
 use Rattle.asn_plan.specs.Ranged.{ranged}
 use Rattle.asn_plan.specs.declared.plan.AlternativeRows.{AlternativeRows}
 use Rattle.asn_plan.specs.declared.plan.Between.{Between}
@@ -55,6 +56,7 @@ pub record IsSequence (ns : List Node) (s : ComponentRows) (t : Shape) : Type 0 
   pub additions : s.additions ≡ added more
   pub plans : ArePlans (take s.begin ns) (row s.begin s.middle ns) root
   pub others : ArePlansOfMore (take s.begin ns) (row s.middle s.end ns) more
+  pub entries : HasEntriesIfAny s.entries t
 
 pub sequence_is : (ns : List Node) (t : Shape) (s : ComponentRows) → IsPlan ns t (kind.Sequence s) → IsSequence ns s t
 sequence_is ns (sequence root more) s p = record {
@@ -65,6 +67,7 @@ sequence_is ns (sequence root more) s p = record {
   additions = p.4;
   plans = p.5;
   others = p.6;
+  entries = p.7;
 }
 sequence_is ns t s p = absurd p
 

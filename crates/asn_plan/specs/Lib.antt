@@ -3,6 +3,8 @@ pub mod Enumerations
 pub mod Fields
 pub mod FixedSizes
 pub mod FixedStrings
+pub mod Lean
+pub mod Nothing
 pub mod Placed
 pub mod Plans
 pub mod Ranged

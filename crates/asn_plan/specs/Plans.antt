@@ -14,6 +14,7 @@ use Rattle.asn_rules.specs.Listed.{Listed, bitmap_length}
 use Rattle.asn_walk.specs.Coding.{Coding, OpenOf, OpenListed, added, added_alternatives}
 use Rattle.asn_plan.specs.FixedStrings.{IsFixedString, IsStringOf}
 use Rattle.asn_plan.specs.declared.fixed.FixedString.{FixedString}
+use Rattle.asn_plan.specs.Nothing.{HasEntriesIfAny}
 use Rattle.asn_plan.specs.Ranged.{ranged}
 use Rattle.asn_plan.specs.Words.{before}
 use Rattle.asn_plan.specs.declared.word.Word.{Word}
@@ -69,6 +70,7 @@ abbrev mutual
       × (s.width ≡ bitmap_length root) × (s.additions ≡ added more)
       × ArePlans (take s.begin ns) (row s.begin s.middle ns) root
       × ArePlansOfMore (take s.begin ns) (row s.middle s.end ns) more
+      × HasEntriesIfAny s.entries (sequence root more)
   IsPlan ns (sequence root more) (kind.List l) = ⊥
   IsPlan ns (sequence root more) (kind.Choice a) = ⊥
   IsPlan ns (sequence_of t s) (kind.Number b) = ⊥

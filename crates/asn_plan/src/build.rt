@@ -4,6 +4,7 @@ ghost use Rattle.asn_values.specs.Datum.{Datum, truth, number, item, components,
 ghost use Rattle.asn_values.specs.View.{datum_of, entries_seen};
 ghost use Rattle.asn_walk.specs.Integers.{IsOfProfile};
 ghost use Rattle.asn_plan.specs.FixedStrings.{IsStringOf};
+ghost use Rattle.asn_plan.specs.Taken.{entries_of, octets_of};
 
 use crate::copies::copy_default;
 use crate::fixed::FixedString;
@@ -68,6 +69,21 @@ pub trait Build {
     #[inline(always)]
     fn string(_room: &mut Self::Room, _fixed: &FixedString, _number: u64) -> Option<Self::Part>
         ensures { IfSome result (λ p. (d : Datum) → IsStringOf _fixed.now _number d
+            → built _room.old _room.new p d) }
+    {
+        None
+    }
+
+    /// Whether values of no units are built of the count of their entries, by `counted`; else they are walked.
+    #[inline(always)]
+    fn takes_counts() -> bool {
+        false
+    }
+
+    /// Builds the part of a value that has this many entries and no strings.
+    #[inline(always)]
+    fn counted(_room: &mut Self::Room, _entries: u32) -> Option<Self::Part>
+        ensures { IfSome result (λ p. (d : Datum) → entries_of d ≡ _entries → octets_of d ≡ 0
             → built _room.old _room.new p d) }
     {
         None
@@ -196,6 +212,16 @@ impl Build for Nothing {
 
     #[inline(always)]
     fn string(_room: &mut (), _fixed: &FixedString, _number: u64) -> Option<()> {
+        Some(())
+    }
+
+    #[inline(always)]
+    fn takes_counts() -> bool {
+        true
+    }
+
+    #[inline(always)]
+    fn counted(_room: &mut (), _entries: u32) -> Option<()> {
         Some(())
     }
 

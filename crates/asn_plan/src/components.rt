@@ -40,6 +40,11 @@ pub(crate) fn build_sequence<R: PlanLeaves, B: Build>(
         → Builds R.rules (B.built room.old room.new) t p units.old units.new) }
 {
     R::keep_laws();
+    R::keep_nothing();
+    if B::takes_counts() && parts.entries > 0 {
+        let part = B::counted(room, parts.entries)?;
+        return Some(part);
+    }
     if parts.begin > parts.middle || parts.middle > parts.end || parts.end > nodes.len() {
         return None;
     }

@@ -111,6 +111,19 @@ impl Build for Counting {
     }
 
     #[inline(always)]
+    fn takes_counts() -> bool {
+        true
+    }
+
+    #[inline(always)]
+    fn counted(_room: &mut (), entries: u32) -> Option<Taken> {
+        Some(Taken {
+            entries: u64::from(entries),
+            octets: 0,
+        })
+    }
+
+    #[inline(always)]
     fn value(_room: &mut (), value: Value) -> Option<Taken> {
         taken_alone(&value)
     }

@@ -51,6 +51,11 @@ pub(crate) fn build_leaf<R: PlanLeaves, B: Build>(
         let part = B::string(room, fixed, number)?;
         return Some(part);
     }
+    if B::takes_counts() && matches!(&leaf.ty, AsnType::Null) {
+        R::keep_nothing();
+        let part = B::counted(room, 1)?;
+        return Some(part);
+    }
     build_made::<R, B>(alloc, leaf, units, room)
 }
 

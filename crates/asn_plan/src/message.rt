@@ -5,6 +5,7 @@ ghost use Rattle.asn_values.specs.Shape.{Shape};
 ghost use Rattle.asn_values.specs.View.{shape_of, datum_of};
 ghost use Rattle.asn_rules.specs.Answer.{IsEncoding, max_octets};
 ghost use Rattle.asn_rules.specs.Codec.{Decoded};
+ghost use Rattle.asn_plan.specs.Lean.{lean as lean_shape};
 ghost use Rattle.asn_plan.specs.Plans.{IsPlanOf, BuildsMessage, Checks};
 ghost use Rattle.asn_plan.specs.Within.{CheckedWithin, DecodedWithin, IsTaken};
 
@@ -17,6 +18,7 @@ use crate::reused::{Reused, Spare};
 use crate::rules::{PlanLeaves, PlanRules};
 use asn_rules::{DecodeFault, MAX_OCTETS, Rules};
 use asn_values::{Checked, Value};
+use asn_walk::ReadLeaves;
 use asn_walk_check::check_message;
 use std::alloc::Global;
 use std::mem;
@@ -56,6 +58,27 @@ pub fn check_exactly<R: PlanRules>(
     check_message::<R>(alloc, ty, octets)
 }
 
+/// The same as `check_exactly`, by the lean type if there is one, whose spellings are the same.
+#[inline(never)]
+fn check_leanly<R: PlanRules>(
+    alloc: Global,
+    ty: &Checked,
+    lean: &Option<Checked>,
+    octets: &[u8],
+) -> Result<(), DecodeFault>
+    requires { IfSome lean.now (λ l. shape_of l ≡ lean_shape (shape_of ty.now)) }
+    ensures { Checks R.ruling result (shape_of ty.now) octets.now }
+{
+    let Some(lean) = lean else {
+        return check_exactly::<R>(alloc, ty, octets);
+    };
+    <R as ReadLeaves>::keep_laws();
+    R::keep_nothing();
+    ty.get();
+    lean.get();
+    check_exactly::<R>(alloc, lean, octets)
+}
+
 /// Whether the octets are the encoding of some value of the type: `Ok` exactly where they are, unless an allocation failed,
 /// and else the fault of `decode`.
 ///
@@ -65,17 +88,19 @@ pub fn check_exactly<R: PlanRules>(
 pub(crate) fn check_by<R: PlanRules>(
     alloc: Global,
     ty: &Checked,
+    lean: &Option<Checked>,
     plan: &Plan,
     octets: &[u8],
 ) -> Result<(), DecodeFault>
-    requires { IsPlanOf plan.now (shape_of ty.now) }
+    requires plan { IsPlanOf plan.now (shape_of ty.now) }
+    requires lean { IfSome lean.now (λ l. shape_of l ≡ lean_shape (shape_of ty.now)) }
     ensures { Checks R.ruling result (shape_of ty.now) octets.now }
 {
     ty.get();
     if let Some(()) = build_octets::<R, Nothing>(alloc, plan, octets, &mut ()) {
         return Ok(());
     }
-    check_exactly::<R>(alloc, ty, octets)
+    check_leanly::<R>(alloc, ty, lean, octets)
 }
 
 /// The value of the type whose complete encoding the octets are: what `asn_rules::decode` answers.
@@ -165,10 +190,16 @@ pub(crate) fn taken_by<R: PlanRules>(
 
 /// The fault of octets at which the walk gave up: it does so at no encoding unless an allocation failed.
 #[inline(never)]
-fn fault_of<R: PlanRules>(alloc: Global, ty: &Checked, octets: &[u8]) -> DecodeFault
+fn fault_of<R: PlanRules>(
+    alloc: Global,
+    ty: &Checked,
+    lean: &Option<Checked>,
+    octets: &[u8],
+) -> DecodeFault
+    requires { IfSome lean.now (λ l. shape_of l ≡ lean_shape (shape_of ty.now)) }
     ensures { Decoded R.ruling (Err result) (shape_of ty.now) octets.now }
 {
-    match check_exactly::<R>(alloc, ty, octets) {
+    match check_leanly::<R>(alloc, ty, lean, octets) {
         Ok(()) => DecodeFault::Memory,
         Err(why) => why,
     }
@@ -182,16 +213,18 @@ fn fault_of<R: PlanRules>(alloc: Global, ty: &Checked, octets: &[u8]) -> DecodeF
 pub(crate) fn check_within_by<R: PlanRules>(
     alloc: Global,
     ty: &Checked,
+    lean: &Option<Checked>,
     plan: &Plan,
     octets: &[u8],
     budget: &Budget,
 ) -> Result<Taken, WithinFault>
-    requires { IsPlanOf plan.now (shape_of ty.now) }
+    requires plan { IsPlanOf plan.now (shape_of ty.now) }
+    requires lean { IfSome lean.now (λ l. shape_of l ≡ lean_shape (shape_of ty.now)) }
     ensures { CheckedWithin R.ruling budget.now result (shape_of ty.now) octets.now }
 {
     ty.get();
     let Some(taken) = taken_by::<R>(alloc, ty, plan, octets) else {
-        let why = fault_of::<R>(alloc, ty, octets);
+        let why = fault_of::<R>(alloc, ty, lean, octets);
         return Err(WithinFault::Decode(why));
     };
     if !taken.is_within(budget) {
@@ -208,17 +241,19 @@ pub(crate) fn check_within_by<R: PlanRules>(
 pub(crate) fn decode_within_by<R: PlanRules>(
     alloc: Global,
     ty: &Checked,
+    lean: &Option<Checked>,
     plan: &Plan,
     octets: &[u8],
     budget: &Budget,
 ) -> Result<Value, WithinFault>
-    requires { IsPlanOf plan.now (shape_of ty.now) }
+    requires plan { IsPlanOf plan.now (shape_of ty.now) }
+    requires lean { IfSome lean.now (λ l. shape_of l ≡ lean_shape (shape_of ty.now)) }
     ensures { DecodedWithin R.ruling budget.now result (shape_of ty.now) octets.now }
 {
     <R as Rules>::keep_laws();
     ty.get();
     let Some(taken) = taken_by::<R>(alloc, ty, plan, octets) else {
-        return Err(WithinFault::Decode(fault_of::<R>(alloc, ty, octets)));
+        return Err(WithinFault::Decode(fault_of::<R>(alloc, ty, lean, octets)));
     };
     if !taken.is_within(budget) {
         return Err(WithinFault::OverBudget);

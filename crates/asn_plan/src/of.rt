@@ -16,6 +16,7 @@ use crate::fields::{count_fields, index_fields};
 use crate::fixed::fixed_of;
 use crate::items::items_of;
 use crate::leaves::between_of;
+use crate::nothing::entries_of;
 use crate::plan::{
     AlternativeRows, ComponentRows, ElementRow, Kind, Leaf, Node, Plan, Presence, Runs, WithDefault,
 };
@@ -123,6 +124,7 @@ fn place_components(
     let mut rest = rest;
     let begin = nodes.len();
     let head = head_of(first.as_slice(), additions, width);
+    let entries = entries_of(first.as_slice(), additions);
     nodes.append(&mut first)?;
     let middle = nodes.len();
     nodes.append(&mut rest)?;
@@ -135,6 +137,7 @@ fn place_components(
         width,
         mask: greatest_of_width(width.min(64)),
         head,
+        entries,
     }))
 }
 

@@ -74,6 +74,8 @@ pub struct ComponentRows {
     pub mask: u64,
     /// The units of the extension bit and the presence bits, and the runs of the first component.
     pub head: Runs,
+    /// How many entries the value has, where it has no units; else 0.
+    pub entries: u32,
     ghost is_mask: { width ≤ 64 → mask + 1 ≡ 2 ^ width },
 }
 

@@ -13,6 +13,7 @@ ghost use Rattle.asn_walk.specs.Reading.{Reads, ValuesOf};
 ghost use Rattle.asn_plan.specs.Enumerations.{IsEnumeration};
 ghost use Rattle.asn_plan.specs.Fields.{AreCountFields, AreIndexFields, BeginsList};
 ghost use Rattle.asn_plan.specs.FixedStrings.{IsFixedString};
+ghost use Rattle.asn_plan.specs.Nothing.{SpellsNothing};
 ghost use Rattle.asn_plan.specs.Plans.{BeginsOpen, EndsOpen, TellsString};
 ghost use Rattle.asn_plan.specs.Ranged.{ranged, IsRanged};
 ghost use Rattle.asn_plan.specs.Words.{before};
@@ -29,6 +30,11 @@ use asn_walk::{Preamble, ReadLeaves};
 /// What a plan asks of a set of rules in addition to the parts that any walk asks for: values by what was worked out
 /// of their types once.
 pub trait PlanLeaves: ReadLeaves {
+    /// Values of NULL, and of SEQUENCEs of these alone, have no units. The call does nothing: its clause is what the
+    /// proofs of the walk cite.
+    fn keep_nothing()
+        ensures { SpellsNothing Self.rules.code };
+
     /// Takes this many units at once, if they have all come and a word holds them; otherwise none.
     fn take_word(run: Run, units: &mut BitCursor<'_>) -> Word
         requires at_unit { Self.rules.at_unit units.old }

@@ -222,6 +222,22 @@ pub fn answer_to<W: Write>(
     }
 }
 
+/// Answers one line of hexadecimal or JSON in memory, as `answer_to` does.
+///
+/// # Errors
+/// `Memory` if an allocation failed: a vector refuses octets for no other reason.
+pub fn answer_in_memory(
+    rt: &HostRuntime,
+    answer: &mut Counted<Vec<u8>>,
+    line: &[u8],
+    asked: Asked<'_>,
+) -> Result<Answered, RunFault> {
+    match answer_to(rt, answer, line, asked) {
+        Err(RunFault::Write) => Err(RunFault::Memory),
+        answered => answered,
+    }
+}
+
 /// Answers one line of hexadecimal or JSON, what is written being laid out, in another form or counted.
 fn answer_otherwise<W: Write>(
     rt: &HostRuntime,
@@ -231,7 +247,7 @@ fn answer_otherwise<W: Write>(
     asked: Asked<'_>,
 ) -> Result<Answered, RunFault> {
     let mut answer = Counted::new(Vec::new(rt.alloc()));
-    let answered = answer_to(rt, &mut answer, line, asked)?;
+    let answered = answer_in_memory(rt, &mut answer, line, asked)?;
     let answer = answer.into_inner();
     if matches!(answered, Answered::Line(true)) {
         put_good(rt, answers, line, answer.as_slice(), asked)?;

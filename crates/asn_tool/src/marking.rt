@@ -1,5 +1,5 @@
 //! Lines of a published type that has marks: where a part of a message is not looked at, the answer says so.
-use crate::answering::{Answers, Asked, answer_to, put_answer, tell_why};
+use crate::answering::{Answers, Asked, answer_in_memory, put_answer, tell_why};
 use crate::budget::Answered;
 use crate::marked::{answer_beside, deeper_text, refusal_beside, unlooked_words};
 use crate::writing::{put_refusal, tell, text_in};
@@ -30,7 +30,7 @@ pub fn answer_marked<W: Write>(
     marks: &Marks,
 ) -> Result<bool, RunFault> {
     let mut plain = Counted::new(Vec::new(rt.alloc()));
-    let answered = answer_to(rt, &mut plain, line, asked)?;
+    let answered = answer_in_memory(rt, &mut plain, line, asked)?;
     let plain = plain.into_inner();
     let plain = text_in(plain.as_slice());
     if let Answered::Line(true) = answered {

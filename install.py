@@ -6,9 +6,10 @@ usage: python3 install.py [--program FILE] FOLDER
 It leaves FOLDER/bin/asn_tool, FOLDER/share/man/man1/asn_tool.1, FOLDER/share/bash-completion/completions/asn_tool and
 FOLDER/share/zsh/site-functions/_asn_tool. The last three are made from what the program's own `--help` says.
 
-The program is compiled from the sources of the crates without a proof, which takes three minutes on an idle machine, and
-`asn_tool --version` says `unproved build`. Standard error shows each ten seconds how far it is. With --program it is FILE:
-crates/asn_tool/out/asn_tool, say, where `rt run` or `rt ci` leaves the program that is proved.
+The program is compiled from the sources of the crates without a proof, which takes some 80 seconds on four idle
+processors, and `asn_tool --version` says `unproved build`. Standard error has a line for each step, and one every ten
+seconds. With --program it is FILE: crates/asn_tool/out/asn_tool, say, where `rt run` or `rt ci` leaves the program that
+is proved.
 """
 import os
 import re
@@ -25,7 +26,7 @@ import room
 
 NAME = "asn_tool"
 VERSION = re.compile(r'\.version\("([^"]*)"\)')
-USUAL = 170  # seconds of a compilation on an idle machine
+USUAL = 80  # seconds of a compilation on four idle processors
 
 
 def build(program):
@@ -37,15 +38,16 @@ def build(program):
         with open(words, "w", encoding="utf-8") as it:
             it.write(VERSION.sub(r'.version("\1, unproved build")', text))
         made = f"{folder}/{NAME}"
-        waited_for([sys.executable, f"{TOP}/tests/unproved.py", f"{folder}/crates/{NAME}", TOP, made])
+        unproved = f"{TOP}/tests/unproved.py"
+        waited_for([sys.executable, unproved, "--parts", f"{folder}/crates/{NAME}", TOP, made])
         shutil.copy2(made, program)
 
 
 def waited_for(words):
     """Runs a compilation, and shows on standard error how long it has taken so far."""
     started = time.monotonic()
-    print(f"compiling {NAME}, which takes some {USUAL} s on an idle machine", file=sys.stderr, flush=True)
-    with subprocess.Popen(words) as ran:
+    print(f"compiling {NAME}, which takes some {USUAL} s on four idle processors", file=sys.stderr, flush=True)
+    with subprocess.Popen(words, stdin=subprocess.DEVNULL) as ran:
         while ran.poll() is None:
             try:
                 ran.wait(timeout=10)

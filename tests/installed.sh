@@ -1,6 +1,5 @@
 #!/usr/bin/env bash
 # What install.py makes of the program: the words that bash completes, and a manual page that names each command and option.
-# The way in which it compiles is tried on the small program asn_first.
 #
 # usage: tests/installed.sh PROGRAM
 set -euo pipefail
@@ -86,27 +85,5 @@ if [ "$("$folder/at/bin/asn_tool" --version)" = "$("$program" --version)" ]; the
 else
     failed=$((failed + 1))
 fi
-
-# fails where the program that is compiled in parts answers a line otherwise
-answers() {
-    local said
-    said=$(echo "$1" | "$folder/first" | tr '\n' ' ')
-    if [ "$said" = "$2 " ]; then
-        passed=$((passed + 1))
-    else
-        failed=$((failed + 1))
-        printf 'asn_first answers %s by %s, and not by %s\n' "$1" "$said" "$2"
-    fi
-}
-
-if python3 "$(dirname "$0")/unproved.py" --parts "$top/crates/asn_first" "$top" "$folder/first" 2>"$folder/steps"; then
-    passed=$((passed + 1))
-else
-    failed=$((failed + 1))
-    cat "$folder/steps"
-fi
-answers 6c 'id 5, ok TRUE, flag TRUE 6c'
-answers 28 'id 5, ok TRUE 28'
-answers ac '! refused'
 echo "$passed passed, $failed failed"
 [ "$failed" = 0 ]

@@ -6,9 +6,10 @@ usage: python3 install.py [--program FILE] FOLDER
 It leaves FOLDER/bin/asn_tool, FOLDER/share/man/man1/asn_tool.1, FOLDER/share/bash-completion/completions/asn_tool and
 FOLDER/share/zsh/site-functions/_asn_tool. The last three are made from what the program's own `--help` says.
 
-The program is compiled from the sources of the crates without a proof, which takes three minutes on an idle machine, and
-`asn_tool --version` says `unproved build`. Standard error shows each ten seconds how far it is. With --program it is FILE:
-crates/asn_tool/out/asn_tool, say, where `rt run` or `rt ci` leaves the program that is proved.
+The program is compiled from the sources of the crates without a proof, which takes three minutes on an idle
+machine, and `asn_tool --version` says `unproved build`. Standard error has a line for each step, and one every ten
+seconds. With --program it is FILE: crates/asn_tool/out/asn_tool, say, where `rt run` or `rt ci` leaves the program that
+is proved.
 """
 import os
 import re
@@ -37,7 +38,8 @@ def build(program):
         with open(words, "w", encoding="utf-8") as it:
             it.write(VERSION.sub(r'.version("\1, unproved build")', text))
         made = f"{folder}/{NAME}"
-        waited_for([sys.executable, f"{TOP}/tests/program/unproved.py", f"{folder}/crates/{NAME}", TOP, made])
+        unproved = f"{TOP}/tests/program/unproved.py"
+        waited_for([sys.executable, unproved, "--steps", f"{folder}/crates/{NAME}", TOP, made])
         shutil.copy2(made, program)
 
 
@@ -45,7 +47,7 @@ def waited_for(words):
     """Runs a compilation, and shows on standard error how long it has taken so far."""
     started = time.monotonic()
     print(f"compiling {NAME}, which takes some {USUAL} s on an idle machine", file=sys.stderr, flush=True)
-    with subprocess.Popen(words) as ran:
+    with subprocess.Popen(words, stdin=subprocess.DEVNULL) as ran:
         while ran.poll() is None:
             try:
                 ran.wait(timeout=10)

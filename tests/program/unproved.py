@@ -1,10 +1,10 @@
 """Builds a program of crates that are not proved, as `rattle build` would if they were.
 
-usage: python3 unproved.py [--exports] CRATE TOP PROGRAM [RUNTIME]
+usage: python3 unproved.py [--exports | --steps] CRATE TOP PROGRAM [RUNTIME]
 
 With --exports, for a program that calls the exports of the library for C (bindings/build.py), its object file is left as
-PROGRAM.o, in which these are global. With the object file of a fuzzer's run time, each edge of the code
-calls `__sanitizer_cov_trace_pc_guard`, and the program is linked with it.
+PROGRAM.o, in which these are global. With the object file of a fuzzer's run time, each edge of the code calls
+`__sanitizer_cov_trace_pc_guard`, and the program is linked with it. With --steps, standard error has a line for each step.
 
 `rt try` compiles a program that is not proved, with a test before each step that a proof would show to be right, and
 without optimising it. Here the compiler's module is taken from it, the tests are left out, the functions get the
@@ -153,9 +153,9 @@ def as_built(text, said):
     """The lines of the module without the tests, and with the attributes of the sources."""
     function = None
     for line in text:
-        if re.match(r'\s*call .*@"(rattle-llvm-checks::|rattle-try::site)', line):
+        if '@"rattle-' in line and re.match(r'\s*call .*@"(rattle-llvm-checks::|rattle-try::site)', line):
             continue
-        if "@llvm.memset" in line and "i8 -86" in line:
+        if "i8 -86" in line and "@llvm.memset" in line:
             continue
         if line.startswith("attributes #0 "):
             line = f"attributes #0 = {{ {PROBES} }}\n"
@@ -188,17 +188,26 @@ def exposed(lines, top):
 
 
 def main():
-    exports = sys.argv[1:2] == ["--exports"]
-    crate, top, program, *runtime = map(os.path.abspath, sys.argv[1 + exports :])
+    exports, steps = sys.argv[1:2] == ["--exports"], sys.argv[1:2] == ["--steps"]
+    crate, top, program, *runtime = map(os.path.abspath, sys.argv[1 + exports + steps :])
+
+    def say(step):
+        if steps:
+            print(step, file=sys.stderr, flush=True)
+
     with tempfile.TemporaryDirectory() as folder:
+        say("step 1 of 4: reading the sources and writing the LLVM module of the program")
         module = module_of(crate, folder)
         text, made, code = f"{folder}/text.ll", f"{folder}/made.ll", f"{program}.o" if exports else f"{folder}/made.o"
+        say("step 2 of 4: leaving out the tests that rt try adds to the module")
         read = ["-S", "-emit-llvm", "-O0", "-Xclang", "-disable-llvm-passes"]
         subprocess.run([CLANG, "-x", "ir", module, *read, "-o", text], check=True)
         with open(text) as it, open(made, "w") as to:
             to.writelines(as_built(exposed(it, top) if exports else it, inlining(top)))
+        say("step 3 of 4: optimising the module, which takes longest")
         traced = ["-fsanitize-coverage=trace-pc-guard"] if runtime else []
         subprocess.run([CLANG, *FRONT, made, "-o", code, *(SHARED if exports else OPTIMISED), *traced], check=True)
+        say("step 4 of 4: linking")
         link = ["--target", "x86_64-unknown-linux-gnu", "--toolchain", f"{KIT}/toolchain", "-o", program, code, *runtime]
         libraries = [f"{KIT}/c/libos_c.a", f"{KIT}/c/liblibc_c.a"]
         subprocess.run([f"{KIT}/bin/rattle-link", *link, *libraries], check=True, stderr=subprocess.DEVNULL)

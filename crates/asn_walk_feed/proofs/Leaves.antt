@@ -1,13 +1,14 @@
 -- From the answers for what has come of a part, and the next units after it, to those for all units.
-use Rattle.std.proofs.Common.{◌≡◌, ◌<◌, ◌+◌, ℕ, List, [], ◌∷◌, ◌++◌, length, drop, length-append, refl, sym, ap, subst, ◌∙◌, append_assoc, arith}
+use Rattle.std.proofs.Common.{◌≡◌, ◌<◌, ◌≤◌, ◌+◌, ⊎_elim, ℕ, zero, suc, List, [], ◌∷◌, ◌++◌, length, drop, length-append, refl, sym, ap, subst, ◌∙◌, append_assoc, arith}
 use Rattle.std.proofs.Math.Seq.{drop-append_seam}
 use Rattle.std.proofs.lemmas.List.{append-nil}
-use Rattle.std.proofs.Math.Nat.{le-mul_of_pos_right}
+use Rattle.std.proofs.Math.Nat.{le-mul_of_pos_right, eq-or-lt_of_le}
 use Rattle.asn_rules.specs.Chunks.{Chunk, flat}
 use Rattle.asn_rules.specs.Live.{Fielding}
-use Rattle.asn_rules.specs.Languages.{Spells, Short, Refused, Lawful, Inhabited}
+use Rattle.asn_rules.specs.Languages.{Spells, Short, Refused, Lawful, Inhabited, Row}
 use Rattle.asn_rules.proofs.Live.Chunks.{FieldsPart}
-use Rattle.asn_rules.proofs.Languages.Then.{live_nothing, live_shorter, one_front}
+use Rattle.asn_rules.proofs.Languages.Parts.{map_source}
+use Rattle.asn_rules.proofs.Languages.Then.{live_nothing, live_shorter, one_front, then_splits}
 use Rattle.asn_rules.proofs.Answer.Answers.{done_stays, refused_stays}
 use Rattle.asn_walk.specs.Coding.{Coding}
 use Rattle.asn_walk.specs.Laws.{Laws}
@@ -29,6 +30,18 @@ some_wanted {us = us} ok law some s l = record {
   none = λ w t x.
       (let o = one_front ok law s (done_stays us x) in absurd (omega (arith, ap length o.1, length-append t us, l)));
 }
+
+-- where several take units, so they are
+pub row_wanted : {V : Type 0} {R : Fielding} {L : V → List Chunk → Type 0} → FieldsPart R → Lawful L → Inhabited L → (n : ℕ)
+    {vs : List V} {us r : List ℕ} → Spells R (Row L n) vs us r → length r < length us → Short R L []
+row_wanted {R = R} ok law some zero {us = us} {r = r} s l =
+    let same : us ≡ r = s.split ∙ ap (λ c. flat R.spelled c ++ r) s.spelt.empty in
+    absurd (omega (arith, ap length same, l))
+row_wanted {R = R} ok law some (suc n) {us = us} s l =
+    let b = then_splits (map_source s).1 in
+    let split : length us ≡ length (flat R.spelled b.earlier.chunks) + length b.rest = ap length b.earlier.split ∙ length-append (flat R.spelled b.earlier.chunks) b.rest in
+    let fewer : length b.rest ≤ length us = omega (arith, split) in
+    ⊎_elim (λ e. row_wanted ok law some n b.later (omega (arith, e, l))) (λ m. some_wanted ok law some b.earlier m) (eq-or-lt_of_le fewer)
 
 -- where one is refused, of none at all more are wanted
 pub nothing_refused : {V : Type 0} {R : Fielding} {L : V → List Chunk → Type 0} {us : List ℕ} {n : ℕ}

@@ -15,6 +15,7 @@ mod in_fragments;
 mod kept;
 mod leaf;
 mod lists;
+mod octet_runs;
 mod octets;
 mod open_fields;
 mod parts;

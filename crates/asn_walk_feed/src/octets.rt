@@ -1,6 +1,6 @@
 //! The reader of octets that stand in fragments, which goes on where it stopped: those of an open type field, and the
 //! items of a string, each of which is held as an octet.
-ghost use Rattle.std.specs.Prelude.{◌≡◌, ◌≤◌, ◌<◌, ◌+◌, ◌^◌, ◌++◌, ℕ, List, [], length, IfOk, IfErr, OnOk, IsNone, IsTrue, Err};
+ghost use Rattle.std.specs.Prelude.{◌≡◌, ◌≤◌, ◌<◌, ◌+◌, ◌^◌, ◌++◌, ℕ, List, [], length, IfOk, IfErr, OnOk, IsNone, Err};
 ghost use Rattle.asn_rules.specs.Languages.{Spells};
 ghost use Rattle.asn_rules.specs.Stops.{Stops};
 ghost use Rattle.asn_rules.specs.declared.stop.Stop.TheVariants.{Short, Memory};
@@ -12,12 +12,13 @@ ghost use Rattle.asn_walk_feed.specs.Taken.{with_node};
 use crate::begun::Begun;
 use crate::frame::{Elements, Frame, Frames};
 use crate::in_fragments::InFragments;
-use crate::leaf::{FeedLeaves, feed_leaf, take_to};
+use crate::leaf::{FeedLeaves, feed_leaf};
 use crate::lists::next_fragment;
-use crate::parts::{Octet, OctetsStart};
+use crate::octet_runs::feed_next;
+use crate::parts::OctetsStart;
 use crate::units::{Ticks, Units};
 use asn_rules::internal::Stop;
-use std::alloc::{AllocError, Global};
+use std::alloc::Global;
 
 /// Reads what is left of octets that stand in fragments, without their lengths, of which these nodes have begun.
 pub(crate) fn feed_octets<R: FeedLeaves, K: InFragments<R>>(
@@ -273,74 +274,8 @@ fn feed_fragment<R: FeedLeaves, K: InFragments<R>>(
     ensures rising { ticks.old.taken ≤ ticks.new.taken }
     ensures inside { ticks.new.inside ≡ ticks.old.inside }
 {
-    R::keep_laws();
-    R::keep_feed_laws();
-    kind.keep_octet_laws();
     while octets.left > 0 {
-        let some = !units.is_empty();
-        let octet = feed_leaf::<R, Octet<'_, K>>(
-            alloc,
-            &Octet { kind },
-            &mut octets.next_part,
-            units,
-            ticks,
-        )?;
-        octets.elements.push(octet)?;
-        octets.next_part = Begun::none();
-        octets.left -= 1;
-        if all_are_taken(octets.left, some, units) {
-            return Err(Stop::Short);
-        }
-        take_run::<R, K>(kind, octets, units, ticks)?;
+        feed_next::<R, K>(alloc, kind, octets, units, ticks)?;
     }
     Ok(())
-}
-
-/// How many octets a piece has left at least where octets are taken many at once.
-const LEAST: usize = 8;
-
-/// Takes octets of a fragment that the piece has whole, many at once, and puts them after those that were read, a tick
-/// for each of their units. No unit of the next octet has come before. Takes none where the piece has few octets left.
-///
-/// # Errors
-/// `AllocError` where an allocation failed.
-fn take_run<R: FeedLeaves, K: InFragments<R>>(
-    kind: &K,
-    octets: &mut Elements<R::Fragments, u8>,
-    units: &mut Units<'_>,
-    ticks: &mut Ticks,
-) -> Result<(), AllocError>
-    requires good { K.good kind.now }
-    requires fresh { octets.old.next_part ≡ [] }
-    requires at_unit { R.rules.at_unit units.old }
-    requires few { ticks.old.taken + length (R.rules.to_units units.old) < 2 ^ 64 }
-    ensures at_unit { R.rules.at_unit units.new }
-    ensures done { OnOk result (OctetsGoOnTo R.rules (K.coding kind.now) R.ahead R.is_between octets.old units.old
-        octets.new units.new) }
-    ensures fewer { octets.new.left ≤ octets.old.left }
-    ensures fragments { octets.new.fragments ≡ octets.old.fragments }
-    ensures shorter { length (R.rules.to_units units.new) ≤ length (R.rules.to_units units.old) }
-    ensures ticked { Ticked R.rules units.old ticks.old.taken units.new ticks.new.taken }
-    ensures rising { ticks.old.taken ≤ ticks.new.taken }
-    ensures inside { ticks.new.inside ≡ ticks.old.inside }
-{
-    R::keep_laws();
-    R::keep_feed_laws();
-    kind.keep_octet_laws();
-    let mut ahead = units.ahead();
-    if octets.left == 0 || R::octets_left(&ahead) < LEAST {
-        return Ok(());
-    }
-    let count = kind.take_row(octets.left, &mut octets.elements, &mut ahead)?;
-    octets.left -= count;
-    take_to::<R>(units, ahead, ticks);
-    Ok(())
-}
-
-/// Whether the piece, of which `some` says whether it had a unit before the last octet, has none after it, and octets are
-/// left to come: since the last one had a unit, so has the next.
-fn all_are_taken(left: usize, some: bool, units: &Units<'_>) -> bool
-    ensures { IsTrue result → (0 < left) × IsTrue some × (units.now ≡ []) }
-{
-    left > 0 && some && units.is_empty()
 }

@@ -1,9 +1,14 @@
 //! The units of a piece of a message, each of which is counted as it is taken.
-ghost use Rattle.std.specs.Prelude.{◌≡◌, ◌∷◌, ◌++◌, ◌+◌, ◌-◌, ◌%◌, ◌<◌, ◌≤◌, ◌^◌, ◌↔◌, [], ℕ, IfNone, IfSome, IsTrue, List, length, min};
+ghost use Rattle.std.specs.Prelude.{◌≡◌, ◌∷◌, ◌++◌, ◌+◌, ◌-◌, ◌%◌, ◌<◌, ◌≤◌, ◌^◌, ◌↔◌, [], ℕ, IfNone, IfOk, IfSome, IsTrue, List, length, min};
 ghost use Rattle.asn_bits.specs.Numbers.{bits, unpacked};
 ghost use Rattle.asn_walk_feed.specs.Counts.{count_of};
+ghost use Rattle.asn_walk_feed.specs.Feeding.{Ticked};
+ghost use Rattle.asn_walk_feed.specs.Octets.{TakesRow};
 
+use crate::in_fragments::InFragments;
+use crate::leaf::FeedLeaves;
 use asn_bits::BitCursor;
+use std::alloc::AllocError;
 use std::marker::Model;
 
 /// How many units were taken, bits in PER and octets in OER: one more with each unit that a level of a message takes. The
@@ -132,5 +137,42 @@ impl<'a> Units<'a> {
     {
         self.cursor = ahead;
         ticks.add(units);
+    }
+
+    /// Takes octets that have come whole, as `InFragments::take_row` does, a tick for each of their units.
+    ///
+    /// # Errors
+    /// `AllocError` where an allocation failed, and then no unit is taken.
+    pub(crate) fn take_row<R: FeedLeaves, K: InFragments<R>>(
+        &mut self,
+        kind: &K,
+        most: usize,
+        into: &mut Vec<u8>,
+        ticks: &mut Ticks,
+    ) -> Result<usize, AllocError>
+        requires good { K.good kind.now }
+        requires at_unit { R.rules.at_unit self.old }
+        requires room { ticks.old.taken + length (R.rules.to_units self.old) < 2 ^ 64 }
+        ensures at_unit { R.rules.at_unit self.new }
+        ensures few { IfOk result (λ n. n ≤ most) }
+        ensures done { IfOk result (λ n. TakesRow R.rules (K.coding kind.now).octet n
+            into.old.items into.new.items self.old self.new) }
+        ensures shorter { length (R.rules.to_units self.new) ≤ length (R.rules.to_units self.old) }
+        ensures ticked { Ticked R.rules self.old ticks.old.taken self.new ticks.new.taken }
+        ensures rising { ticks.old.taken ≤ ticks.new.taken }
+        ensures inside { ticks.new.inside ≡ ticks.old.inside }
+    {
+        let before = self.cursor.copied();
+        match kind.take_row(most, into, &mut self.cursor) {
+            Ok(count) => {
+                let taken = R::units_left(&before) - R::units_left(&self.cursor);
+                ticks.add(taken as u64);
+                Ok(count)
+            }
+            Err(fault) => {
+                self.cursor = before;
+                Err(fault)
+            }
+        }
     }
 }

@@ -1,6 +1,6 @@
 //! A type without the components that have no units, which the exact reader reads faster.
 ghost use Rattle.std.specs.Prelude.{◌≡◌, IfOk, IfSome};
-ghost use Rattle.asn_values.specs.View.{shape_of, fields_seen, alternatives_seen, part_of_field, Part};
+ghost use Rattle.asn_values.specs.View.{shape_of, fields_seen, alternatives_seen, part_of_field, branch_of, Part, Branch};
 ghost use Rattle.asn_plan.specs.Nothing.{has_nothing, have_nothing};
 ghost use Rattle.asn_plan.specs.Lean.{lean, lean_root, lean_each, lean_alternatives};
 
@@ -172,9 +172,19 @@ fn lean_alternatives(alloc: Global, alternatives: &[Alt]) -> Result<Vec<Alt>, Al
 {
     let mut kept = Vec::with_capacity(alloc, alternatives.len())?;
     for alternative in alternatives {
-        let name = String::from_str(alloc, alternative.name.as_str())?;
-        let ty = lean_of(alloc, &alternative.ty)?;
-        kept.push(Alt { name, ty })?;
+        kept.push(lean_alternative(alloc, alternative)?)?;
     }
     Ok(kept)
+}
+
+/// An alternative of the lean type.
+#[cycle(lean)]
+fn lean_alternative(alloc: Global, alternative: &Alt) -> Result<Alt, AllocError>
+    ensures { IfOk result (λ a. branch_of a ≡ record { name = (branch_of alternative.now).name;
+        shape = lean (branch_of alternative.now).shape }) }
+{
+    Ok(Alt {
+        name: String::from_str(alloc, alternative.name.as_str())?,
+        ty: lean_of(alloc, &alternative.ty)?,
+    })
 }

@@ -44,16 +44,18 @@ pub(crate) fn build_leaf<R: PlanLeaves, B: Build>(
     ensures some { IfSome result (λ p. (t : Shape) → InProfile t → IsLeafPlan (kind.Leaf leaf.now) t
         → Builds R.rules (B.built room.old room.new) t p units.old units.new) }
 {
+    R::keep_nothing();
+    if B::takes_counts()
+        && let AsnType::Null = &leaf.ty
+    {
+        let null = B::counted(room, 1)?;
+        return Some(null);
+    }
     if B::takes_strings()
         && let Some(fixed) = &leaf.fixed
         && let Some(number) = try_string::<R>(fixed, units)
     {
         let part = B::string(room, fixed, number)?;
-        return Some(part);
-    }
-    if B::takes_counts() && matches!(&leaf.ty, AsnType::Null) {
-        R::keep_nothing();
-        let part = B::counted(room, 1)?;
         return Some(part);
     }
     build_made::<R, B>(alloc, leaf, units, room)

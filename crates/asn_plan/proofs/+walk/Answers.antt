@@ -1,4 +1,4 @@
-use Rattle.std.proofs.Common.{◌≡◌, ◌/◌, ◌%◌, ◌^◌, refl, sym, ap, ◌∙◌, ℕ, List, Some, None, inl, inr, length, arith, ◌-◌, []}
+use Rattle.std.proofs.Common.{◌≡◌, ◌<◌, ◌/◌, ◌%◌, ◌^◌, refl, sym, ap, ◌∙◌, ℕ, List, Some, None, inl, inr, length, arith, ◌-◌, []}
 use Rattle.std.proofs.lemmas.List.{drop_all, nil_from_length}
 use Rattle.asn_values.specs.Datum.{truth, number, item, alternative}
 use Rattle.asn_values.specs.Profile.{InProfile}
@@ -23,6 +23,8 @@ use Rattle.asn_plan.proofs.Building.{next_node, built_further, goes_ends, absent
 use Rattle.asn_plan.proofs.Entries.{must_entry, present_entry, absent_entry}
 use Rattle.asn_plan.proofs.Messages.{field_read, turned_true, turned_false, whole_here}
 use Rattle.asn_plan.proofs.NodeKinds.{if_some, number_is, truth_is, item_is, leaf_is, sequence_is, list_is, choice_is}
+use Rattle.asn_plan.specs.Nothing.{only_value}
+use Rattle.asn_plan.proofs.Nothings.{only_octets, nothing_taken}
 use Rattle.asn_plan.proofs.Rows.{row_begins, row_further, listed_starts, listed_further, listed_ends, list_read, counted_read, started_read}
 use Rattle.asn_plan.specs.declared.plan.Kind.TheVariants as kind
 use Rattle.asn_plan.specs.Plans.{IsPlan, Builds}
@@ -69,6 +71,13 @@ walk::build_at-returns-in_default-try_item-clause-some g t c = if_some c.build_o
 
 pub walk::build_at-returns-in-Leaf-clause-some : goal.walk::build_at-returns-in-Leaf-clause-some
 walk::build_at-returns-in-Leaf-clause-some g t c = if_some c.build_leaf.result _ _ (λ p built s good plan. built s good (leaf_is c.args.nodes.now s c.in-Leaf.leaf (rw c.in-Leaf.is at plan))) c.build_leaf.ensures.some
+
+pub components::build_sequence-returns-then-parts-gt0-clause-some : goal.components::build_sequence-returns-then-parts-gt0-clause-some
+components::build_sequence-returns-then-parts-gt0-clause-some g t c s good p =
+    let r = g.R.ReadLeaves.rules in
+    let some : 0 < c.args.parts.now.entries = omega (arith, c.if-parts-gt0.true) in
+    let h = (sequence_is c.args.nodes.now s c.args.parts.now p).entries some in
+    record { value = only_value s; of_value = c.in_ok-part.ensures (only_value s) (sym h.1) (only_octets s h.0); read = nothing_taken r c.keep_nothing.ensures s h.0 (r.to_units c.args.units.now) }
 
 pub components::build_sequence-returns-then-parts-3-clause-some : goal.components::build_sequence-returns-then-parts-3-clause-some
 components::build_sequence-returns-then-parts-3-clause-some g t c s good p =

@@ -1,0 +1,47 @@
+use Rattle.std.proofs.Common.{◌≡◌, ◌∙◌, ◌∷◌, [], map, take, Some, refl, sym, ap}
+use Rattle.std.proofs.lemmas.List.{map-append}
+use Rattle.asn_values.specs.Shape.{Fields, Alternatives, sequence, marked, choice, marked_choice}
+use Rattle.asn_values.specs.View.{shape_of, fields_seen, alternatives_seen, alternatives_of, branch_of, more_alternatives_of}
+use Rattle.asn_values.proofs.Views.{shape_of-Seq, shape_of-Choice, choice_of_alternatives}
+use Rattle.asn_walk.proofs.Parts.{marked_type}
+use Rattle.asn_plan.specs.Lean.{lean, lean_root, lean_each, lean_alternatives}
+use Rattle.asn_plan.proofs.Growing.{branch_next}
+use Rattle.asn_plan.proofs.LeanTypes.{one_kept, all_done, alternatives_next}
+use Rattle.asn_plan.proofs.lean.+lean.Goals as goal
+
+pub lean_each-loop-field-preserved : goal.lean_each-loop-field-preserved
+lean_each-loop-field-preserved t c =
+    rw c.in_ok-push.ensures.items (one_kept lean_each c.loop-field.kept.items c.in_ok-lean_field.field-0 c.field-item.result c.args.fields.now c.loop-field.field-index (lean_each (fields_seen c.args.fields.now)) c.loop-field-test.true c.field-item.is c.in_ok-lean_field.ensures (λ rest. refl) c.loop-field.invariant)
+
+pub lean_each-returns : goal.lean_each-returns
+lean_each-returns t c =
+    all_done lean_each c.loop-field.kept.items c.args.fields.now c.loop-field.field-index (lean_each (fields_seen c.args.fields.now)) refl c.loop-field-test.false c.loop-field.invariant
+
+pub lean_root-returns : goal.lean_root-returns
+lean_root-returns t c =
+    all_done lean_root c.loop-field.kept.items c.args.fields.now c.loop-field.field-index (lean_root (fields_seen c.args.fields.now)) refl c.loop-field-test.false c.loop-field.invariant
+
+pub lean_of-returns-in_ok-more-in-Seq : goal.lean_of-returns-in_ok-more-in-Seq
+lean_of-returns-in_ok-more-in-Seq t c =
+    let xs = c.as_slice.result.now in
+    let ys = c.as_slice-in-Seq.result.now in
+    let rs = c.in_ok-root-in-Seq.root in
+    let ms = c.in_ok-more-in-Seq.more in
+    let is = marked_type c.args.ty.now c.in-Seq.root c.in-Seq.ext c.in-Some.more xs ys c.in-Seq.is c.in-Some.is c.as_slice.ensures.value c.as_slice-in-Seq.ensures.value in
+    shape_of-Seq rs (Some ms) ∙ ap (λ (fs : Fields). sequence fs (marked (fields_seen ms.items))) c.in_ok-root-in-Seq.ensures ∙ ap (λ (fs : Fields). sequence (lean_root (fields_seen xs)) (marked fs)) c.in_ok-more-in-Seq.ensures ∙ sym (ap lean is)
+
+pub lean_of-returns-in_ok-more-in-Choice : goal.lean_of-returns-in_ok-more-in-Choice
+lean_of-returns-in_ok-more-in-Choice t c =
+    let xs = c.as_slice-in-Choice.result.now in
+    let ys = c.as_slice-in-Choice-2.result.now in
+    let rs = c.in_ok-root-in-Choice.root in
+    let ms = c.in_ok-more-in-Choice.more in
+    let is : shape_of c.args.ty.now ≡ choice (alternatives_seen xs) (marked_choice (alternatives_seen ys)) = choice_of_alternatives c.args.ty.now c.in-Choice.root c.in-Choice.ext xs c.in-Choice.is c.as_slice-in-Choice.ensures.value ∙ ap (λ m. choice (alternatives_seen xs) m) (ap more_alternatives_of c.in-Some-ext.is ∙ ap (λ l. marked_choice (alternatives_seen l)) (sym c.as_slice-in-Choice-2.ensures.value)) in
+    shape_of-Choice rs (Some ms) ∙ ap (λ (a : Alternatives). choice a (marked_choice (alternatives_seen ms.items))) c.in_ok-root-in-Choice.ensures ∙ ap (λ (a : Alternatives). choice (lean_alternatives (alternatives_seen xs)) (marked_choice a)) c.in_ok-more-in-Choice.ensures ∙ sym (ap lean is)
+
+pub lean_alternatives-loop-alternative-preserved : goal.lean_alternatives-loop-alternative-preserved
+lean_alternatives-loop-alternative-preserved t c =
+    let x = c.alternative-item.result in
+    let kept = c.loop-alternative.kept.items in
+    let a = c.in_ok-lean_alternative.field-0 in
+    rw (branch_next c.args.alternatives.now c.loop-alternative.alternative-index x c.loop-alternative-test.true c.alternative-item.is, c.in_ok-push.ensures.items) (ap alternatives_of (map-append branch_of kept (a ∷ [])) ∙ alternatives_next (map branch_of kept) (map branch_of (take c.loop-alternative.alternative-index c.args.alternatives.now)) (branch_of a) (branch_of x) c.loop-alternative.invariant c.in_ok-lean_alternative.ensures)

@@ -21,7 +21,7 @@ import time
 
 sys.dont_write_bytecode = True
 TOP = os.path.dirname(os.path.abspath(__file__))
-sys.path.insert(0, f"{TOP}/tests/program")
+sys.path.insert(0, f"{TOP}/builder")
 import room
 
 NAME = "asn_tool"
@@ -38,7 +38,7 @@ def build(program):
         with open(words, "w", encoding="utf-8") as it:
             it.write(VERSION.sub(r'.version("\1, unproved build")', text))
         made = f"{folder}/{NAME}"
-        unproved = f"{TOP}/tests/program/unproved.py"
+        unproved = f"{TOP}/builder/unproved.py"
         waited_for([sys.executable, unproved, "--steps", f"{folder}/crates/{NAME}", TOP, made])
         shutil.copy2(made, program)
 

@@ -15,7 +15,7 @@ room=${BENCH_MODULES:-${TMPDIR:-/tmp}/asn-bench-modules-$(id -u)}
 rounds=${1:-5}
 
 mkdir -p "$room"
-if ! nice "$top/tests/program/room.py" prove "$room" "$here/reading" -- 0 </dev/null >"$room/build.log" 2>&1; then
+if ! nice "$top/builder/room.py" prove "$room" "$here/reading" -- 0 </dev/null >"$room/build.log" 2>&1; then
     grep -E 'error|no proof|not proved|logic=' "$room/build.log" || tail -n 20 "$room/build.log"
     echo "bench: the program was not built; $room/build.log says more" >&2
     exit 1

@@ -36,7 +36,7 @@ input "$lines" cam.values >"$work/json"
 
 build() {
   mkdir -p "$room"
-  "$top/tests/program/room.py" prove "$room" "$here/parts" -- none 0 <"$work/one" >"$room/parts.log" 2>&1
+  "$top/builder/room.py" prove "$room" "$here/parts" -- none 0 <"$work/one" >"$room/parts.log" 2>&1
 }
 
 parts=${PARTS:-$room/crates/bench_parts/out/bench_parts}

@@ -7,7 +7,7 @@ room=${BENCH_ROOM:-${TMPDIR:-/tmp}/asn-bench-$(id -u)}
 # what both compilers build for
 cpu=x86-64-v2
 
-"$top/tests/program/room.py" lay "$room" "$here/codec"
+"$top/builder/room.py" lay "$room" "$here/codec"
 
 # the messages: a module of all types, and the octets that the Rust program gives by hand
 cd "$here/baseline"

@@ -8,5 +8,5 @@
 set -euo pipefail
 program=$1
 source "$(dirname "$0")/room.sh"
-"$top/tests/program/room.py" build "$room" "$here/codec"
+"$top/builder/room.py" build "$room" "$here/codec"
 cp "$room/asn_bench" "$program"

@@ -16,7 +16,7 @@ import tempfile
 sys.dont_write_bytecode = True
 HERE = os.path.dirname(os.path.abspath(__file__))
 TOP = os.path.dirname(HERE)
-sys.path[:0] = [f"{TOP}/tests/program", f"{TOP}/tests/tools"]
+sys.path[:0] = [f"{TOP}/builder", f"{TOP}/tests/tools"]
 CRATE = "tulvorn_c"
 NEEDED = ("rt", "gcc", "ld", "objcopy", "ar", "nm")
 COMPILERS = ("llvm", "rattle")
@@ -280,7 +280,7 @@ def options(words):
     how.add_argument("--both", **yes, help="prove once, and build OUT/llvm and OUT/rattle, one for each compiler")
     how.add_argument("--unproved", **yes, help="build the same sources without a proof, in some two minutes")
     how.add_argument("--archive", metavar="FILE", help="pack this archive of a proof")
-    how.add_argument("--object", metavar="FILE", help="pack the exports of a program's object file (tests/program/room.py)")
+    how.add_argument("--object", metavar="FILE", help="pack the exports of a program's object file (builder/room.py)")
     how.add_argument("--fuzzer", **yes, help="leave OUT as an unproved object file whose edges libFuzzer counts")
     how.add_argument("--exports", **yes, help="print the names of the exports, one a line, and build nothing")
     parser.add_argument("--kept", **yes, help="for --both: take the libraries below as `rt ci` left them, unchecked")

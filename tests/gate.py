@@ -23,7 +23,7 @@ from threading import Lock
 
 sys.dont_write_bytecode = True
 TOP = os.path.dirname(os.path.dirname(os.path.abspath(__file__)))
-sys.path[:0] = [f"{TOP}/tests/tools", f"{TOP}/tests/program"]
+sys.path[:0] = [f"{TOP}/builder", f"{TOP}/tests/tools"]
 from kit import rt  # noqa: E402
 from room import files_of  # noqa: E402
 
@@ -93,7 +93,7 @@ def compare(room, name):
 
 def steps_of_sources(room):
     """The steps that need no proof."""
-    step("programs", ["tests/program/room.py", "build", room, *PROGRAMS], is_behind=True)
+    step("programs", ["builder/room.py", "build", room, *PROGRAMS], is_behind=True)
     for name in CHECKS:
         compare(room, name)
     for words in ("octet_counts.py", "published_rows.py", "style.py", f"page.py {room}/pages"):

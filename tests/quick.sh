@@ -23,7 +23,7 @@ compared() { # the rows of a folder of tests/programs: what the program prints i
 }
 
 step "the form" tests/tools/prove.py --form
-step "the build without a proof" tests/program/room.py build "$room" tests/programs/quick
+step "the build without a proof" builder/room.py build "$room" tests/programs/quick
 for it in rows texts types; do step "$it" compared "$it"; done
 echo "$passed passed, $failed failed"
 [ "$failed" = 0 ]

@@ -18,7 +18,7 @@ program=$top/tests/fuzz/calls
 rows=$top/tests/programs/rows/stdin
 
 mkdir -p "$room"
-nice "$top/tests/program/room.py" build "$room" "$program"
+nice "$top/builder/room.py" build "$room" "$program"
 end=$(($(date +%s) + minutes * 60))
 while [ "$(date +%s)" -lt "$end" ]; do
     seed=$((seed + 7919))
@@ -26,7 +26,7 @@ while [ "$(date +%s)" -lt "$end" ]; do
 done
 
 command -v afl-fuzz >/dev/null || { echo "fuzz: AFL++ is not installed"; exit; }
-nice python3 "$top/tests/program/unproved.py" "$room/crates/fuzz_calls" "$top" "$room/traced_calls" \
+nice python3 "$top/builder/unproved.py" "$room/crates/fuzz_calls" "$top" "$room/traced_calls" \
     "$(dirname "$(command -v afl-fuzz)")/../lib/afl/afl-compiler-rt.o"
 rm -rf "$room/corpus"
 "$top/tests/fuzz/corpus.py" "$room/corpus"

@@ -14,7 +14,7 @@ runs=${1:-20}
 seed=${2:-1}
 
 mkdir -p "$room"
-if ! nice "$top/tests/program/room.py" prove "$room" "$top/tests/fuzz/modules" -- 1 1 </dev/null >"$room/build.log" 2>&1; then
+if ! nice "$top/builder/room.py" prove "$room" "$top/tests/fuzz/modules" -- 1 1 </dev/null >"$room/build.log" 2>&1; then
     grep -E 'error|no proof|not proved|logic=' "$room/build.log" || tail -n 20 "$room/build.log"
     echo "fuzz: the program was not built; $room/build.log says more" >&2
     exit 1

@@ -3,7 +3,7 @@
 #
 # usage: tests/memory/refused_allocations.sh ROOM
 #
-# The program `checks` of tests/programs, which tests/program/room.py has built in ROOM, makes the calls of the libraries. Of its
+# The program `checks` of tests/programs, which builder/room.py has built in ROOM, makes the calls of the libraries. Of its
 # parts `memory` and `memory_texts` one call has to answer `Memory`, and each other call, and that one when it is made
 # again, what it answers where no allocation is refused. `refused` makes the calls on the rows of
 # tests/programs/rows again and again, and says itself which allocation is refused. The runner asn_first and the program

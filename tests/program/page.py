@@ -1,7 +1,7 @@
 #!/usr/bin/env python3
 """Builds and runs the blocks of Rattle of the pages that a user reads, and compares what each prints.
 
-usage: tests/program/page.py ROOM      ROOM is a folder to build in, as tests/program/room.py takes it
+usage: tests/program/page.py ROOM      ROOM is a folder to build in, as builder/room.py takes it
 
 The pages are crates/tulvorn/README.md, whose blocks marked `rust` are Rattle and the first the head of a program, and
 README.md and docs/GUIDE.md, whose blocks marked `rust rattle` are, and of which lines `use ..` go to the head. The
@@ -11,9 +11,12 @@ built without a proof.
 """
 import os
 import re
+import sys
 
-import room
 import run
+
+sys.path.insert(0, f"{run.TOP}/builder")
+import room  # noqa: E402
 
 BREAK = "===="
 USES = "test_page: tulvorn anyhow hex\n"

@@ -1,9 +1,9 @@
 #!/usr/bin/env python3
 """Lays out a room outside the repository with its crates and programs that are none of them, and builds these.
 
-usage: tests/program/room.py lay ROOM PROGRAM..                lays out the room
-       tests/program/room.py build ROOM PROGRAM..              builds each program without a proof of its own: ROOM/NAME
-       tests/program/room.py prove ROOM PROGRAM [-- WORD..]    proves, builds and runs one program: ROOM/crates/NAME/out/NAME
+usage: builder/room.py lay ROOM PROGRAM..                lays out the room
+       builder/room.py build ROOM PROGRAM..              builds each program without a proof of its own: ROOM/NAME
+       builder/room.py prove ROOM PROGRAM [-- WORD..]    proves, builds and runs one program: ROOM/crates/NAME/out/NAME
 
 A program is a folder with source files NAME.rt.in and a file `uses`, which is its line for crates.txt: its name, and the
 libraries that it uses. A file `shared` names the files of other programs that are its own too, one a line, as they are
@@ -21,7 +21,7 @@ import subprocess
 import sys
 from concurrent.futures import ThreadPoolExecutor
 
-TOP = os.path.dirname(os.path.dirname(os.path.dirname(os.path.abspath(__file__))))
+TOP = os.path.dirname(os.path.dirname(os.path.abspath(__file__)))
 
 
 def text_of(file):
@@ -102,7 +102,7 @@ def build(room, program):
     """Builds a program without a proof, and returns whether it was built."""
     name = crate_name(program)
     flags = ["--exports"] if has_exports(program) else []
-    words = [sys.executable, f"{TOP}/tests/program/unproved.py", *flags, f"{room}/crates/{name}", TOP, f"{room}/{name}"]
+    words = [sys.executable, f"{TOP}/builder/unproved.py", *flags, f"{room}/crates/{name}", TOP, f"{room}/{name}"]
     ran = subprocess.run(words, stdin=subprocess.DEVNULL, stdout=subprocess.PIPE, stderr=subprocess.STDOUT, text=True)
     if ran.returncode:
         print(f"{name} was not built:\n{ran.stdout}", file=sys.stderr, flush=True)

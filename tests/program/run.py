@@ -11,6 +11,7 @@ Cases are text files, which `Test.cases` reads. A line begins with its mark:
     $ WORD ..             a case: the words after the program, quoted as for a shell, with escapes of Python
     = STATUS              its exit status, which is 0 without such a line
     ^ MB                  its address space
+    ~ SECONDS             the seconds of a processor after which it is ended
     | TEXT                a line of the file
     < TEXT                a line of standard input
     > TEXT                a line of standard output
@@ -86,10 +87,10 @@ def begin(words, **how):
     return subprocess.Popen(words, **{"stdin": subprocess.PIPE, "stdout": subprocess.PIPE, "bufsize": 0, **how})
 
 
-def run(words, given=b"", *, most=None, pieces=None, ends=None, check=False, **how):
+def run(words, given=b"", *, most=None, seconds=SECONDS, pieces=None, ends=None, check=False, **how):
     """Runs a command. Its input is a text, octets, or an open file.
 
-    `most` limits its address space, in octets. `pieces` is how many octets it reads at a time, from a pipe. With `ends`
+    `most` limits its address space, in octets, and `seconds` its time of a processor. `pieces` is how many octets it reads at a time, from a pipe. With `ends`
     only so many last octets of its output, and first ones of standard error, are returned. With `check` it has to end
     well. The rest goes to Popen.
     """
@@ -103,7 +104,7 @@ def run(words, given=b"", *, most=None, pieces=None, ends=None, check=False, **h
         if most:
             how["preexec_fn"] = lambda: resource.setrlimit(resource.RLIMIT_AS, (most, most))
         ran = subprocess.Popen(words, **{**streams, **how})
-        resource.prlimit(ran.pid, resource.RLIMIT_CPU, (SECONDS, SECONDS))
+        resource.prlimit(ran.pid, resource.RLIMIT_CPU, (seconds, seconds))
         if pieces:
             for at in range(0, len(given), pieces):
                 os.write(ran.stdin.fileno(), given[at : at + pieces])
@@ -166,10 +167,12 @@ class Case:
     def __init__(self, head, *rest):
         words = shlex.split(head[1:])
         self.words = [it.encode("latin-1", "backslashreplace").decode("unicode_escape") for it in words]
-        self.status, self.most, self.said = 0, None, {mark: Written() for mark in "<>!"}
+        self.status, self.most, self.seconds, self.said = 0, None, SECONDS, {mark: Written() for mark in "<>!"}
         for line in rest:
             if line[0] == "^":
                 self.most = int(line[1:]) << 20
+            elif line[0] == "~":
+                self.seconds = int(line[1:])
             elif line[0] == "=":
                 self.status = int(line[1:])
             else:
@@ -191,7 +194,7 @@ def parts_of(text):
             if part:
                 yield part
             part, names = ([line], names), []
-        elif line[:1] in tuple("=^|<>!"):
+        elif line[:1] in tuple("=^~|<>!"):
             part[0].append(line)
     if part:
         yield part
@@ -243,7 +246,7 @@ class Test:
     def cases(self, name):
         """Runs the cases of a text file in tests/program."""
         for case in cases_of(expand(text_of(f"{HERE}/{name}"))):
-            ran = self.run(case.words, case.said["<"].octets, most=case.most)
+            ran = self.run(case.words, case.said["<"].octets, most=case.most, seconds=case.seconds)
             said = f"{ran.status} {ran.out[:2000]} {ran.err[:2000]}"
             self.add(case.allows(ran), f"{name}: {shlex.join(case.words)}: {said}")
 

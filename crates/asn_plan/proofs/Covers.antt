@@ -1,5 +1,5 @@
 -- Languages of the same spellings, whatever the values.
-use Rattle.std.proofs.Common.{◌≡◌, ℕ, zero, suc, List, [], ◌∷◌, ◌++◌, length, refl, sym, ap, ◌∙◌, subst, ⊤}
+use Rattle.std.proofs.Common.{◌≡◌, ℕ, zero, suc, List, [], ◌∷◌, ◌++◌, length, refl, sym, ap, ◌∙◌, subst}
 use Rattle.asn_rules.specs.Chunks.{Kind, Chunk, flat}
 use Rattle.asn_rules.specs.Forks.{Same}
 use Rattle.asn_rules.specs.General.{Header, Body, Once, Within, General, Length, last, fragment, Left, together, after_first}
@@ -58,11 +58,11 @@ covers_row k (suc n) = covers_map prepended prepended (covers_both k (covers_row
 covers_within : {A B : Type 0} {L : A → List Chunk → Type 0} {M : B → List Chunk → Type 0} → Covers L M → (f : ℕ)
     (S : ℕ → Type 0) → Covers (Within L f S) (Within M f S)
 covers_within k zero S v cs h = absurd h
-covers_within {A} {B} {L} {M} k (suc f) S = covers_map after_first after_first (covers_after body)
+covers_within {A} {B} {L} {M} k (suc f) S = covers_map after_first after_first (covers_after (body (λ T. covers_within k f T)))
   where
-    body : (l : Length) → Covers (Body L (Within L f) S l) (Body M (Within M f) S l)
-    body (last n) = covers_row k n
-    body (fragment m) = covers_map together together (covers_both (covers_row k _) (covers_within k f (Left S m)))
+    body : ((T : ℕ → Type 0) → Covers (Within L f T) (Within M f T)) → (l : Length) → Covers (Body L (Within L f) S l) (Body M (Within M f) S l)
+    body again (last n) = covers_row k n
+    body again (fragment m) = covers_map together together (covers_both (covers_row k _) (again (Left S m)))
 
 covers_general : {A B : Type 0} {L : A → List Chunk → Type 0} {M : B → List Chunk → Type 0} → Covers L M
     → (S : ℕ → Type 0) → Covers (General L S) (General M S)

@@ -32,10 +32,10 @@ module _ (r : Ruling) (t u : Shape) (k : AreAlike (Wholes r t) (Wholes r u)) whe
       let s = take max_octets o in
       (front_alike r t u k.to s h.0, place_alike (Live r.fielding r.whole u) (Live r.fielding r.whole t) (live_alike r u t k.from) (live_alike r t u k.to) (r.units s) at h.1)
   decoded_alike (decode.Truncated taken) o h =
-      (h.0, front_alike r t u k.to o h.1, live_alike r u t k.from (r.units o) h.2, h.3)
+      (h.0, (front_alike r t u k.to o h.1.0, live_alike r u t k.from (r.units o) h.1.1, h.1.2))
   decoded_alike (decode.Rest used) o h =
-      let w = encodes_alike r u t k.from h.1 (take used (take max_octets o)) h.3 in
-      (h.0, w.0, h.2, w.1)
+      let w = encodes_alike r u t k.from h.1 (take used (take max_octets o)) h.2.1 in
+      (h.0, w.0, (h.2.0, w.1))
   decoded_alike decode.TooLong o h =
       let s = take max_octets o in
       (front_alike r t u k.to s h.0, live_alike r u t k.from (r.units s) h.1, h.2)

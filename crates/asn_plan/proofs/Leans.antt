@@ -1,5 +1,6 @@
 -- A type and its lean type have the same spellings.
-use Rattle.std.proofs.Common.{◌≡◌, ◌≤◌, ◌⊎◌, ℕ, zero, suc, Bool, true, false, List, [], ◌∷◌, ◌++◌, length, take, Option, Some, None, inl, inr, refl, sym, ap, ◌∙◌, subst, ⊤, ⊥}
+use Rattle.std.proofs.Common.{◌≡◌, ◌≤◌, ◌⊎◌, ℕ, zero, suc, Bool, true, false, List, [], ◌∷◌, ◌++◌, length, take, Option, Some, None, inl, inr, refl, sym, ap, ◌∙◌, subst}
+use Rattle.std.specs.Prelude.{⊤}
 use Rattle.std.proofs.lemmas.Bool.{true≢false}
 use Rattle.asn_values.specs.Datum.{Datum, elements, elements_of}
 use Rattle.asn_values.specs.Parts.{AreOfProfile, AreAllOfProfile, IsGoodDemand}
@@ -10,6 +11,7 @@ use Rattle.asn_values.proofs.Parts.{components_of_profile}
 use Rattle.asn_bits.specs.Numbers.{bits}
 use Rattle.asn_rules.specs.Answer.{Ruling, IsEncoding}
 use Rattle.asn_rules.specs.Chunks.{Chunk, flat, open_field}
+use Rattle.asn_rules.specs.Forks.{Same}
 use Rattle.asn_rules.specs.General.{after_first}
 use Rattle.asn_rules.specs.Languages.{Then, Map, prepended}
 use Rattle.asn_rules.specs.Listed.{Spelt, Listed, Before, bitmap_length}
@@ -63,7 +65,7 @@ alike_absent : {P Q : List (Option Datum) → List Chunk → Type 0} → AreAlik
     → AreAlike (Map (λ es. None ∷ es) P) (Map (λ es. None ∷ es) Q)
 alike_absent g = alike_map (λ es. None ∷ es) (λ es. None ∷ es) g
 
-no_language : {V W : Type 0} → AreAlike {V} {W} (λ v cs. ⊥) (λ w cs. ⊥)
+no_language : {V W : Type 0} → AreAlike {V = V} {W = W} (λ v cs. ⊥) (λ w cs. ⊥)
 no_language = record { to = λ v cs h. absurd h; from = λ w cs h. absurd h }
 
 -- ---- encodings
@@ -84,11 +86,11 @@ lean_simple t e = refl
 
 lean_bitmap : (fs : Fields) → bitmap_length (lean_root fs) ≡ bitmap_length fs
 lean_bitmap no_fields = refl
-lean_bitmap (field name must t fs) = go (has_nothing t)
+lean_bitmap (field name must t fs) = go (has_nothing t) (lean_bitmap fs)
   where
-    go : (b : Bool) → bitmap_length (elim b [ true ↦ lean_root fs | false ↦ field name must (lean t) (lean_root fs) ]) ≡ bitmap_length fs
-    go true = lean_bitmap fs
-    go false = lean_bitmap fs
+    go : (b : Bool) → bitmap_length (lean_root fs) ≡ bitmap_length fs → bitmap_length (elim b [ true ↦ lean_root fs | false ↦ field name must (lean t) (lean_root fs) ]) ≡ bitmap_length fs
+    go true e = e
+    go false e = e
 lean_bitmap (field name optional t fs) = ap suc (lean_bitmap fs)
 lean_bitmap (field name (default d) t fs) = ap suc (lean_bitmap fs)
 
@@ -222,14 +224,17 @@ module _ (c : Coding) (laws : Laws c) (law : SpellsNothing c.code) where
     root_alike : (fs : Fields) → AreOfProfile fs → AreOfProfile (lean_root fs) → (bs : List ℕ)
         → AreAlike (Listed c.code fs bs) (Listed c.code (lean_root fs) bs)
     root_alike no_fields good other bs = alike_self (Listed c.code no_fields bs)
-    root_alike (field name must t fs) good other bs = go (has_nothing t) refl other
+    root_alike (field name must t fs) good other bs =
+        go (has_nothing t) refl other (λ h. lean_alike t good.0 h) (λ h. root_alike fs good.2 h bs)
       where
         go : (b : Bool) → has_nothing t ≡ b
             → AreOfProfile (elim b [ true ↦ lean_root fs | false ↦ field name must (lean t) (lean_root fs) ])
+            → (InProfile (lean t) → AreAlike (Spelt c.code None t) (Spelt c.code None (lean t)))
+            → (AreOfProfile (lean_root fs) → AreAlike (Listed c.code fs bs) (Listed c.code (lean_root fs) bs))
             → AreAlike (Listed c.code (field name must t fs) bs)
             (Listed c.code (elim b [ true ↦ lean_root fs | false ↦ field name must (lean t) (lean_root fs) ]) bs)
-        go true e h = left_out name t fs bs e (root_alike fs good.2 h bs)
-        go false e h = alike_before (lean_alike t good.0 h.0) (root_alike fs good.2 h.2 bs)
+        go true e h one rest = left_out name t fs bs e (rest h)
+        go false e h one rest = alike_before (one h.0) (rest h.2)
     root_alike (field name optional t fs) good other (suc b ∷ bs) =
         alike_before (lean_alike t good.0 other.0) (root_alike fs good.2 other.2 bs)
     root_alike (field name optional t fs) good other (zero ∷ bs) = alike_absent (root_alike fs good.2 other.2 bs)

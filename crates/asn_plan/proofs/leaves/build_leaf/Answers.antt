@@ -6,8 +6,8 @@ use Rattle.asn_plan.specs.Nothing.{only_value}
 use Rattle.asn_plan.proofs.Nothings.{nothing_taken}
 use Rattle.asn_plan.proofs.leaves.build_leaf.Goals as goal
 
-pub returns-in-Null-clause-some : goal.returns-in-Null-clause-some
-returns-in-Null-clause-some g c t good plan =
+pub returns-clause-some : goal.returns-clause-some
+returns-clause-some g c t good plan =
     let r = g.R.ReadLeaves.rules in
     let is : t ≡ null = plan.0 ∙ ap shape_of c.in-Null.is ∙ shape_of-Null in
     rw is (record { value = only_value null; of_value = c.in_ok-null.ensures (only_value null) refl refl; read = nothing_taken r c.keep_nothing.ensures null refl (r.to_units c.args.units.now) })

@@ -89,15 +89,17 @@ pub covers_padded : {A B : Type 0} (R : Fielding) (fill : ℕ → List ℕ) {P :
 covers_padded R fill {P} {code} {Q} {other} k a cs h =
     let t = h.spelt in
     let w = k h.source.0 t.first t.spelt in
-    let e : t.follows.chunks ≡ t.first = t.follows.spelt.same ∙ sym t.spelt.same in
-    (w.0, record {
-      source = (w.0, h.source.1);
-      spelt = record {
-        first = t.first;
-        second = t.second;
-        spelt = w.1;
-        follows = record { chunks = t.first; spelt = w.1; filling = rw e at t.follows.filling };
-        whole = t.whole;
-      };
-      seen = refl;
-    })
+    let e : t.follows.chunks ≡ t.first = t.follows.spelt.same ∙ sym t.spelt.same in (
+      w.0,
+      record {
+        source = (w.0, h.source.1);
+        spelt = record {
+          first = t.first;
+          second = t.second;
+          spelt = w.1;
+          follows = record { chunks = t.first; spelt = w.1; filling = rw e at t.follows.filling };
+          whole = t.whole;
+        };
+        seen = refl;
+      },
+    )

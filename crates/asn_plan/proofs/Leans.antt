@@ -146,25 +146,27 @@ module _ (c : Coding) (laws : Laws c) (law : SpellsNothing c.code) where
       → has_nothing t ≡ true → AreAlike (Listed c.code fs bs) M → AreAlike (Listed c.code (field name must t fs) bs) M
   left_out name t fs bs {M} none k = record {
     to = λ v cs h. (
-      let x = h.spelt in
-      let e : x.first ≡ [] = x.spelt.spelt.same ∙ law t x.spelt.source none x.spelt.spelt.fits.0 in
-      let rest : cs ≡ x.second = x.whole ∙ ap (λ (l : List Chunk). l ++ x.second) e in
-      let w = k.to h.source.1 x.second x.follows in
-      (w.0, subst (λ (l : List Chunk). M w.0 l) (sym rest) w.1));
+        let x = h.spelt in
+        let e : x.first ≡ [] = x.spelt.spelt.same ∙ law t x.spelt.source none x.spelt.spelt.fits.0 in
+        let rest : cs ≡ x.second = x.whole ∙ ap (λ (l : List Chunk). l ++ x.second) e in
+        let w = k.to h.source.1 x.second x.follows in
+        (w.0, subst (λ (l : List Chunk). M w.0 l) (sym rest) w.1));
     from = λ w cs h. (
-      let v = k.from w cs h in
-      let fits = only_fits t none in
-      (Some (only_value t) ∷ v.0, record {
-        source = (Some (only_value t), v.0);
-        spelt = record {
-          first = [];
-          second = cs;
-          spelt = record { source = only_value t; spelt = record { fits = (fits, tt); same = sym (law t (only_value t) none fits) }; seen = refl };
-          follows = v.1;
-          whole = refl;
-        };
-        seen = refl;
-      }));
+        let v = k.from w cs h in
+        let fits = only_fits t none in (
+          Some (only_value t) ∷ v.0,
+          record {
+            source = (Some (only_value t), v.0);
+            spelt = record {
+              first = [];
+              second = cs;
+              spelt = record { source = only_value t; spelt = record { fits = (fits, tt); same = sym (law t (only_value t) none fits) }; seen = refl };
+              follows = v.1;
+              whole = refl;
+            };
+            seen = refl;
+          },
+        ));
   }
 
   -- SEQUENCEs whose parts are alike

@@ -180,8 +180,10 @@ fn lean_alternatives(alloc: Global, alternatives: &[Alt]) -> Result<Vec<Alt>, Al
 /// An alternative of the lean type.
 #[cycle(lean)]
 fn lean_alternative(alloc: Global, alternative: &Alt) -> Result<Alt, AllocError>
-    ensures { IfOk result (λ a. branch_of a ≡ record { name = (branch_of alternative.now).name;
-        shape = lean (branch_of alternative.now).shape }) }
+    ensures { IfOk result (λ a. branch_of a ≡ record {
+      name = (branch_of alternative.now).name;
+      shape = lean (branch_of alternative.now).shape;
+    }) }
 {
     Ok(Alt {
         name: String::from_str(alloc, alternative.name.as_str())?,

@@ -58,7 +58,8 @@ covers_row k (suc n) = covers_map prepended prepended (covers_both k (covers_row
 covers_within : {A B : Type 0} {L : A → List Chunk → Type 0} {M : B → List Chunk → Type 0} → Covers L M → (f : ℕ)
     (S : ℕ → Type 0) → Covers (Within L f S) (Within M f S)
 covers_within k zero S v cs h = absurd h
-covers_within {A} {B} {L} {M} k (suc f) S = covers_map after_first after_first (covers_after (body (λ T. covers_within k f T)))
+covers_within {A} {B} {L} {M} k (suc f) S v cs h =
+    covers_map after_first after_first (covers_after (body (λ T. covers_within k f T))) v cs h
   where
     body : ((T : ℕ → Type 0) → Covers (Within L f T) (Within M f T)) → (l : Length) → Covers (Body L (Within L f) S l) (Body M (Within M f) S l)
     body again (last n) = covers_row k n

@@ -7,7 +7,7 @@ use Rattle.std.proofs.lemmas.List.{drop_all, map-append}
 use Rattle.asn_values.specs.declared.types.Field.{Field}
 use Rattle.asn_values.specs.Shape.{Shape, Demand, must, optional, default, Fields, no_fields, field, append_fields, Alternatives, no_alternatives, one_of}
 use Rattle.asn_values.specs.View.{Part, Branch, fields_of, part_of_field, alternatives_of}
-use Rattle.asn_plan.specs.Lean.{lean, lean_root, lean_alternatives}
+use Rattle.asn_plan.specs.Lean.{lean, lean_root, lean_alternatives, is_left_out}
 use Rattle.asn_plan.specs.Nothing.{has_nothing}
 
 -- the next part, and those after it
@@ -27,24 +27,37 @@ append_next [] p fs = refl
 append_next (q ∷ ps) p fs = ap (field q.name q.demand q.shape) (append_next ps p fs)
 
 -- a component that is left out
-pub left_next : (name : List ℕ) (demand : Demand) (t : Shape) (fs : Fields) → demand ≡ must → has_nothing t ≡ true
-    → lean_root (field name demand t fs) ≡ lean_root fs
-left_next name demand t fs e h = rw e (go (has_nothing t) h)
+pub left_next : (p : Part) (fs : Fields) → is_left_out p ≡ true
+    → lean_root (field p.name p.demand p.shape fs) ≡ lean_root fs
+left_next p fs h = go p.demand p.shape h
   where
-    go : (b : Bool) → b ≡ true → elim b [ true ↦ lean_root fs | false ↦ field name must (lean t) (lean_root fs) ] ≡ lean_root fs
-    go true h = refl
-    go false h = absurd (true≢false (sym h))
+    of_true : (t : Shape) (b : Bool) → b ≡ true
+        → elim b [ true ↦ lean_root fs | false ↦ field p.name must (lean t) (lean_root fs) ] ≡ lean_root fs
+    of_true t true h = refl
+    of_true t false h = absurd (true≢false (sym h))
+
+    go : (d : Demand) (t : Shape) → is_left_out (record { name = p.name; demand = d; shape = t }) ≡ true
+        → lean_root (field p.name d t fs) ≡ lean_root fs
+    go must t h = of_true t (has_nothing t) h
+    go optional t h = absurd (true≢false (sym h))
+    go (default d) t h = absurd (true≢false (sym h))
 
 -- one that is not
-pub kept_next : (name : List ℕ) (demand : Demand) (t : Shape) (fs : Fields) → (demand ≡ must → has_nothing t ≡ false)
-    → lean_root (field name demand t fs) ≡ field name demand (lean t) (lean_root fs)
-kept_next name must t fs h = go (has_nothing t) (h refl)
+pub kept_next : (p : Part) (fs : Fields) → is_left_out p ≡ false
+    → lean_root (field p.name p.demand p.shape fs) ≡ field p.name p.demand (lean p.shape) (lean_root fs)
+kept_next p fs h = go p.demand p.shape h
   where
-    go : (b : Bool) → b ≡ false → elim b [ true ↦ lean_root fs | false ↦ field name must (lean t) (lean_root fs) ] ≡ field name must (lean t) (lean_root fs)
-    go true h = absurd (true≢false h)
-    go false h = refl
-kept_next name optional t fs h = refl
-kept_next name (default d) t fs h = refl
+    of_false : (t : Shape) (b : Bool) → b ≡ false
+        → elim b [ true ↦ lean_root fs | false ↦ field p.name must (lean t) (lean_root fs) ]
+        ≡ field p.name must (lean t) (lean_root fs)
+    of_false t true h = absurd (true≢false h)
+    of_false t false h = refl
+
+    go : (d : Demand) (t : Shape) → is_left_out (record { name = p.name; demand = d; shape = t }) ≡ false
+        → lean_root (field p.name d t fs) ≡ field p.name d (lean t) (lean_root fs)
+    go must t h = of_false t (has_nothing t) h
+    go optional t h = refl
+    go (default d) t h = refl
 
 -- ---- components that are kept, which stand before those that are left to do; G says what becomes of these
 

@@ -199,6 +199,20 @@ module _ (c : Coding) (laws : Laws c) (law : SpellsNothing c.code) where
       (subst (λ m. AreAlike (Then (IndexOf c (count root) (added_alternatives more)) (ChosenBy c root more)) (Then (IndexOf c (count root) m) (ChosenBy c other others))) (sym f)
       (alike_after k)))
 
+  open_alike : (t : Shape) → InProfile t → InProfile (lean t) → AreAlike (Spelt c.code None t) (Spelt c.code None (lean t))
+      → AreAlike (OpenOf c t) (OpenOf c (lean t))
+  open_alike t good other k =
+      let w = wholes_alike t (lean t) good other k in
+      record { to = open_covers t (lean t) w.to; from = open_covers (lean t) t w.from }
+
+  -- the alternatives of the root, and the others
+  chosen_alike : (root : Alternatives) (more : MoreAlternatives)
+      → ((i : ℕ) → AreAlike (ChosenBy c root more (inl i)) (ChosenBy c (lean_alternatives root) (lean_others more) (inl i)))
+      → ((i : ℕ) → AreAlike (ChosenBy c root more (inr i)) (ChosenBy c (lean_alternatives root) (lean_others more) (inr i)))
+      → (i : ℕ ⊎ ℕ) → AreAlike (ChosenBy c root more i) (ChosenBy c (lean_alternatives root) (lean_others more) i)
+  chosen_alike root more one other (inl i) = one i
+  chosen_alike root more one other (inr i) = other i
+
   mutual
     pub lean_alike : (t : Shape) → InProfile t → InProfile (lean t) → AreAlike (Spelt c.code None t) (Spelt c.code None (lean t))
     lean_alike (sequence root more) good other =
@@ -216,8 +230,9 @@ module _ (c : Coding) (laws : Laws c) (law : SpellsNothing c.code) where
     lean_alike (choice root more) good other =
         alike_on (alike_from (laws.choices root more good))
         (alike_on (choices_alike root (lean_alternatives root) more (lean_others more) (lean_count root) (lean_others_count more)
-        (chosen_alike root more (root_alternatives_of_profile root more good) (root_alternatives_of_profile (lean_alternatives root) (lean_others more) other)
-        (others_of_profile root more good) (others_of_profile (lean_alternatives root) (lean_others more) other)))
+        (chosen_alike root more
+        (root_chosen root (root_alternatives_of_profile root more good) (root_alternatives_of_profile (lean_alternatives root) (lean_others more) other))
+        (others_chosen root more (others_of_profile root more good) (others_of_profile (lean_alternatives root) (lean_others more) other))))
         (alike_to (laws.choices (lean_alternatives root) (lean_others more) other)))
     lean_alike t good other = alike_self (Spelt c.code None t)
 
@@ -258,21 +273,14 @@ module _ (c : Coding) (laws : Laws c) (law : SpellsNothing c.code) where
         → AreAlike (OpenListed c fs bs) (OpenListed c (lean_each fs) bs)
     each_alike no_fields good other bs = alike_self (OpenListed c no_fields bs)
     each_alike (field name demand t fs) good other (suc b ∷ bs) =
-        alike_before (open_alike t good.0 other.0) (each_alike fs good.2 other.2 bs)
+        alike_before (open_alike t good.0 other.0 (lean_alike t good.0 other.0)) (each_alike fs good.2 other.2 bs)
     each_alike (field name demand t fs) good other (zero ∷ bs) = alike_absent (each_alike fs good.2 other.2 bs)
     each_alike (field name demand t fs) good other [] = no_language
 
-    open_alike : (t : Shape) → InProfile t → InProfile (lean t) → AreAlike (OpenOf c t) (OpenOf c (lean t))
-    open_alike t good other =
-        let w = wholes_alike t (lean t) good other (lean_alike t good other) in
-        record { to = open_covers t (lean t) w.to; from = open_covers (lean t) t w.from }
-
-    chosen_alike : (root : Alternatives) (more : MoreAlternatives) → AreAllOfProfile root
-        → AreAllOfProfile (lean_alternatives root) → OthersOfProfile more → OthersOfProfile (lean_others more) → (i : ℕ ⊎ ℕ)
-        → AreAlike (ChosenBy c root more i) (ChosenBy c (lean_alternatives root) (lean_others more) i)
-    chosen_alike root more good other first rest (inl i) = root_chosen root good other i
-    chosen_alike root closed_choice good other first rest (inr i) = alike_self (ChosenOf (λ t. OpenOf c t) no_alternatives i)
-    chosen_alike root (marked_choice alts) good other first rest (inr i) = added_chosen alts first rest i
+    others_chosen : (root : Alternatives) (more : MoreAlternatives) → OthersOfProfile more → OthersOfProfile (lean_others more)
+        → (i : ℕ) → AreAlike (ChosenBy c root more (inr i)) (ChosenBy c (lean_alternatives root) (lean_others more) (inr i))
+    others_chosen root closed_choice first rest i = alike_self (ChosenOf (λ t. OpenOf c t) no_alternatives i)
+    others_chosen root (marked_choice alts) first rest i = added_chosen alts first rest i
 
     root_chosen : (alts : Alternatives) → AreAllOfProfile alts → AreAllOfProfile (lean_alternatives alts) → (i : ℕ)
         → AreAlike (ChosenOf (λ t. Spelt c.code None t) alts i) (ChosenOf (λ t. Spelt c.code None t) (lean_alternatives alts) i)
@@ -283,7 +291,7 @@ module _ (c : Coding) (laws : Laws c) (law : SpellsNothing c.code) where
     added_chosen : (alts : Alternatives) → AreAllOfProfile alts → AreAllOfProfile (lean_alternatives alts) → (i : ℕ)
         → AreAlike (ChosenOf (λ t. OpenOf c t) alts i) (ChosenOf (λ t. OpenOf c t) (lean_alternatives alts) i)
     added_chosen no_alternatives good other i = no_language
-    added_chosen (one_of name t alts) good other zero = open_alike t good.0 other.0
+    added_chosen (one_of name t alts) good other zero = open_alike t good.0 other.0 (lean_alike t good.0 other.0)
     added_chosen (one_of name t alts) good other (suc i) = added_chosen alts good.1 other.1 i
 
   pub lean_wholes : (t : Shape) → InProfile t → InProfile (lean t) → AreAlike (Wholes c.ruling t) (Wholes c.ruling (lean t))

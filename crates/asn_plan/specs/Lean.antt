@@ -1,6 +1,7 @@
 -- A type without the components that have no units: its spellings are the same.
-use Rattle.std.specs.Prelude.{true, false}
-use Rattle.asn_values.specs.Shape.{Shape, sequence, sequence_of, choice, Fields, no_fields, field, must, MoreFields, closed, marked, Alternatives, no_alternatives, one_of, MoreAlternatives, closed_choice, marked_choice}
+use Rattle.std.specs.Prelude.{Bool, true, false}
+use Rattle.asn_values.specs.View.{Part}
+use Rattle.asn_values.specs.Shape.{Shape, Demand, sequence, sequence_of, choice, Fields, no_fields, field, must, MoreFields, closed, marked, Alternatives, no_alternatives, one_of, MoreAlternatives, closed_choice, marked_choice}
 use Rattle.asn_plan.specs.Nothing.{has_nothing}
 
 abbrev mutual
@@ -33,3 +34,11 @@ abbrev mutual
   pub lean_others : MoreAlternatives → MoreAlternatives
   lean_others closed_choice = closed_choice
   lean_others (marked_choice alts) = marked_choice (lean_alternatives alts)
+
+-- whether the part is a component that has to be there and has no units
+abbrev pub is_left_out : Part → Bool
+is_left_out p = are_left_out p.demand p.shape
+  where
+    are_left_out : Demand → Shape → Bool
+    are_left_out must t = has_nothing t
+    are_left_out demand t = false

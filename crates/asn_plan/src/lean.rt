@@ -2,7 +2,7 @@
 ghost use Rattle.std.specs.Prelude.{◌≡◌, IfOk, IfSome};
 ghost use Rattle.asn_values.specs.View.{shape_of, fields_seen, alternatives_seen, part_of_field, branch_of, Part, Branch};
 ghost use Rattle.asn_plan.specs.Nothing.{has_nothing, have_nothing};
-ghost use Rattle.asn_plan.specs.Lean.{lean, lean_root, lean_each, lean_alternatives};
+ghost use Rattle.asn_plan.specs.Lean.{lean, lean_root, lean_each, lean_alternatives, is_left_out};
 
 use crate::copies::copy_simple;
 use crate::plan::Plan;
@@ -73,6 +73,13 @@ fn have_nothing(fields: &[Field]) -> bool
     true
 }
 
+/// Whether the component has to be there, and no value of it has a unit.
+fn is_left_out(field: &Field) -> bool
+    ensures { result ≡ is_left_out (part_of_field field.now) }
+{
+    matches!(field.need, Need::Must) && has_nothing(&field.ty)
+}
+
 /// The type without the components that have no units.
 #[cycle(lean)]
 fn lean_of(alloc: Global, ty: &AsnType) -> Result<AsnType, AllocError>
@@ -123,8 +130,7 @@ fn lean_root(alloc: Global, fields: &[Field]) -> Result<Vec<Field>, AllocError>
 {
     let mut kept = Vec::new(alloc);
     for field in fields {
-        let is_left_out = matches!(field.need, Need::Must) && has_nothing(&field.ty);
-        if !is_left_out {
+        if !is_left_out(field) {
             kept.push(lean_field(alloc, field)?)?;
         }
     }

@@ -1,12 +1,13 @@
 use Rattle.std.proofs.Common.{◌≡◌, ◌∙◌, ◌∷◌, [], map, take, Some, refl, sym, ap}
 use Rattle.std.proofs.lemmas.List.{map-append}
 use Rattle.asn_values.specs.Shape.{Fields, Alternatives, sequence, marked, choice, marked_choice}
-use Rattle.asn_values.specs.View.{shape_of, fields_seen, alternatives_seen, alternatives_of, branch_of, more_alternatives_of}
+use Rattle.asn_values.specs.View.{shape_of, part_of_field, fields_seen, alternatives_seen, alternatives_of, branch_of, more_alternatives_of}
 use Rattle.asn_values.proofs.Views.{shape_of-Seq, shape_of-Choice, choice_of_alternatives}
 use Rattle.asn_walk.proofs.Parts.{marked_type}
 use Rattle.asn_plan.specs.Lean.{lean, lean_root, lean_each, lean_alternatives}
 use Rattle.asn_plan.proofs.Growing.{branch_next}
-use Rattle.asn_plan.proofs.LeanTypes.{one_kept, all_done, alternatives_next}
+use Rattle.asn_plan.proofs.LeanTypes.{one_kept, one_left, kept_next, left_next, all_done, alternatives_next}
+use Rattle.asn_plan.proofs.lean.+lean.Goals.{lean_root-then-not-is_left_out+in_ok-lean_field+in_ok-push, lean_root-else-not-is_left_out}
 use Rattle.asn_plan.proofs.lean.+lean.Goals as goal
 
 pub lean_each-loop-field-preserved : goal.lean_each-loop-field-preserved
@@ -16,6 +17,15 @@ lean_each-loop-field-preserved t c =
 pub lean_each-returns : goal.lean_each-returns
 lean_each-returns t c =
     all_done lean_each c.loop-field.kept.items c.args.fields.now c.loop-field.field-index (lean_each (fields_seen c.args.fields.now)) refl c.loop-field-test.false c.loop-field.invariant
+
+pub lean_root-loop-field-preserved : goal.lean_root-loop-field-preserved
+lean_root-loop-field-preserved t c =
+    let x = c.field-item.result in
+    let all = lean_root (fields_seen c.args.fields.now) in
+    elim c.if-not-is_left_out.branch [
+      | lean_root-then-not-is_left_out+in_ok-lean_field+in_ok-push w ↦ rw (w.kept-is, w.in_ok-push.ensures.items) (one_kept lean_root c.loop-field.kept.items w.in_ok-lean_field.field-0 x c.args.fields.now c.loop-field.field-index all c.loop-field-test.true c.field-item.is w.in_ok-lean_field.ensures (λ rest. kept_next (part_of_field x) rest (sym c.is_left_out.ensures ∙ w.if-not-is_left_out.true)) c.loop-field.invariant)
+      | lean_root-else-not-is_left_out w ↦ rw w.kept-is (one_left lean_root c.loop-field.kept.items x c.args.fields.now c.loop-field.field-index all c.loop-field-test.true c.field-item.is (λ rest. left_next (part_of_field x) rest (sym c.is_left_out.ensures ∙ w.if-not-is_left_out.false)) c.loop-field.invariant)
+    ]
 
 pub lean_root-returns : goal.lean_root-returns
 lean_root-returns t c =

@@ -27,8 +27,9 @@ A crate is due if `tried` notes other hashes than git has for its folder and its
 
 One check judges edits of different functions, over what earlier checks of the crate kept. In the gate nothing is kept:
 the check takes the other functions at their contracts. An edit is refused if a goal of its function is false or does
-not type. It is broken if only a proof by hand no longer fits, and named if that proof only names what is gone. Broken
-and named edits fail, as those that are not refused.
+not type. It is broken if only a proof by hand no longer fits, and named if that proof only names what is gone. These
+and an edit of which the check says nothing are shown and skipped. The gate begins no check after MINUTES: the edits
+that are left stay due.
 """
 import datetime
 import glob
@@ -40,6 +41,7 @@ import signal
 import subprocess
 import sys
 import tempfile
+import time
 from collections import Counter, namedtuple
 from concurrent.futures import ThreadPoolExecutor
 
@@ -49,8 +51,9 @@ sys.path.insert(0, f"{TOP}/tests/tools")
 from kit import rt, rtlib, share_work  # noqa: E402
 
 FOLDER, TRIED = "tests/edits", "tests/edits/tried"
-# the seconds of a processor that one check may take, and the memory that it needs
-LIMIT, MEMORY = 1200, 4_500_000_000
+# a check's seconds of a processor and memory, the minutes in which the gate begins checks, and the verdicts that fail
+LIMIT, MEMORY, MINUTES, BEGUN = 1200, 4_500_000_000, 120, time.time()
+FAILURES = ("NOT REFUSED", "bad edit", "not tried")
 
 
 def say(text):
@@ -401,6 +404,8 @@ class Tries:
 
     def together(self, group, kept=None):
         """Tries edits in one check. If it says nothing, one of them cannot be read or does not end."""
+        if self.at_contracts and time.time() > BEGUN + 60 * MINUTES:
+            return self.verdicts.update({it: ("left", "no time is left for it in this run") for it in group})
         functions = [one for it in group for one in it.functions]
         with tempfile.TemporaryDirectory(prefix=f"rt-edits-{os.getpid()}-") as room:
             if not kept and os.path.isdir(self.seed):
@@ -413,12 +418,9 @@ class Tries:
             half = len(group) // 2
             return self.together(group[:half]), self.together(group[half:])
         errors = [line for line in said.split("\n") if "error" in line] or [""]
-        unread = "bad edit", f"the checker cannot read it, or does not end: {errors[0][:200]}"
+        unread = "bad edit" if said else "silent", f"the checker cannot read it, or does not end: {errors[0][:200]}"
         self.verdicts.update({it: report.of(it.functions) if report.lines else unread for it in group})
         return None
-
-    def failed(self):
-        return [it for it in self.verdicts if self.verdicts[it][0] not in ("refused", "weak")]
 
     def show(self):
         for edit in self.failed():
@@ -535,12 +537,13 @@ def main(words):
     wanted = {name: [*filter(is_wanted, edits[name])] for name in chosen}
     tries = try_all([it for it in crates if it.name in chosen], wanted, "--beside" in flags)
     if not single and ("--due" not in flags or "--note" in flags):
-        failed = {it.crate.name for it in tries if it.failed()}
+        failed = {it.crate.name for it in tries if {kind for kind, _ in it.verdicts.values()} - {"refused", "weak"}}
         note([it.crate.name for it in tries if it.crate.name not in failed], failed, now)
     counts = Counter(kind for it in tries for kind, _ in it.verdicts.values())
-    lost = sum(len(it.failed()) for it in tries)
+    lost = sum(counts[it] for it in FAILURES)
     kinds = ", ".join(f"{count} {kind}" for kind, count in sorted(counts.items())) or "none"
-    say(f"edits of {len(tries)} crates: {kinds}\n{counts['refused']} passed, {lost} failed")
+    skipped = sum(counts.values()) - counts["refused"] - lost
+    say(f"edits of {len(tries)} crates: {kinds}\n{counts['refused']} passed, {lost} failed, {skipped} skipped")
     return 1 if lost else 0
 
 

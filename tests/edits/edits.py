@@ -57,8 +57,7 @@ FAILURES = ("NOT REFUSED", "bad edit", "not tried")
 
 
 def say(text):
-    sys.stdout.write(f"{text}\n")
-    sys.stdout.flush()
+    print(f"{text}\n", end="", flush=True)
 
 
 def text_of(file):

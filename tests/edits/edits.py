@@ -404,7 +404,7 @@ class Tries:
     def together(self, group, kept=None):
         """Tries edits in one check. If it says nothing, one of them cannot be read or does not end."""
         if self.at_contracts and time.time() > BEGUN + 60 * MINUTES:
-            return self.verdicts.update({it: ("left", "no time is left for it in this run") for it in group})
+            return self.verdicts.update({it: ("left", "no time is left") for it in group})
         functions = [one for it in group for one in it.functions]
         with tempfile.TemporaryDirectory(prefix=f"rt-edits-{os.getpid()}-") as room:
             if not kept and os.path.isdir(self.seed):
@@ -422,8 +422,9 @@ class Tries:
         return None
 
     def show(self):
-        for edit in self.failed():
-            say(f"{edit.label}: {': '.join(self.verdicts[edit])}")
+        for edit, verdict in self.verdicts.items():
+            if verdict[0] not in ("refused", "weak", "left"):
+                say(f"{edit.label}: {': '.join(verdict)}")
         counts = Counter(kind for kind, _ in self.verdicts.values())
         kinds = ", ".join(f"{count} {kind}" for kind, count in sorted(counts.items()))
         say(f"{self.crate.name}: {len(self.verdicts)} edits in {self.checks} checks: {kinds}")
@@ -499,7 +500,6 @@ def try_all(crates, edits, is_beside):
     if not is_beside:
         share_work()
     pairs = proved_names(crates) if is_beside else ((it, build_below(it)) for it in crates)
-    # (proofs take half of the processors)
     most = max(1, min(rt.processors() // (2 if is_beside else 1), int(rt.free() // MEMORY)))
     lanes = ThreadPoolExecutor(int(os.environ.get("RT_JOBS") or most))
     with lanes as pool, ThreadPoolExecutor(max(len(crates), 1)) as drivers:
@@ -539,10 +539,10 @@ def main(words):
         failed = {it.crate.name for it in tries if {kind for kind, _ in it.verdicts.values()} - {"refused", "weak"}}
         note([it.crate.name for it in tries if it.crate.name not in failed], failed, now)
     counts = Counter(kind for it in tries for kind, _ in it.verdicts.values())
-    lost = sum(counts[it] for it in FAILURES)
+    passed, lost = counts["refused"], sum(counts[it] for it in FAILURES)
     kinds = ", ".join(f"{count} {kind}" for kind, count in sorted(counts.items())) or "none"
-    skipped = sum(counts.values()) - counts["refused"] - lost
-    say(f"edits of {len(tries)} crates: {kinds}\n{counts['refused']} passed, {lost} failed, {skipped} skipped")
+    skipped = sum(counts.values()) - passed - lost
+    say(f"edits of {len(tries)} crates: {kinds}\n{passed} passed, {lost} failed, {skipped} skipped")
     return 1 if lost else 0
 
 

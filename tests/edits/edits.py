@@ -417,7 +417,7 @@ class Tries:
             half = len(group) // 2
             return self.together(group[:half]), self.together(group[half:])
         errors = [line for line in said.split("\n") if "error" in line] or [""]
-        unread = "bad edit" if said else "silent", f"the checker cannot read it, or does not end: {errors[0][:200]}"
+        unread = "silent", f"the checker cannot read it, or does not end: {errors[0][:200]}"
         self.verdicts.update({it: report.of(it.functions) if report.lines else unread for it in group})
         return None
 
@@ -487,13 +487,13 @@ def try_all(crates, edits, is_beside):
     tries = []
 
     def run(it, is_proved, pool):
+        verdict = "not tried", "the crate, or one below it, is not proved"
         try:
             if is_proved:
                 return it.run(pool)
-            why = "the crate, or one below it, is not proved"
-        except Exception as error:  # (a crate that cannot be tried counts as failed)
-            why = f"{type(error).__name__}: {error}"
-        it.verdicts.update({edit: ("not tried", why) for edit in it.left})
+        except Exception as error:
+            verdict = "silent", f"{type(error).__name__}: {error}"
+        it.verdicts.update({edit: verdict for edit in it.left})
         return it.show()
 
     rtlib.guarded()

@@ -1,0 +1,3 @@
+pub mod Constraints
+pub mod View
+pub mod ConstraintExamples

@@ -7,6 +7,7 @@ ghost use Rattle.asn_jobs.specs.Lines.{job_lines, lines_of, module_text};
 ghost use Rattle.asn_request.specs.Request.{texts_of};
 ghost use Rattle.asn_module_files.specs.Sources.{IsInput, IsInputOf, IsOwn, IsOwnInput, IsRead, IsReadText, IsReadWithin, IsNotLarge, mark};
 
+use asn_constraints::Constraint;
 use asn_jobs::{Job, cut_input};
 use asn_module::{BoundFault, Module, ModuleFault, read_within};
 use asn_published::{
@@ -23,14 +24,33 @@ pub const MOST: u32 = 10_000_000;
 /// What stands for the name of a file where a text is that of standard input.
 const STDIN: &str = "<stdin>";
 
+/// What a published type has in addition to the type of the profile: a constraint on its values, and marks where they are not
+/// looked at.
+#[derive(Drop)]
+pub struct Published {
+    pub constraint: Constraint,
+    /// What is not looked at of its values, if there is something.
+    pub marks: Option<Marks>,
+}
+
+impl Published {
+    /// Nothing, as of a type of the profile.
+    pub fn free() -> Published {
+        Published {
+            constraint: Constraint::Free,
+            marks: None,
+        }
+    }
+}
+
 /// The octets that a job reads instead of standard input, if any, the lines that say what became of its types, and
 /// whether no type of the module is refused.
 #[derive(Drop)]
 pub struct Instead {
     pub octets: Option<Vec<u8>>,
     pub remarks: String,
-    /// What is not looked at of the values of the type of the job, if there is something.
-    pub marks: Option<Marks>,
+    /// What the published type of the job has in addition to the type of the profile.
+    pub published: Published,
     /// Whether no type of the module is refused.
     pub is_whole: bool,
 }
@@ -100,7 +120,7 @@ fn published(
         Err(fault) => Ok(Instead {
             octets: None,
             remarks: fault_line(alloc, fault)?,
-            marks: None,
+            published: Published::free(),
             is_whole: false,
         }),
     }
@@ -131,7 +151,7 @@ fn same(alloc: Global) -> Result<Instead, AllocError>
     Ok(Instead {
         octets: None,
         remarks: String::new(alloc),
-        marks: None,
+        published: Published::free(),
         is_whole: true,
     })
 }
@@ -280,7 +300,7 @@ fn flattened_input(
         return Ok(Instead {
             octets: None,
             remarks,
-            marks: None,
+            published: Published::free(),
             is_whole,
         });
     }
@@ -288,17 +308,20 @@ fn flattened_input(
     Ok(Instead {
         octets,
         remarks,
-        marks: marks_for(flattened, job),
+        published: published_for(alloc, flattened, job)?,
         is_whole,
     })
 }
 
-/// The marks of the type of a job.
-fn marks_for(flattened: Flattened, job: &Job) -> Option<Marks> {
-    match job {
-        Job::Module => None,
-        Job::Lines { type_name, .. } => flattened.into_marks(type_name.as_str()),
-    }
+/// What the published type of a job has in addition to the type of the profile.
+fn published_for(alloc: Global, flattened: Flattened, job: &Job) -> Result<Published, AllocError> {
+    let Job::Lines { type_name, .. } = job else {
+        return Ok(Published::free());
+    };
+    let name = type_name.as_str();
+    let constraint = flattened.constraint_named(alloc, name)?.unwrap_or(Constraint::Free);
+    let marks = flattened.into_marks(name);
+    Ok(Published { constraint, marks })
 }
 
 /// Whether a text can stand in front of the line ==== as it is: it ends a line, and has no such line.
@@ -321,7 +344,7 @@ fn own_input(alloc: Global, text: &str, own: &Module, rest: &[u8]) -> Result<Ins
     Ok(Instead {
         octets: Some(octets),
         remarks: String::new(alloc),
-        marks: None,
+        published: Published::free(),
         is_whole: true,
     })
 }

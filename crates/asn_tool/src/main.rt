@@ -3,6 +3,7 @@
 #![tactic(auto)]
 
 mod answering;
+mod demands;
 mod budget;
 mod looking;
 mod marked;

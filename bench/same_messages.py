@@ -13,9 +13,9 @@ import subprocess
 import sys
 import time
 
-# the folder of each standard, files that are left out, and its messages
+# the folder of each standard, files that are left out (other versions of a module), and its messages
 STANDARDS = {
-    "ITS": ("its", "V1.asn v1.asn", """CAM DENM CollectivePerceptionMessage MAPEM SPATEM IVIM SREM SSEM RTCMEM EvcsnPdu
+    "ITS": ("its", "V1.asn v1.asn 19321.asn", """CAM DENM CollectivePerceptionMessage MAPEM SPATEM IVIM SREM SSEM RTCMEM EvcsnPdu
         EV-RSR TisTpgTransactionsPdu"""),
     "1609.2": ("ieee1609dot2", "", "Ieee1609Dot2Data SignedData EncryptedData Certificate ToBeSignedCertificate"),
     "LTE RRC": ("lte-rrc", "", """BCCH-BCH-Message BCCH-DL-SCH-Message DL-CCCH-Message DL-DCCH-Message MCCH-Message
@@ -48,7 +48,7 @@ def reasons(report):
     counts = {}
     for it in report:
         for note in it.get("notes", []):
-            words = note.get("what") or note.get("words") or ""
+            words = note["remark"]
             if not words.startswith("holds a type"):
                 counts[words] = counts.get(words, 0) + 1
     return ", ".join(f"{count} times {words}" for words, count in sorted(counts.items(), key=lambda it: -it[1])[:4])

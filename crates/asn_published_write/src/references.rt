@@ -67,7 +67,7 @@ impl<'t> Writer<'t> {
         self.ask_for_element(element, end, depth)
     }
 
-    /// Asks for the element of a list, and for what ends the list.
+    /// Asks for the element of a list, and for what ends the list. A list counts two levels.
     fn ask_for_element(
         &mut self,
         element: usize,
@@ -77,7 +77,7 @@ impl<'t> Writer<'t> {
         self.out.push_str(" OF")?;
         self.stack.push(end)?;
         self.stack
-            .push(Task::Node(element, depth.saturating_add(1)))?;
+            .push(Task::Node(element, depth.saturating_add(2)))?;
         Ok(())
     }
 

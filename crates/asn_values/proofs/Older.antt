@@ -1,5 +1,5 @@
 -- No limit of the profile is below that of the one before it.
-use Rattle.std.proofs.Common.{◌≤◌, ◌+◌, ◌*◌, ℕ, suc, max, arith}
+use Rattle.std.proofs.Common.{◌≤◌, ◌*◌, suc, arith}
 use Rattle.std.proofs.lemmas.Int.{ints}
 use Rattle.asn_values.specs.Shape.{Shape, boolean, null, integer, enumerated, bit_string, octet_string, restricted, utf8_string, sequence, sequence_of, choice, Fields, no_fields, field, MoreFields, closed, marked, Alternatives, no_alternatives, one_of, MoreAlternatives, closed_choice, marked_choice}
 use Rattle.asn_values.specs.Measures.{depth, fields_depth, more_depth, choice_depth, more_choice_depth}

@@ -28,8 +28,7 @@ room k = 65536 * 32768 ^ k
 
 -- 64 levels have less than that
 room_64 : room 64 < field_limit
-unfolding field_limit
-unfolding room
+unfolding field_limit room
 room_64 = ltb-true (65536 * 32768 ^ 64) (256 ^ 127) refl
 
 -- which is 256 to the power 127
@@ -41,6 +40,10 @@ below_limit n h = h
 pub room_grows : (j k : ℕ) → j ≤ k → room j ≤ room k
 unfolding room
 room_grows j k h = mul-le-mul_left 65536 (pow-le-pow_right (ltb-true 0 32768 refl) h)
+
+room_zero : room 0 ≡ 65536
+unfolding room
+room_zero = refl
 
 -- the room of a simple type
 pub room_first : room 1 ≡ 2147483648
@@ -54,8 +57,7 @@ room_next k = omega (arith, pow-succ' 32768 k)
 
 -- there is some room at each level
 pub room_some : (k : ℕ) → 1 ≤ room k
-unfolding room
-room_some k = let some = pow-le-pow_right {m = 0} {n = k} (ltb-true 0 32768 refl) (omega arith) in omega (arith, some)
+room_some k = let some = room_grows 0 k (omega arith) in omega (arith, room_zero, some)
 
 -- of types of at most 64 levels a length counts all
 within_limit : (n k : ℕ) → n ≤ room k → k ≤ 64 → n < field_limit

@@ -319,7 +319,9 @@ fn published_for(alloc: Global, flattened: Flattened, job: &Job) -> Result<Publi
         return Ok(Published::free());
     };
     let name = type_name.as_str();
-    let constraint = flattened.constraint_named(alloc, name)?.unwrap_or(Constraint::Free);
+    let constraint = flattened
+        .constraint_named(alloc, name)?
+        .unwrap_or(Constraint::Free);
     let marks = flattened.into_marks(name);
     Ok(Published { constraint, marks })
 }

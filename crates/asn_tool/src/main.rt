@@ -3,8 +3,8 @@
 #![tactic(auto)]
 
 mod answering;
-mod demands;
 mod budget;
+mod demands;
 mod looking;
 mod marked;
 mod marking;

@@ -49,14 +49,10 @@ fn run_given<'a>(
 ) -> Result<u8, Stop<'a>> {
     let given = read_all(rt.alloc(), &mut Counted::new(rt.reader()))?;
     let Input {
-        octets, published, ..
-    } = input_given(
-        rt,
-        given,
-        options,
-        job,
-        tells_of_module(rt, asking),
-    )?;
+        octets,
+        published,
+        ..
+    } = input_given(rt, given, options, job, tells_of_module(rt, asking))?;
     run_text(rt, job, octets.as_slice(), options, asking, &published)
 }
 
@@ -241,7 +237,9 @@ fn run_with_files<'a>(
     match input_of_files(rt, files, options, job, tells_of_module(rt, asking))? {
         Some(
             Input {
-                octets, published, ..
+                octets,
+                published,
+                ..
             },
         ) => run_coming(rt, job, octets.as_slice(), options, asking, &published),
         None => Ok(2),

@@ -2,6 +2,7 @@
 use crate::examples::example_within;
 use crate::fault::ShowFault;
 use crate::field_lines::{Shown, show_messages};
+use asn_constraints::Constraint;
 use asn_fields::outline;
 use asn_module::Module;
 use asn_request::asking::Asking;
@@ -15,8 +16,8 @@ pub const MOST_ENTRIES: u32 = 1_000_000;
 /// The most fields of a message, unless `--budget` says otherwise.
 const MOST_FIELDS: u32 = 100_000;
 
-/// Shows what is asked for of a module, and gives the exit status; `None` where it has no type of the name, and nothing is
-/// shown.
+/// Shows what is asked for of a module, and gives the exit status; `None` if it has no type of the name, and nothing is
+/// shown. The constraint is that on values of the type that is named, if it has one.
 ///
 /// # Errors
 /// Where reading, writing or memory failed.
@@ -24,6 +25,7 @@ pub fn show_of<'a, R: BufRead>(
     rt: &HostRuntime,
     look: &Look,
     module: &Module,
+    constraint: Option<&Constraint>,
     asking: &Asking<'a>,
     lines: &mut R,
 ) -> Result<Option<u8>, ShowFault<'a>> {
@@ -32,7 +34,10 @@ pub fn show_of<'a, R: BufRead>(
     };
     let name = name.as_str();
     match module.type_named(name) {
-        Some(ty) => Ok(Some(show_type(rt, look, name, ty, asking, lines)?)),
+        Some(ty) => {
+            let status = show_type(rt, look, name, ty, constraint, asking, lines)?;
+            Ok(Some(status))
+        }
         None => Ok(None),
     }
 }
@@ -43,6 +48,7 @@ fn show_type<'a, R: BufRead>(
     look: &Look,
     name: &str,
     ty: &Checked,
+    constraint: Option<&Constraint>,
     asking: &Asking<'a>,
     lines: &mut R,
 ) -> Result<u8, ShowFault<'a>> {
@@ -51,6 +57,7 @@ fn show_type<'a, R: BufRead>(
             let shown = Shown {
                 ty,
                 name,
+                constraint,
                 rules: look.rules,
                 forms: asking.forms,
                 is_page: look.is_page,

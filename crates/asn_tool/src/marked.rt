@@ -2,8 +2,7 @@
 ghost use Rattle.std.specs.Prelude.{◌≡◌, ◌++◌, IfOk, option_map, string_bytes};
 ghost use Rattle.asn_tool.specs.Marked.{answer_beside, deeper_text, more_words, place_words, unlooked_words, words_behind};
 
-use asn_constraints::Reason;
-use asn_jobs::{Order, RuleName};
+use asn_jobs::Order;
 use asn_published::{Looked, Place};
 use std::alloc::{AllocError, Global};
 
@@ -107,27 +106,5 @@ pub fn refusal_beside(
             format!(in alloc; "{text}, or deeper than {levels} levels")
         }
         _ => String::from_str(alloc, text),
-    }
-}
-
-/// The refusal, without its LF, of a value that breaks its constraint for this reason at the path. With the name of rules it
-/// has the place of the last unit of the encoding, which has so many octets.
-///
-/// # Errors
-/// `AllocError` if an allocation failed.
-pub fn broken_text(
-    alloc: Global,
-    reason: Reason,
-    path: &str,
-    rules: Option<RuleName>,
-    octets: usize,
-) -> Result<String, AllocError> {
-    match rules {
-        Some(RuleName::Per) => {
-            let bits = octets.saturating_mul(8);
-            format!(in alloc; "! {reason} at {path} (bit {bits})")
-        }
-        Some(RuleName::Oer) => format!(in alloc; "! {reason} at {path} (octet {octets})"),
-        None => format!(in alloc; "! {reason} at {path}"),
     }
 }

@@ -2,12 +2,12 @@
 //! and where a part of a message is not looked at, the answer says so.
 use crate::answering::{Answers, Asked, answer_in_memory, put_answer, tell_why};
 use crate::budget::Answered;
-use crate::marked::{answer_beside, broken_text, deeper_text, refusal_beside, unlooked_words};
+use crate::marked::{answer_beside, deeper_text, refusal_beside, unlooked_words};
 use crate::writing::{put_refusal, tell, text_in};
-use asn_constraints::{Broken, judge_at, path_text};
+use asn_constraints::{Broken, judge_at};
 use asn_convert::{Order, RuleName, RunFault};
 use asn_jobs::Place;
-use asn_look::value_of_digits;
+use asn_look::{broken_at_end, broken_words, value_of_digits};
 use asn_published::Looked;
 use asn_rules::Counted;
 use asn_values::Value;
@@ -135,12 +135,15 @@ fn refusal_of(
     octets: usize,
     asked: Asked<'_>,
 ) -> Result<String, AllocError> {
-    let path = path_text(alloc, asked.ty().get(), broken.path.as_slice())?;
-    let rules = match asked.order {
-        Order::Encode => None,
-        _ => Some(asked.rules),
-    };
-    broken_text(alloc, broken.reason, path.as_str(), rules, octets)
+    let ty = asked.ty().get();
+    match asked.order {
+        Order::Encode => {
+            let words = broken_words(alloc, ty, broken)?;
+            let words = words.as_str();
+            format!(in alloc; "! {words}")
+        }
+        _ => broken_at_end(alloc, ty, broken, asked.rules, octets),
+    }
 }
 
 /// Writes the answer to a message, and what is said of it.

@@ -41,6 +41,14 @@ impl Published {
             marks: None,
         }
     }
+
+    /// The constraint, unless each value meets it.
+    pub fn constraint(&self) -> Option<&Constraint> {
+        match &self.constraint {
+            Constraint::Free => None,
+            constraint => Some(constraint),
+        }
+    }
 }
 
 /// The octets that a job reads instead of standard input, if any, the lines that say what became of its types, and
@@ -319,9 +327,7 @@ fn published_for(alloc: Global, flattened: Flattened, job: &Job) -> Result<Publi
         return Ok(Published::free());
     };
     let name = type_name.as_str();
-    let constraint = flattened
-        .constraint_named(alloc, name)?
-        .unwrap_or(Constraint::Free);
+    let constraint = flattened.constraint_of(alloc, name)?;
     let marks = flattened.into_marks(name);
     Ok(Published { constraint, marks })
 }

@@ -15,10 +15,7 @@ pub struct Demands<'t> {
 impl<'t> Demands<'t> {
     /// What the answers use: with `--accept-wider` the marks of a recursive type alone.
     pub fn of(asking: &Asking<'_>, published: &'t Published) -> Demands<'t> {
-        let constraint = match &published.constraint {
-            Constraint::Free => None,
-            constraint => Some(constraint),
-        };
+        let constraint = published.constraint();
         let marks = match &published.marks {
             Some(marks) if !asking.is_wider_taken || marks.levels().is_some() => Some(marks),
             _ => None,

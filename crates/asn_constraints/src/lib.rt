@@ -4,9 +4,11 @@
 mod broken;
 mod constraint;
 mod judging;
+mod paths;
 mod strings;
 mod times;
 
 pub use broken::{Broken, Reason, judge_at};
 pub use constraint::{Component, Constraint, Interval, Lengths, Presence, TimeKind};
 pub use judging::judge;
+pub use paths::path_text;

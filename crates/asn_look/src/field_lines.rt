@@ -270,7 +270,15 @@ fn show_message<'a>(
     };
     if is_good {
         if let Some(broken) = broken_part(rt.alloc(), shown, octets)? {
-            return show_broken(rt, shown, place, text.as_str(), &broken, octets.len(), so_far);
+            return show_broken(
+                rt,
+                shown,
+                place,
+                text.as_str(),
+                &broken,
+                octets.len(),
+                so_far,
+            );
         }
     }
     so_far.all_good &= is_good;

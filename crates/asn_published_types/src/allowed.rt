@@ -24,7 +24,7 @@ pub struct Allowed {
     pub items: Option<Vec<Interval>>,
     pub others: Constraint,
     /// How deep the others are.
-    depth: u32,
+    pub depth: u32,
     /// The constraint has an extension marker: it is no constraint, unless another follows it.
     pub is_marked: bool,
     /// Something of it is not looked at: fewer values are allowed.
@@ -122,7 +122,10 @@ impl Allowed {
     pub fn and(self, alloc: Global, other: Allowed) -> Result<Allowed, AllocError> {
         let are_both = !matches!(&self.others, Constraint::Free)
             && !matches!(&other.others, Constraint::Free);
-        let depth = self.depth.max(other.depth).saturating_add(u32::from(are_both));
+        let depth = self
+            .depth
+            .max(other.depth)
+            .saturating_add(u32::from(are_both));
         let is_missing = self.is_missing || other.is_missing;
         let is_deep = depth > MOST_DEPTH;
         Ok(Allowed {

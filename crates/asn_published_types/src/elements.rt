@@ -5,7 +5,7 @@ use crate::intervals::{between, of_ranges, only};
 use crate::numbers::Scope;
 use crate::places::{after_table, after_unseen, mark_at, root_end};
 use crate::seen::{Mode, Seen};
-use crate::subtypes::{Around, Of, Subtypes};
+use crate::subtypes::{Around, Of, Subtypes, Work};
 use asn_constraints::{Constraint, Interval};
 use asn_published_text::nodes::Shape;
 use asn_published_text::places::{is_and, is_contained, is_or};
@@ -27,19 +27,20 @@ impl<'a, 't> Subtypes<'a, 't> {
         around: Around,
         at: usize,
         levels: u32,
+        work: &mut Work,
     ) -> Result<Allowed, AllocError> {
         let Some(tokens) = self.values.world.tokens_of(around.module) else {
             return Ok(Allowed::missing());
         };
         let end = tokens.other(at);
-        if levels == 0 || end <= at {
+        if levels == 0 || !work.take() || end <= at {
             return Ok(Allowed::missing());
         }
         let root = root_end(tokens, next(at), end);
         let Ok(is_marked) = mark_at(tokens, root, end) else {
             return Ok(Allowed::missing());
         };
-        let mut allowed = self.set_of(alloc, around, next(at), root, levels - 1)?;
+        let mut allowed = self.set_of(alloc, around, next(at), root, levels - 1, work)?;
         allowed.is_marked |= is_marked;
         Ok(allowed)
     }
@@ -53,18 +54,19 @@ impl<'a, 't> Subtypes<'a, 't> {
         start: usize,
         end: usize,
         levels: u32,
+        work: &mut Work,
     ) -> Result<Allowed, AllocError> {
         let Some(tokens) = self.values.world.tokens_of(around.module) else {
             return Ok(Allowed::missing());
         };
-        if levels == 0 {
+        if levels == 0 || !work.take() {
             return Ok(Allowed::missing());
         }
         let mut total: Option<Allowed> = None;
         let mut current: Option<Allowed> = None;
         let mut at = start;
         for _ in 0..tokens.len() {
-            let Some((one, behind)) = self.exception_of(alloc, around, at, levels - 1)? else {
+            let Some((one, behind)) = self.exception_of(alloc, around, at, levels - 1, work)? else {
                 return Ok(Allowed::missing());
             };
             if one.is_marked && (at != start || behind < end) {
@@ -80,7 +82,11 @@ impl<'a, 't> Subtypes<'a, 't> {
             current = None;
             let either = one_of(alloc, total, both)?;
             if at >= end {
-                return Ok(if at == end { either } else { Allowed::missing() });
+                return Ok(if at == end {
+                    either
+                } else {
+                    Allowed::missing()
+                });
             }
             if !is_or(tokens, at) {
                 return Ok(Allowed::missing());
@@ -99,17 +105,18 @@ impl<'a, 't> Subtypes<'a, 't> {
         around: Around,
         at: usize,
         levels: u32,
+        work: &mut Work,
     ) -> Result<Element, AllocError> {
         let Some(tokens) = self.values.world.tokens_of(around.module) else {
             return Ok(None);
         };
-        if levels == 0 {
+        if levels == 0 || !work.take() {
             return Ok(None);
         }
         let found = if tokens.is_word(at, "ALL") {
             Some((self.all_of_items(alloc, around)?, next(at)))
         } else {
-            self.element_of(alloc, around, at, levels - 1)?
+            self.element_of(alloc, around, at, levels - 1, work)?
         };
         let Some((allowed, behind)) = found else {
             return Ok(None);
@@ -118,33 +125,33 @@ impl<'a, 't> Subtypes<'a, 't> {
             return Ok(Some((allowed, behind)));
         }
         let out = next(behind);
-        if let Some((value, behind)) = self.value_taken_out(alloc, around, out, levels - 1)? {
+        if let Some((value, behind)) = self.value_taken_out(alloc, around, out, levels - 1, work)? {
             let others = Allowed::others(Constraint::Except(value), 1);
             return Ok(Some((allowed.and(alloc, others)?, behind)));
         }
-        match self.element_of(alloc, around, out, levels - 1)? {
+        match self.element_of(alloc, around, out, levels - 1, work)? {
             Some((other, behind)) => Ok(Some((allowed.except(alloc, other)?, behind))),
             None => Ok(None),
         }
     }
 
     /// The value at `at` that EXCEPT takes out, and the index after it; `None` where the values are a set, or it is not read.
-    #[cycle(allowed)]
     fn value_taken_out(
         &self,
         alloc: Global,
         around: Around,
         at: usize,
         levels: u32,
+        work: &mut Work,
     ) -> Result<Option<(Value, usize)>, AllocError> {
         let Some(node) = self.tagging.forest.node(around.base) else {
             return Ok(None);
         };
         let is_set = matches!(node.shape, Shape::Integer { .. } | Shape::Enumerated { .. });
-        if is_set || around.of != Of::Values || levels == 0 {
+        if is_set || around.of != Of::Values || levels == 0 || !work.take() {
             return Ok(None);
         }
-        self.value_at(alloc, around, at, levels - 1)
+        self.value_at(alloc, around, at, levels - 1, work)
     }
 
     /// What ALL allows: of an ENUMERATED each item.
@@ -152,7 +159,7 @@ impl<'a, 't> Subtypes<'a, 't> {
         let Some(count) = self.count_of_items(alloc, around.base)? else {
             return Ok(Allowed::all());
         };
-        let last = i128::from(count).saturating_sub(1);
+        let last = (count as i128).saturating_sub(1);
         Ok(Allowed {
             items: Some(between(alloc, 0, last)?),
             ..Allowed::all()
@@ -167,27 +174,28 @@ impl<'a, 't> Subtypes<'a, 't> {
         around: Around,
         at: usize,
         levels: u32,
+        work: &mut Work,
     ) -> Result<Element, AllocError> {
         let Some(tokens) = self.values.world.tokens_of(around.module) else {
             return Ok(None);
         };
-        if levels == 0 {
+        if levels == 0 || !work.take() {
             return Ok(None);
         }
         if tokens.is(at, Sign::LeftParen) {
-            let allowed = self.group_of(alloc, around, at, levels - 1)?;
+            let allowed = self.group_of(alloc, around, at, levels - 1, work)?;
             return Ok(Some((allowed, tokens.after(at))));
         }
         if is_contained(tokens, at) || tokens.is_word(at, "INCLUDES") {
-            if let Some(found) = self.worded_of(alloc, around, at, levels - 1)? {
+            if let Some(found) = self.worded_of(alloc, around, at, levels - 1, work)? {
                 return Ok(Some(found));
             }
-            return self.contained_of(alloc, around, at, levels - 1);
+            return self.contained_of(alloc, around, at, levels - 1, work);
         }
         if around.of != Of::Values {
             return self.numbers_at(alloc, around, at);
         }
-        self.single_of(alloc, around, at, levels - 1)
+        self.single_of(alloc, around, at, levels - 1, work)
     }
 
     /// What the constraint at `at` allows that begins with a word of its own, and the index after it; `None` where none does.
@@ -198,37 +206,70 @@ impl<'a, 't> Subtypes<'a, 't> {
         around: Around,
         at: usize,
         levels: u32,
+        work: &mut Work,
     ) -> Result<Element, AllocError> {
         let Some(tokens) = self.values.world.tokens_of(around.module) else {
             return Ok(None);
         };
-        if levels == 0 || around.of != Of::Values {
+        if levels == 0 || !work.take() || around.of != Of::Values {
             return Ok(None);
         }
         let second = next(at);
-        if tokens.is_word(at, "SIZE") {
-            let around = Around { of: Of::Sizes, ..around };
-            let inner = self.group_of(alloc, around, second, levels - 1)?;
+        if tokens.is_word(at, "SIZE") && self.has_lengths(around.base) {
+            let around = Around {
+                of: Of::Sizes,
+                ..around
+            };
+            let inner = self.group_of(alloc, around, second, levels - 1, work)?;
             return Ok(Some((sizes_of(inner), tokens.after(second))));
         }
-        if tokens.is_word(at, "FROM") {
-            let around = Around { of: Of::Letters, ..around };
-            let inner = self.group_of(alloc, around, second, levels - 1)?;
+        if tokens.is_word(at, "FROM") && self.has_letters(around.base) {
+            let around = Around {
+                of: Of::Letters,
+                ..around
+            };
+            let inner = self.group_of(alloc, around, second, levels - 1, work)?;
             return Ok(Some((letters_of(inner), tokens.after(second))));
         }
         if tokens.is_word(at, "WITH") && tokens.is_word(second, "COMPONENT") {
             let inside = next(second);
-            let allowed = self.element_constraint(alloc, around, inside, levels - 1)?;
+            let allowed = self.element_constraint(alloc, around, inside, levels - 1, work)?;
             return Ok(Some((allowed, tokens.after(inside))));
         }
         if tokens.is_word(at, "WITH") && tokens.is_word(second, "COMPONENTS") {
             let braces = next(second);
-            let allowed = self.inner_of(alloc, around, braces, levels - 1)?;
+            let allowed = self.inner_of(alloc, around, braces, levels - 1, work)?;
             return Ok(Some((allowed, tokens.after(braces))));
+        }
+        if tokens.is_word(at, "SIZE") || tokens.is_word(at, "FROM") {
+            return Ok(Some((Allowed::missing(), tokens.after(second))));
         }
         match after_unseen(tokens, at) {
             Some(behind) => Ok(Some((Allowed::missing(), behind))),
             None => Ok(None),
+        }
+    }
+
+    /// Whether the values of a node have lengths.
+    fn has_lengths(&self, base: usize) -> bool {
+        match self.tagging.forest.node(base) {
+            Some(node) => matches!(
+                node.shape,
+                Shape::Bits { .. }
+                    | Shape::Octets
+                    | Shape::Text(_)
+                    | Shape::Utf8
+                    | Shape::List { .. }
+            ),
+            None => false,
+        }
+    }
+
+    /// Whether the values of a node have characters of a byte each.
+    fn has_letters(&self, base: usize) -> bool {
+        match self.tagging.forest.node(base) {
+            Some(node) => matches!(node.shape, Shape::Text(_)),
+            None => false,
         }
     }
 
@@ -271,13 +312,13 @@ impl<'a, 't> Subtypes<'a, 't> {
     }
 
     /// What the value or the range at `at` allows, and the index after it.
-    #[cycle(allowed)]
     fn single_of(
         &self,
         alloc: Global,
         around: Around,
         at: usize,
         levels: u32,
+        work: &mut Work,
     ) -> Result<Element, AllocError> {
         let (Some(tokens), Some(node)) = (
             self.values.world.tokens_of(around.module),
@@ -285,7 +326,7 @@ impl<'a, 't> Subtypes<'a, 't> {
         ) else {
             return Ok(None);
         };
-        if levels == 0 {
+        if levels == 0 || !work.take() {
             return Ok(None);
         }
         if let Shape::Integer { named } = node.shape {
@@ -298,7 +339,7 @@ impl<'a, 't> Subtypes<'a, 't> {
             node.shape,
             Shape::Boolean | Shape::Null | Shape::Enumerated { .. }
         ) {
-            if let Some((value, behind)) = self.value_at(alloc, around, at, levels - 1)? {
+            if let Some((value, behind)) = self.value_at(alloc, around, at, levels - 1, work)? {
                 return Ok(Some((only_value(alloc, value)?, behind)));
             }
         }
@@ -319,6 +360,7 @@ impl<'a, 't> Subtypes<'a, 't> {
         around: Around,
         at: usize,
         levels: u32,
+        work: &mut Work,
     ) -> Result<Element, AllocError> {
         let Some(tokens) = self.values.world.tokens_of(around.module) else {
             return Ok(None);
@@ -338,7 +380,7 @@ impl<'a, 't> Subtypes<'a, 't> {
         if !self.is_alike(around, first) {
             return Ok(Some((Allowed::missing(), behind)));
         }
-        let mut allowed = self.whole_of(alloc, first, levels - 1)?;
+        let mut allowed = self.whole_of(alloc, first, levels - 1, work)?;
         allowed.is_marked = false;
         Ok(Some((allowed, behind)))
     }
@@ -391,10 +433,7 @@ fn one_of(alloc: Global, one: Option<Allowed>, other: Allowed) -> Result<Allowed
 fn only_value(alloc: Global, value: Value) -> Result<Allowed, AllocError> {
     match value {
         Value::Null => Ok(Allowed::all()),
-        Value::Bool(truth) => Ok(Allowed::others(
-            Constraint::Except(Value::Bool(!truth)),
-            1,
-        )),
+        Value::Bool(truth) => Ok(Allowed::others(Constraint::Except(Value::Bool(!truth)), 1)),
         Value::Enum(position) => Ok(Allowed {
             items: Some(only(alloc, i128::from(position))?),
             ..Allowed::all()

@@ -1,7 +1,7 @@
 //! Reads constraints on the parts of a type (X.680, "inner subtyping").
 use crate::allowed::Allowed;
 use crate::parts::{Parts, Said};
-use crate::subtypes::{Around, Of, Subtypes};
+use crate::subtypes::{Around, Of, Subtypes, Work};
 use asn_published_text::nodes::Shape;
 use asn_published_text::token::Sign;
 use asn_published_text::tokens::{Tokens, next};
@@ -29,6 +29,7 @@ impl<'a, 't> Subtypes<'a, 't> {
         around: Around,
         at: usize,
         levels: u32,
+        work: &mut Work,
     ) -> Result<Allowed, AllocError> {
         let Some(node) = self.tagging.forest.node(around.base) else {
             return Ok(Allowed::missing());
@@ -36,10 +37,10 @@ impl<'a, 't> Subtypes<'a, 't> {
         let Shape::List { element, .. } = node.shape else {
             return Ok(Allowed::missing());
         };
-        if levels == 0 {
+        if levels == 0 || !work.take() {
             return Ok(Allowed::missing());
         }
-        let inner = self.part_constraint(alloc, around, element, at, levels - 1)?;
+        let inner = self.part_constraint(alloc, around, element, at, levels - 1, work)?;
         inner.elements(alloc)
     }
 
@@ -52,20 +53,21 @@ impl<'a, 't> Subtypes<'a, 't> {
         index: usize,
         at: usize,
         levels: u32,
+        work: &mut Work,
     ) -> Result<Allowed, AllocError> {
         let Some(base) = self.base_of(index) else {
             return Ok(Allowed::missing());
         };
-        if levels == 0 {
+        if levels == 0 || !work.take() {
             return Ok(Allowed::missing());
         }
-        let whole = self.whole_of(alloc, index, levels - 1)?;
+        let whole = self.whole_of(alloc, index, levels - 1, work)?;
         let inside = Around {
             base,
             of: Of::Values,
             ..around
         };
-        let allowed = self.group_of(alloc, inside.after(&whole), at, levels - 1)?;
+        let allowed = self.group_of(alloc, inside.after(&whole), at, levels - 1, work)?;
         if allowed.is_marked {
             return Ok(Allowed::all());
         }
@@ -80,6 +82,7 @@ impl<'a, 't> Subtypes<'a, 't> {
         around: Around,
         braces: usize,
         levels: u32,
+        work: &mut Work,
     ) -> Result<Allowed, AllocError> {
         let Some(tokens) = self.values.world.tokens_of(around.module) else {
             return Ok(Allowed::missing());
@@ -87,9 +90,10 @@ impl<'a, 't> Subtypes<'a, 't> {
         let Some(mut parts) = self.parts_of(alloc, around.base)? else {
             return Ok(Allowed::missing());
         };
-        if levels == 0 || !tokens.is(braces, Sign::LeftBrace) {
+        if levels == 0 || !work.take() || !tokens.is(braces, Sign::LeftBrace) {
             return Ok(Allowed::missing());
         }
+        work.take_more(parts.len());
         let end = tokens.other(braces);
         let mut at = next(braces);
         for _ in 0..tokens.len() {
@@ -100,7 +104,7 @@ impl<'a, 't> Subtypes<'a, 't> {
                 parts.is_partial = true;
                 at = next(at);
             } else {
-                match self.part_at(alloc, around, &mut parts, at, levels - 1)? {
+                match self.part_at(alloc, around, &mut parts, at, levels - 1, work)? {
                     Some(behind) => at = behind,
                     None => return Ok(Allowed::missing()),
                 }
@@ -110,25 +114,25 @@ impl<'a, 't> Subtypes<'a, 't> {
             }
             at = next(at);
         }
-        self.judge_defaults(alloc, &mut parts, levels - 1)?;
+        self.judge_defaults(alloc, &mut parts, levels - 1, work)?;
         parts.allowed(alloc)
     }
 
     /// Takes of each component with a DEFAULT whether that value is allowed: if it is not, the component is there.
-    #[cycle(allowed)]
     fn judge_defaults(
         &self,
         alloc: Global,
         parts: &mut Parts<'t>,
         levels: u32,
+        work: &mut Work,
     ) -> Result<(), AllocError> {
         for place in 0..parts.len() {
             let Some((index, at)) = parts.default_at(place) else {
                 continue;
             };
-            let value = match (self.tagging.forest.node(index), self.base_of(index)) {
-                (Some(node), Some(base)) if levels > 0 && !self.has_bits(base) => {
-                    self.value_at(alloc, Around::of(&node, base), at, levels - 1)?
+            let value = match self.place_of_default(index) {
+                Some(around) if levels > 0 && !self.has_bits(around.base) => {
+                    self.value_at(alloc, around, at, levels - 1, work)?
                 }
                 _ => None,
             };
@@ -138,7 +142,7 @@ impl<'a, 't> Subtypes<'a, 't> {
     }
 
     /// Whether a node is a BIT STRING.
-    fn has_bits(&self, base: usize) -> bool {
+    pub(crate) fn has_bits(&self, base: usize) -> bool {
         match self.tagging.forest.node(base) {
             Some(node) => matches!(node.shape, Shape::Bits { .. }),
             None => true,
@@ -154,6 +158,7 @@ impl<'a, 't> Subtypes<'a, 't> {
         parts: &mut Parts<'t>,
         at: usize,
         levels: u32,
+        work: &mut Work,
     ) -> Result<Option<usize>, AllocError> {
         let Some(tokens) = self.values.world.tokens_of(around.module) else {
             return Ok(None);
@@ -161,14 +166,14 @@ impl<'a, 't> Subtypes<'a, 't> {
         let Some(place) = parts.place_of(tokens.text(at)) else {
             return Ok(None);
         };
-        if levels == 0 {
+        if levels == 0 || !work.take() {
             return Ok(None);
         }
         let mut allowed = Allowed::all();
         let mut behind = next(at);
         if tokens.is(behind, Sign::LeftParen) {
             let node = parts.node_of(place);
-            allowed = self.part_constraint(alloc, around, node, behind, levels - 1)?;
+            allowed = self.part_constraint(alloc, around, node, behind, levels - 1, work)?;
             behind = tokens.after(behind);
         }
         let said = said_at(tokens, behind);

@@ -127,6 +127,5 @@ pub fn outside(alloc: Global, set: &[Interval]) -> Result<Vec<Interval>, AllocEr
 
 /// Whether each number between two bounds is in a set.
 pub fn covers(set: &[Interval], whole: Interval) -> bool {
-    set.iter()
-        .any(|interval| interval.low <= whole.low && whole.high <= interval.high)
+    set.iter().any(|interval| interval.low <= whole.low && whole.high <= interval.high)
 }

@@ -35,3 +35,4 @@ pub mod subtypes;
 pub mod tags;
 pub mod tree;
 mod value_notation;
+mod value_parts;

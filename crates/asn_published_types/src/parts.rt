@@ -96,7 +96,12 @@ impl<'a, 't> Subtypes<'a, 't> {
             depth: 1,
             is_missing: false,
         };
-        for (place, placed) in layout.root.iter().chain(layout.additions.iter()).enumerate() {
+        for (place, placed) in layout
+            .root
+            .iter()
+            .chain(layout.additions.iter())
+            .enumerate()
+        {
             let is_addition = place >= layout.root.len();
             self.push_part(alloc, &mut parts, placed.member, place, is_addition)?;
         }
@@ -184,6 +189,26 @@ impl<'t> Parts<'t> {
         self.parts.len()
     }
 
+    /// Whether they are alternatives.
+    pub fn is_choice(&self) -> bool {
+        self.is_choice
+    }
+
+    /// Whether they are components of a root without DEFAULT.
+    pub fn are_plain(&self) -> bool {
+        !self.is_choice
+            && self.groups.is_empty()
+            && self.parts.iter().all(|part| {
+                !part.is_addition && !matches!(part.need, Need::Default { .. })
+            })
+    }
+
+    /// Whether each component has an entry that has to have one.
+    pub fn are_given(&self, entries: &[Option<Value>]) -> bool {
+        self.parts.iter().zip(entries.iter()).all(|(part, entry)| entry.is_some()
+            || matches!(part.need, Need::Optional))
+    }
+
     /// The index of the part of a name.
     pub fn place_of(&self, name: &str) -> Option<usize> {
         self.parts
@@ -261,7 +286,9 @@ impl<'t> Parts<'t> {
     /// The constraint on the alternatives of a CHOICE.
     fn alternatives(self, alloc: Global) -> Result<Constraint, AllocError> {
         let Parts {
-            parts, is_partial, ..
+            parts,
+            is_partial,
+            ..
         } = self;
         let has_present = parts.iter().any(|part| part.said == Said::Present);
         let mut alternatives = Vec::new(alloc);

@@ -26,6 +26,8 @@ pub struct Step {
     pub remarks: Vec<Remark>,
     /// Which of its values the published type has, as far as no encoding shows it.
     pub constraint: Constraint,
+    /// Whether the constraint has that of the type that it names.
+    pub is_whole: bool,
     pub holds: Holds,
     /// The type that it names, by its index among those that are written.
     pub to: Option<usize>,
@@ -130,6 +132,7 @@ impl Trail {
             end: 0,
             remarks: Vec::new(alloc),
             constraint: Constraint::Free,
+            is_whole: false,
             holds: Holds::Nothing,
             to: None,
             is_bottom: false,
@@ -162,6 +165,13 @@ impl Trail {
     pub fn hold(&mut self, holds: Holds) {
         if let Some(step) = self.steps.last_mut() {
             step.holds = holds;
+        }
+    }
+
+    /// Takes that the constraint of the last node has that of the type that it names.
+    pub fn take_whole(&mut self) {
+        if let Some(step) = self.steps.last_mut() {
+            step.is_whole = true;
         }
     }
 
@@ -227,11 +237,7 @@ impl Trail {
             None => true,
         };
         Marked {
-            steps: if is_needless {
-                Vec::new(alloc)
-            } else {
-                steps
-            },
+            steps: if is_needless { Vec::new(alloc) } else { steps },
             has_bottom,
         }
     }
@@ -272,7 +278,7 @@ fn ending_of(steps: &[Step], index: usize, types: &[Marked]) -> Ending {
     let mut is_free = matches!(&step.constraint, Constraint::Free);
     if let Some(to) = step.to {
         is_clean &= !is_marked(types, to);
-        is_free &= !is_constrained(types, to);
+        is_free &= step.is_whole || !is_constrained(types, to);
     }
     let mut at = index.saturating_add(1);
     for _ in index..steps.len() {

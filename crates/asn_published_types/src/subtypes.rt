@@ -16,6 +16,40 @@ const MOST_NAMES: u32 = 100;
 /// How deep constraints are read: some levels for each parenthesis and each type inside another.
 const MOST_LEVELS: u32 = 128;
 
+/// How much is still read of the constraints of all types: short texts can name the same constraints again and again.
+#[derive(Clone, Copy)]
+pub struct Work {
+    left: usize,
+}
+
+/// How much is read of the constraints of all types at least, and for each of their nodes.
+const MOST_WORK: usize = 1000000;
+
+const FOR_EACH_NODE: usize = 100;
+
+impl Work {
+    /// What may be read of types that have so many nodes.
+    pub fn of(nodes: usize) -> Work {
+        Work {
+            left: nodes
+                .saturating_mul(FOR_EACH_NODE)
+                .saturating_add(MOST_WORK),
+        }
+    }
+
+    /// Takes so many pieces more.
+    pub(crate) fn take_more(&mut self, pieces: usize) {
+        self.left = self.left.saturating_sub(pieces);
+    }
+
+    /// Takes one piece of what is left, and returns whether there was one.
+    pub(crate) fn take(&mut self) -> bool {
+        let is_left = self.left > 0;
+        self.left = self.left.saturating_sub(1);
+        is_left
+    }
+}
+
 /// What the constraints of types are read with.
 #[derive(Clone, Copy)]
 pub struct Subtypes<'a, 't> {
@@ -56,7 +90,7 @@ impl Around {
     }
 
     /// The same place, after constraints that allow these values.
-    fn after(self, allowed: &Allowed) -> Around {
+    pub(crate) fn after(self, allowed: &Allowed) -> Around {
         Around {
             lengths: hull_within(self.lengths, &allowed.lengths),
             ..self
@@ -128,32 +162,61 @@ impl<'a, 't> Subtypes<'a, 't> {
         None
     }
 
-    /// Which values the constraints of a node allow, and those of the types that it names only where a marker ends them:
-    /// it is no marker of a type with further constraints (X.680, "serial application of constraints").
-    pub fn allowed_at(&self, alloc: Global, index: usize) -> Result<Allowed, AllocError> {
-        let mut total = self.own_of(alloc, index, false, MOST_LEVELS)?;
-        let is_bare = match self.tagging.forest.node(index) {
+    /// Whether a node has constraints of its own.
+    pub fn is_constrained(&self, index: usize) -> bool {
+        match self.tagging.forest.node(index) {
             Some(node) => {
                 let (start, end) = extent_of(&node);
-                start >= end
+                start < end
             }
-            None => true,
-        };
+            None => false,
+        }
+    }
+
+    /// Which values the constraints of a node allow. Those of the types that it names are given where they do not come with
+    /// these types: where a marker ends them, which ends there (X.680, "serial application of constraints"), and where one
+    /// ends those of the node, after which each value of its parent may come.
+    pub fn allowed_at(
+        &self,
+        alloc: Global,
+        index: usize,
+        work: &mut Work,
+    ) -> Result<Allowed, AllocError> {
+        let own = self.own_of(alloc, index, false, MOST_LEVELS, work)?;
+        if !self.is_constrained(index) {
+            return Ok(own);
+        }
+        let is_marked = own.is_marked;
+        let mut total = own;
         let mut at = self.named_by(index);
         for _ in 0..MOST_NAMES {
             let Some(name) = at else {
                 break;
             };
-            if is_bare {
-                break;
-            }
-            let root = self.own_of(alloc, name, true, MOST_LEVELS)?;
-            if root.is_marked {
+            let root = self.own_of(alloc, name, true, MOST_LEVELS, work)?;
+            if is_marked || root.is_marked {
                 total = total.and(alloc, root)?;
             }
             at = self.named_by(name);
         }
         Ok(total)
+    }
+
+    /// Which values the constraints of a node allow and those of the types that it names.
+    pub fn allowed_with_names(
+        &self,
+        alloc: Global,
+        index: usize,
+        work: &mut Work,
+    ) -> Result<Allowed, AllocError> {
+        let own = self.own_of(alloc, index, false, MOST_LEVELS, work)?;
+        match self.named_by(index) {
+            Some(name) => {
+                let names = self.whole_of(alloc, name, MOST_LEVELS, work)?;
+                own.and(alloc, names)
+            }
+            None => Ok(own),
+        }
     }
 
     /// Which values the constraints of a node allow and those of the types that it names, without what a marker adds.
@@ -163,14 +226,15 @@ impl<'a, 't> Subtypes<'a, 't> {
         alloc: Global,
         index: usize,
         levels: u32,
+        work: &mut Work,
     ) -> Result<Allowed, AllocError> {
-        if levels == 0 {
+        if levels == 0 || !work.take() {
             return Ok(Allowed::missing());
         }
         let mut total = Allowed::all();
         let mut at = index;
         for _ in 0..MOST_NAMES {
-            let own = self.own_of(alloc, at, true, levels - 1)?;
+            let own = self.own_of(alloc, at, true, levels - 1, work)?;
             total = total.and(alloc, own)?;
             match self.named_by(at) {
                 Some(name) => at = name,
@@ -189,6 +253,7 @@ impl<'a, 't> Subtypes<'a, 't> {
         index: usize,
         is_root: bool,
         levels: u32,
+        work: &mut Work,
     ) -> Result<Allowed, AllocError> {
         let Some(node) = self.tagging.forest.node(index) else {
             return Ok(Allowed::missing());
@@ -203,12 +268,12 @@ impl<'a, 't> Subtypes<'a, 't> {
         ) else {
             return Ok(Allowed::missing());
         };
-        if levels == 0 {
+        if levels == 0 || !work.take() {
             return Ok(Allowed::missing());
         }
         let mut around = Around::of(&node, base);
         if let Some(name) = self.named_by(index) {
-            let parent = self.whole_of(alloc, name, levels - 1)?;
+            let parent = self.whole_of(alloc, name, levels - 1, work)?;
             around = around.after(&parent);
         }
         let mut total = Allowed::all();
@@ -224,9 +289,9 @@ impl<'a, 't> Subtypes<'a, 't> {
             }
             let is_size = tokens.is_word(at, "SIZE");
             let one = if is_size {
-                self.set_of(alloc, around, at, end, levels - 1)?
+                self.set_of(alloc, around, at, end, levels - 1, work)?
             } else {
-                self.group_of(alloc, around, at, levels - 1)?
+                self.group_of(alloc, around, at, levels - 1, work)?
             };
             at = if is_size { end } else { tokens.after(at) };
             around = around.after(&one);

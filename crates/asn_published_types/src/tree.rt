@@ -66,8 +66,8 @@ fn tree_at(
             return both(alloc, total, held);
         }
         match step.to {
-            Some(index) => at = Place { index, step: 0 },
-            None => return Ok(total),
+            Some(index) if !step.is_whole => at = Place { index, step: 0 },
+            _ => return Ok(total),
         }
     }
     Ok(total)

@@ -2,7 +2,7 @@
 use crate::items::items_of;
 use crate::numbers::Scope;
 use crate::quoted::{bits_of, characters_of, octets_of};
-use crate::subtypes::{Around, Of, Subtypes};
+use crate::subtypes::{Around, Of, Subtypes, Work};
 use asn_published_text::extents::after_tags;
 use asn_published_text::modules::What;
 use asn_published_text::nodes::{Node, Shape};
@@ -14,7 +14,7 @@ use asn_values::profile::{HIGHEST_INTEGER, LOWEST_INTEGER, MAX_SIZE_BOUND};
 use std::alloc::{AllocError, Global};
 
 /// A value, and the index after it; `None` where it is not read.
-type Read = Option<(Value, usize)>;
+pub(crate) type Read = Option<(Value, usize)>;
 
 /// How deep values are read.
 const MOST_LEVELS: u32 = 64;
@@ -61,26 +61,34 @@ impl<'a, 't> Subtypes<'a, 't> {
         index: usize,
         start: usize,
         end: usize,
+        work: &mut Work,
     ) -> Result<Option<Value>, AllocError> {
-        let (Some(node), Some(base)) = (self.tagging.forest.node(index), self.base_of(index)) else {
+        let Some(around) = self.place_of_default(index) else {
             return Ok(None);
         };
-        let whole = self.whole_of(alloc, index, MOST_LEVELS)?;
-        let around = Around::of(&node, base).after(&whole);
-        match self.value_at(alloc, around, start, MOST_LEVELS)? {
+        let whole = self.whole_of(alloc, index, MOST_LEVELS, work)?;
+        match self.value_at(alloc, around.after(&whole), start, MOST_LEVELS, work)? {
             Some((value, behind)) if behind == end => Ok(Some(value)),
             _ => Ok(None),
         }
     }
 
+    /// Where the DEFAULT of a component is, whose type is a node: in the text of the type that holds the component.
+    pub(crate) fn place_of_default(&self, index: usize) -> Option<Around> {
+        let node = self.tagging.forest.node(index)?;
+        let holder = self.tagging.forest.node(node.parent)?;
+        Some(Around::of(&holder, self.base_of(index)?))
+    }
+
     /// The value at `at` of the type at a place, and the index after it.
-    #[cycle(allowed)]
+    #[cycle(values)]
     pub(crate) fn value_at(
         &self,
         alloc: Global,
         around: Around,
         at: usize,
         levels: u32,
+        work: &mut Work,
     ) -> Result<Read, AllocError> {
         let (Some(tokens), Some(node)) = (
             self.values.world.tokens_of(around.module),
@@ -88,7 +96,7 @@ impl<'a, 't> Subtypes<'a, 't> {
         ) else {
             return Ok(None);
         };
-        if levels == 0 || around.of != Of::Values {
+        if levels == 0 || !work.take() || around.of != Of::Values {
             return Ok(None);
         }
         let found = match node.shape {
@@ -100,23 +108,25 @@ impl<'a, 't> Subtypes<'a, 't> {
             Shape::Octets => octets_of(alloc, tokens, at)?,
             Shape::Text(_) => characters_of(alloc, tokens, at, false)?,
             Shape::Utf8 => characters_of(alloc, tokens, at, true)?,
-            Shape::List { .. } => empty_list(alloc, tokens, at),
+            Shape::List { .. } => self.list_value(alloc, around, at, levels - 1, work)?,
+            Shape::Members { .. } => self.members_value(alloc, around, at, levels - 1, work)?,
             _ => None,
         };
         match found {
             Some(value) => Ok(Some(value)),
-            None => self.value_of_name(alloc, around, at, levels - 1),
+            None => self.value_of_name(alloc, around, at, levels - 1, work),
         }
     }
 
     /// The value that the name at `at` is assigned, and the index after it.
-    #[cycle(allowed)]
+    #[cycle(values)]
     fn value_of_name(
         &self,
         alloc: Global,
         around: Around,
         at: usize,
         levels: u32,
+        work: &mut Work,
     ) -> Result<Read, AllocError> {
         let Ok((to, behind)) = self.values.world.reference_at(around.module, at) else {
             return Ok(None);
@@ -130,7 +140,7 @@ impl<'a, 't> Subtypes<'a, 't> {
             instance: None,
             ..around
         };
-        match self.value_at(alloc, there, it.start, levels - 1)? {
+        match self.value_at(alloc, there, it.start, levels - 1, work)? {
             Some((value, end)) if end == it.end => Ok(Some((value, behind))),
             _ => Ok(None),
         }
@@ -185,8 +195,24 @@ impl<'a, 't> Subtypes<'a, 't> {
         Ok(None)
     }
 
+    /// How many items the type of a node has; `None` where it is no ENUMERATED.
+    pub fn count_of_items_at(
+        &self,
+        alloc: Global,
+        index: usize,
+    ) -> Result<Option<usize>, AllocError> {
+        match self.base_of(index) {
+            Some(base) => self.count_of_items(alloc, base),
+            None => Ok(None),
+        }
+    }
+
     /// How many items an ENUMERATED has; `None` where the node is none.
-    pub fn count_of_items(&self, alloc: Global, base: usize) -> Result<Option<usize>, AllocError> {
+    pub(crate) fn count_of_items(
+        &self,
+        alloc: Global,
+        base: usize,
+    ) -> Result<Option<usize>, AllocError> {
         let Some(node) = self.tagging.forest.node(base) else {
             return Ok(None);
         };
@@ -291,15 +317,6 @@ fn truth_at(tokens: &Tokens<'_>, at: usize) -> Read {
         Some((Value::Bool(true), next(at)))
     } else if tokens.is_word(at, "FALSE") {
         Some((Value::Bool(false), next(at)))
-    } else {
-        None
-    }
-}
-
-/// The list without elements whose braces are at `at`, and the index after it.
-fn empty_list(alloc: Global, tokens: &Tokens<'_>, at: usize) -> Read {
-    if tokens.is(at, Sign::LeftBrace) && tokens.other(at) == next(at) {
-        Some((Value::List(Vec::new(alloc)), tokens.after(at)))
     } else {
         None
     }

@@ -42,7 +42,7 @@ spelt_step cs vs i c v b hc hv ec ev eb =
     let front : drop i cs ≡ c ∷ drop (i + 1) cs = drop_more cs i c hc ∙ ap (λ x. x ∷ drop (i + 1) cs) (sym ec) in
     let entry : drop i vs ≡ v ∷ drop (i + 1) vs = drop_more vs i v hv ∙ ap (λ x. x ∷ drop (i + 1) vs) (sym ev) in
     let judged : b ≡ entry_meets any (λ d. meets (spelling (on_one c).constraint) d) (option_map datum_of v) =
-        eb ∙ ap (λ x. entry_meets any (λ d. meets (spelling x) d) (option_map datum_of v)) (sym (on_one_constraint c)) in
+    eb ∙ ap (λ x. entry_meets any (λ d. meets (spelling x) d) (option_map datum_of v)) (sym (on_one_constraint c)) in
     ap (λ x. meet_each (spelling_of_components (components_seen x)) (entries_seen (drop i vs))) front
     ∙ (ap (λ x. meet_each (spelling_of_components (components_seen (c ∷ drop (i + 1) cs))) (entries_seen x)) entry
     ∙ ap (λ x. x && meet_each (spelling_of_components (components_seen (drop (i + 1) cs))) (entries_seen (drop (i + 1) vs))) (sym judged))

@@ -65,10 +65,7 @@ fn copied(alloc: Global, constraint: &Constraint) -> Result<Constraint, AllocErr
 
 /// The same constraints on components once more.
 #[cycle(copied)]
-fn copied_components(
-    alloc: Global,
-    components: &[Component],
-) -> Result<Vec<Component>, AllocError>
+fn copied_components(alloc: Global, components: &[Component]) -> Result<Vec<Component>, AllocError>
     ensures { IfOk result (λ v. map on_one v.items ≡ map on_one components.now) }
 {
     let mut copies = Vec::with_capacity(alloc, components.len())?;

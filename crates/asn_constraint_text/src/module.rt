@@ -1,0 +1,148 @@
+//! Modules whose texts have constraints of their names.
+ghost use Rattle.std.specs.Prelude.{IfOk};
+ghost use Rattle.asn_module.specs.Accepted.{Accepted};
+ghost use Rattle.asn_module.specs.ModuleView.{types_view};
+
+use crate::cursor::Cursor;
+use crate::fault::{ConstrainedFault, ConstraintTextFault};
+use crate::lines::constraint_line;
+use crate::reading::constraint_after;
+use crate::references::{References, references_of};
+use asn_constraints::Constraint;
+use asn_module::{Module, read};
+use asn_notation::{AssignmentNotation, read_notation};
+use asn_values::profile::MAX_LEVELS;
+use std::alloc::{AllocError, Global};
+use std::collections::HashMap;
+
+/// A name of a module: what its type refers to, and the constraint of its line, if it has one.
+#[derive(Debug, Drop)]
+pub(crate) struct Named {
+    pub references: References,
+    pub own: Option<Constraint>,
+}
+
+/// A module, and the constraints of its names that its text has.
+#[derive(Debug, Drop)]
+pub struct ConstrainedModule {
+    pub module: Module,
+    /// The names in the order of the text, and the index of each.
+    pub(crate) names: Vec<Named>,
+    pub(crate) indices: HashMap<String, usize>,
+}
+
+/// The module that a text is, with the constraints of its names: each on a line of its own, which begins with `--:` and
+/// has the name and the constraint as `constraint_text` writes it.
+///
+/// # Errors
+/// `Module` with what `asn_module::read` reports. Else `Line` at the first line with `--:` that is none of a name and a
+/// constraint of its type, or has a name a second time. `Memory` where an allocation failed.
+pub fn read_constrained(alloc: Global, text: &str) -> Result<ConstrainedModule, ConstrainedFault>
+    ensures { IfOk result (λ m. Accepted text.now (types_view m.module)) }
+{
+    match read(alloc, text) {
+        Ok(module) => ConstrainedModule::new(alloc, module, text),
+        Err(fault) => Err(ConstrainedFault::Module(fault)),
+    }
+}
+
+impl ConstrainedModule {
+    /// The module of a text that was read, with the constraints of that text.
+    ///
+    /// # Errors
+    /// As `read_constrained`, without `Module`.
+    pub fn new(
+        alloc: Global,
+        module: Module,
+        text: &str,
+    ) -> Result<ConstrainedModule, ConstrainedFault>
+        ensures { IfOk result (λ m. m.module ≡ module) }
+    {
+        let Ok(notation) = read_notation(alloc, text, MAX_LEVELS) else {
+            return Err(ConstrainedFault::Memory);
+        };
+        let indices = indices_of(alloc, &notation.assignments)?;
+        let mut names = names_of(alloc, &notation.assignments, &indices)?;
+        for (index, line) in text.lines().enumerate() {
+            match read_line(alloc, &module, &indices, &mut names, line) {
+                Ok(()) => {}
+                Err(ConstraintTextFault::Memory) => return Err(ConstrainedFault::Memory),
+                Err(fault) => {
+                    return Err(ConstrainedFault::Line {
+                        line: index.saturating_add(1),
+                        fault,
+                    });
+                }
+            }
+        }
+        Ok(ConstrainedModule {
+            module,
+            names,
+            indices,
+        })
+    }
+
+    /// The constraint that the text has for a name; None where it has none. Takes no memory.
+    pub fn own_constraint(&self, name: &str) -> Option<&Constraint> {
+        let index = *self.indices.get(name)?;
+        self.names.get(index)?.own.as_ref()
+    }
+}
+
+/// The index of each name.
+fn indices_of(
+    alloc: Global,
+    assignments: &[AssignmentNotation<'_>],
+) -> Result<HashMap<String, usize>, AllocError> {
+    let mut indices = HashMap::new(alloc);
+    for (index, assignment) in assignments.iter().enumerate() {
+        indices.insert(String::from_str(alloc, assignment.name)?, index)?;
+    }
+    Ok(indices)
+}
+
+/// What the type of each name refers to.
+fn names_of(
+    alloc: Global,
+    assignments: &[AssignmentNotation<'_>],
+    indices: &HashMap<String, usize>,
+) -> Result<Vec<Named>, AllocError> {
+    let mut names = Vec::new(alloc);
+    for assignment in assignments {
+        let references = references_of(alloc, &assignment.ty, indices)?;
+        names.push(Named {
+            references,
+            own: None,
+        })?;
+    }
+    Ok(names)
+}
+
+/// Reads a line, and keeps its constraint if it has one.
+fn read_line(
+    alloc: Global,
+    module: &Module,
+    indices: &HashMap<String, usize>,
+    names: &mut Vec<Named>,
+    line: &str,
+) -> Result<(), ConstraintTextFault> {
+    let Some(mut cursor) = constraint_line(line)? else {
+        return Ok(());
+    };
+    let Some(name) = name_at(&mut cursor) else {
+        return Err(cursor.fault("a name of the module"));
+    };
+    match (indices.get(name), module.type_named(name)) {
+        (Some(index), Some(ty)) if *index < names.len() && names[*index].own.is_none() => {
+            let _ = cursor.take_word();
+            names[*index].own = Some(constraint_after(alloc, ty.get(), &mut cursor)?);
+            Ok(())
+        }
+        _ => Err(cursor.fault("a name of the module, once")),
+    }
+}
+
+/// The name that comes next.
+fn name_at<'t>(cursor: &mut Cursor<'t>) -> Option<&'t str> {
+    std::str::from_utf8(cursor.word()).ok()
+}

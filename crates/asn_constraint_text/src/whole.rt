@@ -1,0 +1,225 @@
+//! The constraint of a name, with those of the names that its type refers to.
+use crate::copying::{copy, take};
+use crate::fault::WholeFault;
+use crate::module::{ConstrainedModule, Named};
+use crate::references::References;
+use asn_constraints::{Component, Constraint, Presence};
+use asn_values::internal::additions;
+use asn_values::{Alt, AsnType, Field};
+use std::alloc::{AllocError, Global};
+
+/// How many parts the constraint of a name may have: constraints, components, intervals, items, lengths, and what is in
+/// values.
+pub const MOST_PARTS: usize = 1_000_000;
+
+impl ConstrainedModule {
+    /// The whole constraint of the type of a name: the one that the text has for it, and at each place of the type that
+    /// refers to another name that name's. None where the module assigns no such name; `Constraint::Free` exactly where
+    /// neither the text nor a name has a constraint, all along.
+    ///
+    /// # Errors
+    /// `TooLarge` where it has more than `MOST_PARTS`; `Memory` where an allocation failed.
+    pub fn constraint_named(
+        &self,
+        alloc: Global,
+        name: &str,
+    ) -> Result<Option<Constraint>, WholeFault> {
+        let (Some(ty), Some(index)) = (self.module.type_named(name), self.indices.get(name)) else {
+            return Ok(None);
+        };
+        let mut room = MOST_PARTS;
+        let named = References::Name(*index);
+        let constraint = whole(alloc, ty.get(), &named, &self.names, &mut room)?;
+        Ok(Some(constraint))
+    }
+}
+
+/// Both constraints, or the other one where one is free.
+fn both(alloc: Global, first: Constraint, second: Constraint) -> Result<Constraint, AllocError> {
+    if is_free(&first) {
+        return Ok(second);
+    }
+    if is_free(&second) {
+        return Ok(first);
+    }
+    Ok(Constraint::Both(Box::new(alloc, first)?, Box::new(alloc, second)?))
+}
+
+/// Whether each value meets it, as is written.
+fn is_free(constraint: &Constraint) -> bool {
+    matches!(constraint, Constraint::Free)
+}
+
+/// The constraint of a type that refers to these names.
+#[cycle(whole)]
+fn whole(
+    alloc: Global,
+    ty: &AsnType,
+    references: &References,
+    names: &[Named],
+    room: &mut usize,
+) -> Result<Constraint, WholeFault> {
+    take(room, 1)?;
+    let References::Name(index) = references else {
+        return inside(alloc, ty, references, names, room);
+    };
+    let last = last_name(names, *index);
+    let own = along(alloc, names, *index, room)?;
+    match names.get(last) {
+        Some(named) => {
+            let inner = inside(alloc, ty, &named.references, names, room)?;
+            Ok(both(alloc, own, inner)?)
+        }
+        None => Ok(own),
+    }
+}
+
+/// The name whose type the type of a name refers to, if it only refers to one.
+fn next_name(names: &[Named], index: usize) -> Option<usize> {
+    match names.get(index)?.references {
+        References::Name(next) => Some(next),
+        References::None | References::Parts(_) | References::Elements(_) => None,
+    }
+}
+
+/// The last name on the way from one to the next.
+fn last_name(names: &[Named], first: usize) -> usize {
+    let mut last = first;
+    for _ in names {
+        match next_name(names, last) {
+            Some(next) => last = next,
+            None => break,
+        }
+    }
+    last
+}
+
+/// The constraints that the text has for the names on the way from one to the next.
+fn along(
+    alloc: Global,
+    names: &[Named],
+    first: usize,
+    room: &mut usize,
+) -> Result<Constraint, WholeFault> {
+    let mut met = Constraint::Free;
+    let mut next = Some(first);
+    for _ in names {
+        let Some(index) = next else {
+            break;
+        };
+        met = both(alloc, met, own_of(alloc, names, index, room)?)?;
+        next = next_name(names, index);
+    }
+    Ok(met)
+}
+
+/// The constraint that the text has for a name; free where it has none.
+fn own_of(
+    alloc: Global,
+    names: &[Named],
+    index: usize,
+    room: &mut usize,
+) -> Result<Constraint, WholeFault> {
+    match names.get(index) {
+        Some(Named {
+            own: Some(own),
+            ..
+        }) => copy(alloc, own, room),
+        _ => Ok(Constraint::Free),
+    }
+}
+
+/// The constraint of what is inside a type that refers to these names, and is no name itself.
+#[cycle(whole)]
+fn inside(
+    alloc: Global,
+    ty: &AsnType,
+    references: &References,
+    names: &[Named],
+    room: &mut usize,
+) -> Result<Constraint, WholeFault> {
+    match (ty, references) {
+        (AsnType::SeqOf(element, _), References::Elements(inner)) => {
+            let constraint = whole(alloc, element, inner, names, room)?;
+            if is_free(&constraint) {
+                return Ok(Constraint::Free);
+            }
+            Ok(Constraint::Elements(Box::new(alloc, constraint)?))
+        }
+        (AsnType::Seq { root, ext }, References::Parts(parts)) => {
+            let mut all = Vec::new(alloc);
+            push_components(alloc, &mut all, root, parts, names, room)?;
+            push_components(alloc, &mut all, additions(ext), parts, names, room)?;
+            Ok(components_of(all))
+        }
+        (AsnType::Choice { root, ext }, References::Parts(parts)) => {
+            let mut all = Vec::new(alloc);
+            push_alternatives(alloc, &mut all, root, parts, names, room)?;
+            push_alternatives(alloc, &mut all, additions(ext), parts, names, room)?;
+            Ok(alternatives_of(all))
+        }
+        _ => Ok(Constraint::Free),
+    }
+}
+
+/// The constraint of the components up to the last one that has one.
+fn components_of(mut all: Vec<Component>) -> Constraint {
+    'free: while let Some(component) = all.pop() {
+        if !is_free(&component.constraint) {
+            return Constraint::Components(all);
+        }
+    }
+    Constraint::Free
+}
+
+/// The constraint of the alternatives, if one of them has one.
+fn alternatives_of(all: Vec<Constraint>) -> Constraint {
+    if all.iter().all(is_free) {
+        Constraint::Free
+    } else {
+        Constraint::Alternatives(all)
+    }
+}
+
+/// Adds the constraints of components, behind those of as many as there are already.
+#[cycle(whole)]
+fn push_components(
+    alloc: Global,
+    all: &mut Vec<Component>,
+    fields: &[Field],
+    parts: &[References],
+    names: &[Named],
+    room: &mut usize,
+) -> Result<(), WholeFault> {
+    for field in fields {
+        let constraint = match parts.get(all.len()) {
+            Some(references) => whole(alloc, &field.ty, references, names, room)?,
+            None => Constraint::Free,
+        };
+        all.push(Component {
+            presence: Presence::Any,
+            constraint,
+        })?;
+    }
+    Ok(())
+}
+
+/// Adds the constraints of alternatives, behind those of as many as there are already.
+#[cycle(whole)]
+fn push_alternatives(
+    alloc: Global,
+    all: &mut Vec<Constraint>,
+    alternatives: &[Alt],
+    parts: &[References],
+    names: &[Named],
+    room: &mut usize,
+) -> Result<(), WholeFault> {
+    for alternative in alternatives {
+        let constraint = match parts.get(all.len()) {
+            Some(references) => whole(alloc, &alternative.ty, references, names, room)?,
+            None => Constraint::Free,
+        };
+        all.push(constraint)?;
+    }
+    Ok(())
+}

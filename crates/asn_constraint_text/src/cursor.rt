@@ -237,13 +237,12 @@ impl<'t> Cursor<'t> {
     pub fn begins_number(&mut self) -> bool
         ensures { length self.new.rest.now ≤ length self.old.rest.now }
     {
-        let word = self.word();
-        if *word == *b"MIN" || *word == *b"MAX" {
-            return true;
-        }
-        match self.rest {
-            [first, ..] => first.is_ascii_digit() || *first == b'-',
-            [] => false,
+        match self.word() {
+            b"MIN" | b"MAX" => true,
+            _ => match self.rest {
+                [first, ..] => first.is_ascii_digit() || *first == b'-',
+                [] => false,
+            },
         }
     }
 

@@ -50,36 +50,17 @@ fn is_free(constraint: &Constraint) -> bool {
     matches!(constraint, Constraint::Free)
 }
 
-/// The constraint of a type that refers to these names.
-#[cycle(whole)]
-fn whole(
-    alloc: Global,
-    ty: &AsnType,
-    references: &References,
-    names: &[Named],
-    room: &mut usize,
-) -> Result<Constraint, WholeFault> {
-    take(room, 1)?;
-    let References::Name(index) = references else {
-        return inside(alloc, ty, references, names, room);
-    };
-    let last = last_name(names, *index);
-    let own = along(alloc, names, *index, room)?;
-    match names.get(last) {
-        Some(named) => {
-            let inner = inside(alloc, ty, &named.references, names, room)?;
-            Ok(both(alloc, own, inner)?)
-        }
-        None => Ok(own),
+/// The name that a type is, if it only refers to one.
+fn name_in(references: &References) -> Option<usize> {
+    match references {
+        References::Name(index) => Some(*index),
+        References::None | References::Parts(_) | References::Elements(_) => None,
     }
 }
 
-/// The name whose type the type of a name refers to, if it only refers to one.
+/// The name that the type of a name is, if it only refers to one.
 fn next_name(names: &[Named], index: usize) -> Option<usize> {
-    match names.get(index)?.references {
-        References::Name(next) => Some(next),
-        References::None | References::Parts(_) | References::Elements(_) => None,
-    }
+    name_in(&names.get(index)?.references)
 }
 
 /// The last name on the way from one to the next.
@@ -94,15 +75,15 @@ fn last_name(names: &[Named], first: usize) -> usize {
     last
 }
 
-/// The constraints that the text has for the names on the way from one to the next.
+/// The constraints that the text has for the names on the way from one to the next; free of what is no name.
 fn along(
     alloc: Global,
+    references: &References,
     names: &[Named],
-    first: usize,
     room: &mut usize,
 ) -> Result<Constraint, WholeFault> {
     let mut met = Constraint::Free;
-    let mut next = Some(first);
+    let mut next = name_in(references);
     for _ in names {
         let Some(index) = next else {
             break;
@@ -129,45 +110,64 @@ fn own_of(
     }
 }
 
-/// The constraint of what is inside a type that refers to these names, and is no name itself.
+/// What the type refers to inside itself, of one that refers to these names.
+fn shape_in<'a>(references: &'a References, names: &'a [Named]) -> &'a References {
+    match references {
+        References::Name(index) => match names.get(last_name(names, *index)) {
+            Some(named) => &named.references,
+            None => references,
+        },
+        References::None | References::Parts(_) | References::Elements(_) => references,
+    }
+}
+
+/// The constraint of a type that refers to these names.
 #[cycle(whole)]
-fn inside(
+fn whole(
     alloc: Global,
     ty: &AsnType,
     references: &References,
     names: &[Named],
     room: &mut usize,
 ) -> Result<Constraint, WholeFault> {
-    match (ty, references) {
+    take(room, 1)?;
+    let own = along(alloc, references, names, room)?;
+    let inner = match (ty, shape_in(references, names)) {
         (AsnType::SeqOf(element, _), References::Elements(inner)) => {
-            let constraint = whole(alloc, element, inner, names, room)?;
-            if is_free(&constraint) {
-                return Ok(Constraint::Free);
-            }
-            Ok(Constraint::Elements(Box::new(alloc, constraint)?))
+            elements_of(alloc, whole(alloc, element, inner, names, room)?)?
         }
         (AsnType::Seq { root, ext }, References::Parts(parts)) => {
             let mut all = Vec::new(alloc);
             push_components(alloc, &mut all, root, parts, names, room)?;
             push_components(alloc, &mut all, additions(ext), parts, names, room)?;
-            Ok(components_of(all))
+            components_of(all)
         }
         (AsnType::Choice { root, ext }, References::Parts(parts)) => {
             let mut all = Vec::new(alloc);
             push_alternatives(alloc, &mut all, root, parts, names, room)?;
             push_alternatives(alloc, &mut all, additions(ext), parts, names, room)?;
-            Ok(alternatives_of(all))
+            alternatives_of(all)
         }
-        _ => Ok(Constraint::Free),
+        _ => Constraint::Free,
+    };
+    Ok(both(alloc, own, inner)?)
+}
+
+/// The constraint of elements that have this one.
+fn elements_of(alloc: Global, constraint: Constraint) -> Result<Constraint, AllocError> {
+    if is_free(&constraint) {
+        return Ok(Constraint::Free);
     }
+    Ok(Constraint::Elements(Box::new(alloc, constraint)?))
 }
 
 /// The constraint of the components up to the last one that has one.
 fn components_of(mut all: Vec<Component>) -> Constraint {
-    'free: while let Some(component) = all.pop() {
-        if !is_free(&component.constraint) {
+    'free: while let Some(last) = all.last() {
+        if !is_free(&last.constraint) {
             return Constraint::Components(all);
         }
+        let _ = all.pop();
     }
     Constraint::Free
 }

@@ -20,6 +20,3 @@ pub use module::{ConstrainedModule, read_constrained};
 pub use reading::{MOST_LEVELS, constraint_in};
 pub use whole::MOST_PARTS;
 pub use writing::constraint_text;
-
-#[cfg(test)]
-mod tests;

@@ -414,16 +414,8 @@ fn components_at(
     let mut all = Vec::new(alloc);
     let mut deepest = 0;
     'components: while cursor.takes(b',') {
-        let index = part_index(root, additions(ext), all.len(), cursor, COMPONENT)?;
-        for _ in all.len()..index {
-            all.push(free_component())?;
-        }
-        let Some(field) = part_at(root, ext, index) else {
-            return Err(cursor.fault(COMPONENT));
-        };
-        let (component, inner) = component_at(alloc, &field.ty, cursor, levels)?;
+        let inner = push_component(alloc, &mut all, root, ext, cursor, levels)?;
         deepest = inner.max(deepest);
-        all.push(component)?;
     }
     cursor.expect(b'}', "`}`")?;
     let levels = above(cursor, deepest)?;
@@ -431,6 +423,33 @@ fn components_at(
         constraint: Constraint::Components(all),
         levels,
     })
+}
+
+/// Adds a component that comes after those that there are, and free ones between. Returns how many levels it has.
+#[cycle(reading)]
+fn push_component(
+    alloc: Global,
+    all: &mut Vec<Component>,
+    root: &[Field],
+    ext: &Option<Vec<Field>>,
+    cursor: &mut Cursor<'_>,
+    levels: u32,
+) -> Result<u32, ConstraintTextFault>
+    ensures { length cursor.new.rest.now ≤ length cursor.old.rest.now }
+{
+    let index = part_index(root, additions(ext), all.len(), cursor, COMPONENT)?;
+    for _ in all.len()..index {
+        all.push(free_component())?;
+    }
+    let Some(field) = part_at(root, ext, index) else {
+        return Err(cursor.fault(COMPONENT));
+    };
+    let read = part_constraint_at(alloc, &field.ty, cursor, levels)?;
+    all.push(Component {
+        presence: presence_at(cursor),
+        constraint: read.constraint,
+    })?;
+    Ok(read.levels)
 }
 
 /// A component without constraint.
@@ -441,29 +460,17 @@ fn free_component() -> Component {
     }
 }
 
-/// The constraint of a component if it has one, whether it has to be there, and how many levels the constraint has.
-#[cycle(reading)]
-fn component_at(
-    alloc: Global,
-    ty: &AsnType,
-    cursor: &mut Cursor<'_>,
-    levels: u32,
-) -> Result<(Component, u32), ConstraintTextFault>
+/// Whether a component has to be there.
+fn presence_at(cursor: &mut Cursor<'_>) -> Presence
     ensures { length cursor.new.rest.now ≤ length cursor.old.rest.now }
 {
-    let read = part_constraint_at(alloc, ty, cursor, levels)?;
-    let presence = if cursor.takes_word(b"PRESENT") {
+    if cursor.takes_word(b"PRESENT") {
         Presence::Present
     } else if cursor.takes_word(b"ABSENT") {
         Presence::Absent
     } else {
         Presence::Any
-    };
-    let component = Component {
-        presence,
-        constraint: read.constraint,
-    };
-    Ok((component, read.levels))
+    }
 }
 
 /// The constraint of a component or an alternative, if it has one.
@@ -497,19 +504,12 @@ fn alternatives_at(
     cursor.expect(b'{', "`{`")?;
     let mut all = Vec::new(alloc);
     let mut deepest = 0;
-    let mut is_next = cursor.begins_identifier();
-    'alternatives: while is_next {
-        let index = part_index(root, additions(ext), all.len(), cursor, ALTERNATIVE)?;
-        for _ in all.len()..index {
-            all.push(Constraint::Barred)?;
+    if cursor.begins_identifier() {
+        deepest = push_alternative(alloc, &mut all, root, ext, cursor, levels)?;
+        'alternatives: while cursor.takes(b',') {
+            let inner = push_alternative(alloc, &mut all, root, ext, cursor, levels)?;
+            deepest = inner.max(deepest);
         }
-        let Some(alternative) = part_at(root, ext, index) else {
-            return Err(cursor.fault(ALTERNATIVE));
-        };
-        let read = alternative_at(alloc, &alternative.ty, cursor, levels)?;
-        deepest = read.levels.max(deepest);
-        all.push(read.constraint)?;
-        is_next = cursor.takes(b',');
     }
     cursor.expect(b'}', "`}`")?;
     let levels = above(cursor, deepest)?;
@@ -519,18 +519,30 @@ fn alternatives_at(
     })
 }
 
-/// The constraint of an alternative if it has one, or that it is ABSENT.
+/// Adds an alternative that comes after those that there are, and barred ones between. Returns how many levels it has.
 #[cycle(reading)]
-fn alternative_at(
+fn push_alternative(
     alloc: Global,
-    ty: &AsnType,
+    all: &mut Vec<Constraint>,
+    root: &[Alt],
+    ext: &Option<Vec<Alt>>,
     cursor: &mut Cursor<'_>,
     levels: u32,
-) -> Result<Read, ConstraintTextFault>
+) -> Result<u32, ConstraintTextFault>
     ensures { length cursor.new.rest.now ≤ length cursor.old.rest.now }
 {
-    if cursor.takes_word(b"ABSENT") {
-        return Ok(leaf(Constraint::Barred));
+    let index = part_index(root, additions(ext), all.len(), cursor, ALTERNATIVE)?;
+    for _ in all.len()..index {
+        all.push(Constraint::Barred)?;
     }
-    part_constraint_at(alloc, ty, cursor, levels)
+    let Some(alternative) = part_at(root, ext, index) else {
+        return Err(cursor.fault(ALTERNATIVE));
+    };
+    let read = if cursor.takes_word(b"ABSENT") {
+        leaf(Constraint::Barred)
+    } else {
+        part_constraint_at(alloc, &alternative.ty, cursor, levels)?
+    };
+    all.push(read.constraint)?;
+    Ok(read.levels)
 }

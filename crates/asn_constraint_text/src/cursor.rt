@@ -342,11 +342,7 @@ impl<'t> Cursor<'t> {
     }
 
     /// Reads this octet, with nothing blank before it.
-    pub fn expect_here(
-        &mut self,
-        octet: u8,
-        name: &'static str,
-    ) -> Result<(), ConstraintTextFault>
+    pub fn expect_here(&mut self, octet: u8, name: &'static str) -> Result<(), ConstraintTextFault>
         ensures within { length self.new.rest.now ≤ length self.old.rest.now }
     {
         if self.takes_here(octet) {

@@ -51,6 +51,11 @@ fn put_line(
     }
 }
 
+/// Whether a line of the text begins with `--:`.
+pub(crate) fn has_constraints(text: &str) -> bool {
+    text.lines().any(|line| line.starts_with(MARK))
+}
+
 /// The line of a constraint after `--:`; None of another line.
 ///
 /// # Errors

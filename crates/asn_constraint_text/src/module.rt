@@ -1,11 +1,11 @@
 //! Modules whose texts have constraints of their names.
-ghost use Rattle.std.specs.Prelude.{IfOk};
+ghost use Rattle.std.specs.Prelude.{◌≡◌, IfOk};
 ghost use Rattle.asn_module.specs.Accepted.{Accepted};
 ghost use Rattle.asn_module.specs.ModuleView.{types_view};
 
 use crate::cursor::Cursor;
 use crate::fault::{ConstrainedFault, ConstraintTextFault};
-use crate::lines::constraint_line;
+use crate::lines::{constraint_line, has_constraints};
 use crate::reading::constraint_after;
 use crate::references::{References, references_of};
 use asn_constraints::Constraint;
@@ -26,7 +26,7 @@ pub(crate) struct Named {
 #[derive(Debug, Drop)]
 pub struct ConstrainedModule {
     pub module: Module,
-    /// The names in the order of the text, and the index of each.
+    /// The names in the order of the text, and the index of each; nothing where no name has a constraint.
     pub(crate) names: Vec<Named>,
     pub(crate) indices: HashMap<String, usize>,
 }
@@ -56,25 +56,21 @@ impl ConstrainedModule {
         module: Module,
         text: &str,
     ) -> Result<ConstrainedModule, ConstrainedFault>
-        ensures { IfOk result (λ m. m.module ≡ module) }
+        ensures { IfOk result (λ m. m.module ≡ «module») }
     {
+        if !has_constraints(text) {
+            return Ok(ConstrainedModule {
+                module,
+                names: Vec::new(alloc),
+                indices: HashMap::new(alloc),
+            });
+        }
         let Ok(notation) = read_notation(alloc, text, MAX_LEVELS) else {
             return Err(ConstrainedFault::Memory);
         };
         let indices = indices_of(alloc, &notation.assignments)?;
         let mut names = names_of(alloc, &notation.assignments, &indices)?;
-        for (index, line) in text.lines().enumerate() {
-            match read_line(alloc, &module, &indices, &mut names, line) {
-                Ok(()) => {}
-                Err(ConstraintTextFault::Memory) => return Err(ConstrainedFault::Memory),
-                Err(fault) => {
-                    return Err(ConstrainedFault::Line {
-                        line: index.saturating_add(1),
-                        fault,
-                    });
-                }
-            }
-        }
+        read_lines(alloc, &module, &indices, &mut names, text)?;
         Ok(ConstrainedModule {
             module,
             names,
@@ -116,6 +112,29 @@ fn names_of(
         })?;
     }
     Ok(names)
+}
+
+/// Reads the lines of a text, and keeps their constraints.
+fn read_lines(
+    alloc: Global,
+    module: &Module,
+    indices: &HashMap<String, usize>,
+    names: &mut Vec<Named>,
+    text: &str,
+) -> Result<(), ConstrainedFault> {
+    for (index, line) in text.lines().enumerate() {
+        match read_line(alloc, module, indices, names, line) {
+            Ok(()) => {}
+            Err(ConstraintTextFault::Memory) => return Err(ConstrainedFault::Memory),
+            Err(fault) => {
+                return Err(ConstrainedFault::Line {
+                    line: index.saturating_add(1),
+                    fault,
+                });
+            }
+        }
+    }
+    Ok(())
 }
 
 /// Reads a line, and keeps its constraint if it has one.

@@ -209,10 +209,7 @@ fn is_text(ty: &AsnType) -> bool {
 }
 
 /// Intervals of integers with `|` between them.
-fn numbers_at(
-    alloc: Global,
-    cursor: &mut Cursor<'_>,
-) -> Result<Vec<Interval>, ConstraintTextFault>
+fn numbers_at(alloc: Global, cursor: &mut Cursor<'_>) -> Result<Vec<Interval>, ConstraintTextFault>
     ensures { length cursor.new.rest.now ≤ length cursor.old.rest.now }
 {
     let mut all = Vec::new(alloc);
@@ -266,10 +263,7 @@ fn items_at(
 }
 
 /// Lengths with `|` between them, in parentheses.
-fn lengths_at(
-    alloc: Global,
-    cursor: &mut Cursor<'_>,
-) -> Result<Vec<Lengths>, ConstraintTextFault>
+fn lengths_at(alloc: Global, cursor: &mut Cursor<'_>) -> Result<Vec<Lengths>, ConstraintTextFault>
     ensures { length cursor.new.rest.now ≤ length cursor.old.rest.now }
 {
     cursor.expect(b'(', "`(`")?;
@@ -328,10 +322,7 @@ fn codes_at(cursor: &mut Cursor<'_>) -> Result<Interval, ConstraintTextFault>
 }
 
 /// What X.680 has no notation for, in braces.
-fn described_at(
-    ty: &AsnType,
-    cursor: &mut Cursor<'_>,
-) -> Result<Constraint, ConstraintTextFault>
+fn described_at(ty: &AsnType, cursor: &mut Cursor<'_>) -> Result<Constraint, ConstraintTextFault>
     ensures { length cursor.new.rest.now ≤ length cursor.old.rest.now }
 {
     cursor.expect(b'{', "`{`")?;

@@ -1,30 +1,28 @@
 //! Characters and strings of characters in the notation of X.680.
-ghost use Rattle.std.specs.Prelude.{◌≡◌, ◌≤◌, ◌<◌, length, IfOk, IfSome, true};
+ghost use Rattle.std.specs.Prelude.{◌≤◌, ◌<◌, length, IfOk, IfSome};
 
 use crate::cursor::Cursor;
 use crate::fault::ConstraintTextFault;
 use std::alloc::{AllocError, Global};
 use std::fmt::Write;
 
-/// Whether a character is neither a control character nor past the codes of VisibleString.
-fn is_visible(code: i128) -> bool
-    ensures { result ≡ true → code < 127 }
-{
+/// Whether a character of the table is one of VisibleString.
+fn is_visible(code: u8) -> bool {
     32 <= code && code <= 126
 }
 
 /// Writes the character with a code: between quotation marks, or as column and row of the table of characters, or the
 /// code alone past this table.
 pub(crate) fn put_code(out: &mut String, code: i128) -> Result<(), AllocError> {
-    if code < 0 || 255 < code {
-        return write!(out, "{code}");
+    match u8::try_from(code) {
+        Ok(code) => put_octet(out, code),
+        Err(_) => write!(out, "{code}"),
     }
-    put_octet(out, code as u8)
 }
 
 /// The same of a code within the table.
 fn put_octet(out: &mut String, code: u8) -> Result<(), AllocError> {
-    if is_visible(i128::from(code)) {
+    if is_visible(code) {
         put_quoted(out, char::from(code))
     } else {
         let column = code / 16;

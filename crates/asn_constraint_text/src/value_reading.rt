@@ -10,7 +10,9 @@ use std::alloc::Global;
 
 /// What is expected where a name is none of the type.
 pub(crate) const COMPONENT: &str = "a component of the type";
+
 pub(crate) const ALTERNATIVE: &str = "an alternative of the type";
+
 const ITEM: &str = "an item of the type";
 
 /// Reads the name of a part, which is the one with the index `from` or one after it, and returns its index.
@@ -23,21 +25,29 @@ pub(crate) fn part_index<T: Named>(
 ) -> Result<usize, ConstraintTextFault>
     ensures { length cursor.new.rest.now ≤ length cursor.old.rest.now }
 {
-    let name = cursor.word();
+    match index_from(root, more, from, cursor.word()) {
+        Some(index) => {
+            let _ = cursor.take_word();
+            Ok(index)
+        }
+        None => Err(cursor.fault(expected)),
+    }
+}
+
+/// The index of the part with this name that is `from` or after it, root before additions.
+fn index_from<T: Named>(root: &[T], more: &[T], from: usize, name: &[u8]) -> Option<usize> {
     for (index, part) in root.iter().enumerate() {
         if from <= index && *part.name().as_bytes() == *name {
-            let _ = cursor.take_word();
-            return Ok(index);
+            return Some(index);
         }
     }
     for (index, part) in more.iter().enumerate() {
         let index = root.len().saturating_add(index);
         if from <= index && *part.name().as_bytes() == *name {
-            let _ = cursor.take_word();
-            return Ok(index);
+            return Some(index);
         }
     }
-    Err(cursor.fault(expected))
+    None
 }
 
 /// Reads an item of an ENUMERATED, and returns its index.

@@ -128,10 +128,7 @@ pub(crate) fn component_name<'a>(ty: Option<&'a AsnType>, index: usize) -> Optio
 }
 
 /// The type of the component of a SEQUENCE at an index.
-pub(crate) fn component_type<'a>(
-    ty: Option<&'a AsnType>,
-    index: usize,
-) -> Option<&'a AsnType> {
+pub(crate) fn component_type<'a>(ty: Option<&'a AsnType>, index: usize) -> Option<&'a AsnType> {
     match ty {
         Some(AsnType::Seq { root, ext }) => match part_at(root, ext, index) {
             Some(field) => Some(&field.ty),
@@ -153,10 +150,7 @@ pub(crate) fn alternative_name<'a>(ty: Option<&'a AsnType>, index: usize) -> Opt
 }
 
 /// The type of the alternative of a CHOICE at an index.
-pub(crate) fn alternative_type<'a>(
-    ty: Option<&'a AsnType>,
-    index: usize,
-) -> Option<&'a AsnType> {
+pub(crate) fn alternative_type<'a>(ty: Option<&'a AsnType>, index: usize) -> Option<&'a AsnType> {
     match ty {
         Some(AsnType::Choice { root, ext }) => match part_at(root, ext, index) {
             Some(alternative) => Some(&alternative.ty),

@@ -1,4 +1,8 @@
 //! The constraint of a name, with those of the names that its type refers to.
+ghost use Rattle.std.specs.Prelude.{◌≡◌, IfOk, is_some};
+ghost use Rattle.asn_module.specs.Accepted.{type_in};
+ghost use Rattle.asn_module.specs.ModuleView.{types_view};
+
 use crate::copying::{copy, take};
 use crate::fault::WholeFault;
 use crate::module::{ConstrainedModule, Named};
@@ -14,8 +18,8 @@ pub const MOST_PARTS: usize = 1_000_000;
 
 impl ConstrainedModule {
     /// The whole constraint of the type of a name: the one that the text has for it, and at each place of the type that
-    /// refers to another name that name's. None where the module assigns no such name; `Constraint::Free` exactly where
-    /// neither the text nor a name has a constraint, all along.
+    /// refers to another name that name's. None where the module assigns no such name. `Constraint::Free` exactly
+    /// where it meets no constraint on the way.
     ///
     /// # Errors
     /// `TooLarge` where it has more than `MOST_PARTS`; `Memory` where an allocation failed.
@@ -23,9 +27,14 @@ impl ConstrainedModule {
         &self,
         alloc: Global,
         name: &str,
-    ) -> Result<Option<Constraint>, WholeFault> {
-        let (Some(ty), Some(index)) = (self.module.type_named(name), self.indices.get(name)) else {
+    ) -> Result<Option<Constraint>, WholeFault>
+        ensures { IfOk result (λ c. is_some c ≡ is_some (type_in (types_view self.now.module).types name.now)) }
+    {
+        let Some(ty) = self.module.type_named(name) else {
             return Ok(None);
+        };
+        let Some(index) = self.indices.get(name) else {
+            return Ok(Some(Constraint::Free));
         };
         let mut room = MOST_PARTS;
         let named = References::Name(*index);
@@ -102,10 +111,7 @@ fn own_of(
     room: &mut usize,
 ) -> Result<Constraint, WholeFault> {
     match names.get(index) {
-        Some(Named {
-            own: Some(own),
-            ..
-        }) => copy(alloc, own, room),
+        Some(Named { own: Some(own), .. }) => copy(alloc, own, room),
         _ => Ok(Constraint::Free),
     }
 }

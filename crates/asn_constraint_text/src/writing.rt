@@ -160,11 +160,7 @@ fn put_end(out: &mut String, number: i128) -> Result<(), AllocError> {
 }
 
 /// Writes items of an ENUMERATED with `|` between them.
-fn put_items(
-    out: &mut String,
-    ty: Option<&AsnType>,
-    positions: &[u32],
-) -> Result<(), AllocError> {
+fn put_items(out: &mut String, ty: Option<&AsnType>, positions: &[u32]) -> Result<(), AllocError> {
     for (index, position) in positions.iter().enumerate() {
         put_bar(out, index)?;
         put_item(out, ty, *position)?;
@@ -228,8 +224,7 @@ fn put_components(
 
 /// Whether a component may have any value and be absent.
 fn is_free(component: &Component) -> bool {
-    matches!(component.presence, Presence::Any)
-        && matches!(component.constraint, Constraint::Free)
+    matches!(component.presence, Presence::Any) && matches!(component.constraint, Constraint::Free)
 }
 
 /// Writes the alternatives that are not barred.

@@ -1,4 +1,7 @@
 //! Why a text has no constraint of a type, and why a constraint is not put together.
+ghost use Rattle.std.specs.Prelude.{◌≡◌};
+ghost use Rattle.asn_constraint_text.specs.declared.fault.ConstrainedFault.TheVariants.{Memory};
+
 use asn_module::ModuleFault;
 use std::alloc::{AllocError, AllocFailed};
 use thiserror::Error;
@@ -58,12 +61,16 @@ impl<T: Drop> From<AllocFailed<T>> for ConstraintTextFault {
 }
 
 impl From<AllocError> for ConstrainedFault {
+    ghost from_gives = { λ _ e. e ≡ Memory };
+
     fn from(_e: AllocError) -> ConstrainedFault {
         ConstrainedFault::Memory
     }
 }
 
 impl<T: Drop> From<AllocFailed<T>> for ConstrainedFault {
+    ghost from_gives = { λ _ e. e ≡ Memory };
+
     fn from(_e: AllocFailed<T>) -> ConstrainedFault {
         ConstrainedFault::Memory
     }

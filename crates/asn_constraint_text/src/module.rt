@@ -1,26 +1,21 @@
 //! Modules whose texts have constraints of their names.
-ghost use Rattle.std.specs.Prelude.{◌≡◌, IfOk};
-ghost use Rattle.asn_module.specs.Accepted.{Accepted};
+ghost use Rattle.std.specs.Prelude.{◌≡◌, IfOk, IfErr, is_some};
+ghost use Rattle.asn_module.specs.Accepted.{Accepted, type_in};
 ghost use Rattle.asn_module.specs.ModuleView.{types_view};
+ghost use Rattle.asn_constraint_text.specs.Refused.{IsOfLines, SaysOfText};
 
 use crate::cursor::Cursor;
-use crate::fault::{ConstrainedFault, ConstraintTextFault};
+use crate::fault::{ConstrainedFault, ConstraintTextFault, WholeFault};
 use crate::lines::{constraint_line, has_constraints};
 use crate::reading::constraint_after;
-use crate::references::{References, references_of};
+use crate::references::{Named, indices_of, names_of};
+use crate::whole::whole_named;
 use asn_constraints::Constraint;
 use asn_module::{Module, read};
-use asn_notation::{AssignmentNotation, read_notation};
+use asn_notation::read_notation;
 use asn_values::profile::MAX_LEVELS;
-use std::alloc::{AllocError, Global};
+use std::alloc::Global;
 use std::collections::HashMap;
-
-/// A name of a module: what its type refers to, and the constraint of its line, if it has one.
-#[derive(Debug, Drop)]
-pub(crate) struct Named {
-    pub references: References,
-    pub own: Option<Constraint>,
-}
 
 /// A module, and the constraints of its names that its text has.
 #[derive(Debug, Drop)]
@@ -38,7 +33,10 @@ pub struct ConstrainedModule {
 /// `Module` with what `asn_module::read` reports. Else `Line` at the first line with `--:` that is none of a name and a
 /// constraint of its type, or has a name a second time. `Memory` where an allocation failed.
 pub fn read_constrained(alloc: Global, text: &str) -> Result<ConstrainedModule, ConstrainedFault>
-    ensures { IfOk result (λ m. Accepted text.now (types_view m.module)) }
+    // What is read is the module that the text is.
+    ensures accepted { IfOk result (λ m. Accepted text.now (types_view m.module)) }
+    // The fault of a line is reported of a module alone, and that of a module where the text is none.
+    ensures refused { IfErr result (SaysOfText text.now) }
 {
     match read(alloc, text) {
         Ok(module) => ConstrainedModule::new(alloc, module, text),
@@ -56,7 +54,8 @@ impl ConstrainedModule {
         module: Module,
         text: &str,
     ) -> Result<ConstrainedModule, ConstrainedFault>
-        ensures { IfOk result (λ m. m.module ≡ «module») }
+        ensures same { IfOk result (λ m. m.module ≡ «module») }
+        ensures refused { IfErr result IsOfLines }
     {
         if !has_constraints(text) {
             return Ok(ConstrainedModule {
@@ -78,40 +77,34 @@ impl ConstrainedModule {
         })
     }
 
+    /// The whole constraint of the type of a name: the one that the text has for it, and at each place of the type that
+    /// refers to another name that name's. None where the module assigns no such name. `Constraint::Free` exactly
+    /// where it meets no constraint on the way.
+    ///
+    /// # Errors
+    /// `TooLarge` where it has more than `MOST_PARTS`; `Memory` where an allocation failed.
+    pub fn constraint_named(
+        &self,
+        alloc: Global,
+        name: &str,
+    ) -> Result<Option<Constraint>, WholeFault>
+        ensures { IfOk result (λ c. is_some c ≡ is_some (type_in (types_view self.now.module).types name.now)) }
+    {
+        let Some(ty) = self.module.type_named(name) else {
+            return Ok(None);
+        };
+        let Some(index) = self.indices.get(name) else {
+            return Ok(Some(Constraint::Free));
+        };
+        let constraint = whole_named(alloc, ty.get(), *index, &self.names)?;
+        Ok(Some(constraint))
+    }
+
     /// The constraint that the text has for a name; None where it has none. Takes no memory.
     pub fn own_constraint(&self, name: &str) -> Option<&Constraint> {
         let index = *self.indices.get(name)?;
         self.names.get(index)?.own.as_ref()
     }
-}
-
-/// The index of each name.
-fn indices_of(
-    alloc: Global,
-    assignments: &[AssignmentNotation<'_>],
-) -> Result<HashMap<String, usize>, AllocError> {
-    let mut indices = HashMap::new(alloc);
-    for (index, assignment) in assignments.iter().enumerate() {
-        indices.insert(String::from_str(alloc, assignment.name)?, index)?;
-    }
-    Ok(indices)
-}
-
-/// What the type of each name refers to.
-fn names_of(
-    alloc: Global,
-    assignments: &[AssignmentNotation<'_>],
-    indices: &HashMap<String, usize>,
-) -> Result<Vec<Named>, AllocError> {
-    let mut names = Vec::new(alloc);
-    for assignment in assignments {
-        let references = references_of(alloc, &assignment.ty, indices)?;
-        names.push(Named {
-            references,
-            own: None,
-        })?;
-    }
-    Ok(names)
 }
 
 /// Reads the lines of a text, and keeps their constraints.
@@ -121,7 +114,9 @@ fn read_lines(
     indices: &HashMap<String, usize>,
     names: &mut Vec<Named>,
     text: &str,
-) -> Result<(), ConstrainedFault> {
+) -> Result<(), ConstrainedFault>
+    ensures { IfErr result IsOfLines }
+{
     for (index, line) in text.lines().enumerate() {
         match read_line(alloc, module, indices, names, line) {
             Ok(()) => {}

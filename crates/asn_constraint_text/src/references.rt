@@ -1,5 +1,6 @@
 //! Where a type refers to names.
-use asn_notation::{AlternativeNotation, ComponentNotation, TypeNotation};
+use asn_constraints::Constraint;
+use asn_notation::{AlternativeNotation, AssignmentNotation, ComponentNotation, TypeNotation};
 use std::alloc::{AllocError, Global};
 use std::collections::HashMap;
 
@@ -21,6 +22,42 @@ impl References {
     fn is_none(&self) -> bool {
         matches!(self, References::None)
     }
+}
+
+/// A name of a module: what its type refers to, and the constraint of its line, if it has one.
+#[derive(Debug, Drop)]
+pub(crate) struct Named {
+    pub references: References,
+    pub own: Option<Constraint>,
+}
+
+/// The index of each name.
+pub(crate) fn indices_of(
+    alloc: Global,
+    assignments: &[AssignmentNotation<'_>],
+) -> Result<HashMap<String, usize>, AllocError> {
+    let mut indices = HashMap::new(alloc);
+    for (index, assignment) in assignments.iter().enumerate() {
+        indices.insert(String::from_str(alloc, assignment.name)?, index)?;
+    }
+    Ok(indices)
+}
+
+/// What the type of each name refers to.
+pub(crate) fn names_of(
+    alloc: Global,
+    assignments: &[AssignmentNotation<'_>],
+    indices: &HashMap<String, usize>,
+) -> Result<Vec<Named>, AllocError> {
+    let mut names = Vec::new(alloc);
+    for assignment in assignments {
+        let references = references_of(alloc, &assignment.ty, indices)?;
+        names.push(Named {
+            references,
+            own: None,
+        })?;
+    }
+    Ok(names)
 }
 
 /// What a type refers to, where `indices` has the index of each name. A name that has none is left out.
@@ -46,17 +83,17 @@ pub(crate) fn references_of(
         }
         TypeNotation::Sequence { root, more } => {
             let mut parts = Vec::new(alloc);
-            push_of_components(alloc, &mut parts, root, indices)?;
+            push_of_components(alloc, root, &mut parts, indices)?;
             if let Some(more) = more {
-                push_of_components(alloc, &mut parts, more, indices)?;
+                push_of_components(alloc, more, &mut parts, indices)?;
             }
             Ok(references_in(parts))
         }
         TypeNotation::Choice { root, more } => {
             let mut parts = Vec::new(alloc);
-            push_of_alternatives(alloc, &mut parts, root, indices)?;
+            push_of_alternatives(alloc, root, &mut parts, indices)?;
             if let Some(more) = more {
-                push_of_alternatives(alloc, &mut parts, more, indices)?;
+                push_of_alternatives(alloc, more, &mut parts, indices)?;
             }
             Ok(references_in(parts))
         }
@@ -80,8 +117,8 @@ fn references_in(parts: Vec<References>) -> References {
 #[cycle(references)]
 fn push_of_components(
     alloc: Global,
-    parts: &mut Vec<References>,
     components: &[ComponentNotation<'_>],
+    parts: &mut Vec<References>,
     indices: &HashMap<String, usize>,
 ) -> Result<(), AllocError> {
     for component in components {
@@ -94,8 +131,8 @@ fn push_of_components(
 #[cycle(references)]
 fn push_of_alternatives(
     alloc: Global,
-    parts: &mut Vec<References>,
     alternatives: &[AlternativeNotation<'_>],
+    parts: &mut Vec<References>,
     indices: &HashMap<String, usize>,
 ) -> Result<(), AllocError> {
     for alternative in alternatives {

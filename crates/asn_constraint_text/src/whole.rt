@@ -1,12 +1,8 @@
 //! The constraint of a name, with those of the names that its type refers to.
-ghost use Rattle.std.specs.Prelude.{◌≡◌, IfOk, is_some};
-ghost use Rattle.asn_module.specs.Accepted.{type_in};
-ghost use Rattle.asn_module.specs.ModuleView.{types_view};
 
 use crate::copying::{copy, take};
 use crate::fault::WholeFault;
-use crate::module::{ConstrainedModule, Named};
-use crate::references::References;
+use crate::references::{Named, References};
 use asn_constraints::{Component, Constraint, Presence};
 use asn_values::internal::additions;
 use asn_values::{Alt, AsnType, Field};
@@ -15,33 +11,6 @@ use std::alloc::{AllocError, Global};
 /// How many parts the constraint of a name may have: constraints, components, intervals, items, lengths, and what is in
 /// values.
 pub const MOST_PARTS: usize = 1_000_000;
-
-impl ConstrainedModule {
-    /// The whole constraint of the type of a name: the one that the text has for it, and at each place of the type that
-    /// refers to another name that name's. None where the module assigns no such name. `Constraint::Free` exactly
-    /// where it meets no constraint on the way.
-    ///
-    /// # Errors
-    /// `TooLarge` where it has more than `MOST_PARTS`; `Memory` where an allocation failed.
-    pub fn constraint_named(
-        &self,
-        alloc: Global,
-        name: &str,
-    ) -> Result<Option<Constraint>, WholeFault>
-        ensures { IfOk result (λ c. is_some c ≡ is_some (type_in (types_view self.now.module).types name.now)) }
-    {
-        let Some(ty) = self.module.type_named(name) else {
-            return Ok(None);
-        };
-        let Some(index) = self.indices.get(name) else {
-            return Ok(Some(Constraint::Free));
-        };
-        let mut room = MOST_PARTS;
-        let named = References::Name(*index);
-        let constraint = whole(alloc, ty.get(), &named, &self.names, &mut room)?;
-        Ok(Some(constraint))
-    }
-}
 
 /// Both constraints, or the other one where one is free.
 fn both(alloc: Global, first: Constraint, second: Constraint) -> Result<Constraint, AllocError> {
@@ -127,6 +96,20 @@ fn shape_in<'a>(references: &'a References, names: &'a [Named]) -> &'a Reference
     }
 }
 
+/// The whole constraint of a type that is the one of a name.
+///
+/// # Errors
+/// `TooLarge` where it has more than `MOST_PARTS`; `Memory` where an allocation failed.
+pub(crate) fn whole_named(
+    alloc: Global,
+    ty: &AsnType,
+    index: usize,
+    names: &[Named],
+) -> Result<Constraint, WholeFault> {
+    let mut room = MOST_PARTS;
+    whole(alloc, ty, &References::Name(index), names, &mut room)
+}
+
 /// The constraint of a type that refers to these names.
 #[cycle(whole)]
 fn whole(
@@ -144,14 +127,14 @@ fn whole(
         }
         (AsnType::Seq { root, ext }, References::Parts(parts)) => {
             let mut all = Vec::new(alloc);
-            push_components(alloc, &mut all, root, parts, names, room)?;
-            push_components(alloc, &mut all, additions(ext), parts, names, room)?;
+            push_components(alloc, root, &mut all, parts, names, room)?;
+            push_components(alloc, additions(ext), &mut all, parts, names, room)?;
             components_of(all)
         }
         (AsnType::Choice { root, ext }, References::Parts(parts)) => {
             let mut all = Vec::new(alloc);
-            push_alternatives(alloc, &mut all, root, parts, names, room)?;
-            push_alternatives(alloc, &mut all, additions(ext), parts, names, room)?;
+            push_alternatives(alloc, root, &mut all, parts, names, room)?;
+            push_alternatives(alloc, additions(ext), &mut all, parts, names, room)?;
             alternatives_of(all)
         }
         _ => Constraint::Free,
@@ -191,8 +174,8 @@ fn alternatives_of(all: Vec<Constraint>) -> Constraint {
 #[cycle(whole)]
 fn push_components(
     alloc: Global,
-    all: &mut Vec<Component>,
     fields: &[Field],
+    all: &mut Vec<Component>,
     parts: &[References],
     names: &[Named],
     room: &mut usize,
@@ -214,8 +197,8 @@ fn push_components(
 #[cycle(whole)]
 fn push_alternatives(
     alloc: Global,
-    all: &mut Vec<Constraint>,
     alternatives: &[Alt],
+    all: &mut Vec<Constraint>,
     parts: &[References],
     names: &[Named],
     room: &mut usize,

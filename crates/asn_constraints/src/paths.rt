@@ -46,7 +46,11 @@ fn push_name(alloc: Global, text: &mut String, name: &str) -> Result<(), AllocEr
 }
 
 /// The component with this index, root before additions.
-fn component_at<'t>(root: &'t [Field], ext: &'t Option<Vec<Field>>, index: usize) -> Option<&'t Field> {
+fn component_at<'t>(
+    root: &'t [Field],
+    ext: &'t Option<Vec<Field>>,
+    index: usize,
+) -> Option<&'t Field> {
     if let Some(field) = root.get(index) {
         return Some(field);
     }

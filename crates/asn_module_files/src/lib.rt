@@ -3,6 +3,7 @@
 #![tactic(auto)]
 
 mod flattening;
+mod published;
 mod refused;
 mod sources;
 mod stop;
@@ -11,7 +12,8 @@ mod terminal;
 mod texts;
 
 pub use flattening::flatten_files;
+pub use published::Published;
 pub use refused::text_told;
-pub use sources::{Instead, MOST, Published, input_with, instead_of, module_of};
+pub use sources::{Instead, MOST, input_with, instead_of, module_of};
 pub use stop::Stop;
 pub use telling::{Input, input_given, input_of_files, tell_text, tells_of_module};

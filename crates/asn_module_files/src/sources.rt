@@ -7,12 +7,12 @@ ghost use Rattle.asn_jobs.specs.Lines.{job_lines, lines_of, module_text};
 ghost use Rattle.asn_request.specs.Request.{texts_of};
 ghost use Rattle.asn_module_files.specs.Sources.{IsInput, IsInputOf, IsOwn, IsOwnInput, IsRead, IsReadText, IsReadWithin, IsNotLarge, mark};
 
-use asn_constraints::Constraint;
+use crate::published::Published;
 use asn_jobs::{Job, cut_input};
 use asn_module::{BoundFault, Module, ModuleFault, read_within};
 use asn_published::{
-    Flattened, Marks, Options, PublishedFault, Status, TypeReport, flatten_type_within,
-    flatten_within, missing_text, refused_text, report_text, text_of_octets, way_text,
+    Flattened, Options, PublishedFault, Status, TypeReport, flatten_type_within, flatten_within,
+    missing_text, refused_text, report_text, text_of_octets, way_text,
 };
 use std::alloc::{AllocError, Global};
 
@@ -23,33 +23,6 @@ pub const MOST: u32 = 10_000_000;
 
 /// What stands for the name of a file where a text is that of standard input.
 const STDIN: &str = "<stdin>";
-
-/// What a published type has in addition to the type of the profile: a constraint on its values, and marks where they are not
-/// looked at.
-#[derive(Drop)]
-pub struct Published {
-    pub constraint: Constraint,
-    /// What is not looked at of its values, if there is something.
-    pub marks: Option<Marks>,
-}
-
-impl Published {
-    /// Nothing, as of a type of the profile.
-    pub fn free() -> Published {
-        Published {
-            constraint: Constraint::Free,
-            marks: None,
-        }
-    }
-
-    /// The constraint, unless each value meets it.
-    pub fn constraint(&self) -> Option<&Constraint> {
-        match &self.constraint {
-            Constraint::Free => None,
-            constraint => Some(constraint),
-        }
-    }
-}
 
 /// The octets that a job reads instead of standard input, if any, the lines that say what became of its types, and
 /// whether no type of the module is refused.
@@ -88,8 +61,10 @@ pub fn instead_of(
     let Ok(text) = std::str::from_utf8(text) else {
         return passed_over(alloc, text, rest, options, job);
     };
-    if is_own(alloc, text)? {
-        return Ok(same(alloc)?);
+    if let Some(module) = own_of(alloc, text)? {
+        let mut instead = same(alloc)?;
+        instead.published = Published::of_own(alloc, text, module, job)?;
+        return Ok(instead);
     }
     published(alloc, text, rest, options, job)
 }
@@ -164,17 +139,6 @@ fn same(alloc: Global) -> Result<Instead, AllocError>
     })
 }
 
-/// Whether the text is a module of the profile, which is no larger than `MOST`.
-fn is_own(alloc: Global, text: &str) -> Result<bool, PublishedFault>
-    ensures no { IfOk result (λ is. is ≡ false → IsOwn text.now → ⊥) }
-    ensures yes { IfOk result (λ is. is ≡ true → IsReadWithin text.now) }
-{
-    match own_of(alloc, text)? {
-        Some(_) => Ok(true),
-        None => Ok(false),
-    }
-}
-
 /// The module of the profile that the text is, if it is one, which is no larger than `MOST`.
 fn own_of(alloc: Global, text: &str) -> Result<Option<Module>, PublishedFault>
     ensures { IfOk result (λ m. MatchOption m (IsOwn text.now → ⊥) (λ m. IsRead text.now (types_view m))) }
@@ -246,7 +210,11 @@ pub fn input_with(
         → IsSomeAnd i.octets (λ o. IsOwnInput text rest.now o.items) × (string_bytes i.remarks ≡ [])) }
 {
     match own_among(alloc, texts)? {
-        Some(own) => Ok(own_input(alloc, own.text, &own.meant, rest)?),
+        Some(own) => {
+            let mut input = own_input(alloc, own.text, &own.meant, rest)?;
+            input.published = Published::of_own(alloc, own.text, own.meant, job)?;
+            Ok(input)
+        }
         None => published_input(alloc, files, texts, rest, options, job),
     }
 }
@@ -316,20 +284,9 @@ fn flattened_input(
     Ok(Instead {
         octets,
         remarks,
-        published: published_for(alloc, flattened, job)?,
+        published: Published::of_flattened(alloc, flattened, job)?,
         is_whole,
     })
-}
-
-/// What the published type of a job has in addition to the type of the profile.
-fn published_for(alloc: Global, flattened: Flattened, job: &Job) -> Result<Published, AllocError> {
-    let Job::Lines { type_name, .. } = job else {
-        return Ok(Published::free());
-    };
-    let name = type_name.as_str();
-    let constraint = flattened.constraint_of(alloc, name)?;
-    let marks = flattened.into_marks(name);
-    Ok(Published { constraint, marks })
 }
 
 /// Whether a text can stand in front of the line ==== as it is: it ends a line, and has no such line.

@@ -1,6 +1,7 @@
 //! The input of a job, and what is told on standard error of its module.
+use crate::published::Published;
 use crate::refused::{advice_told, line_told, text_told};
-use crate::sources::{Instead, Published, input_with, instead_of};
+use crate::sources::{Instead, input_with, instead_of};
 use crate::stop::Stop;
 use crate::terminal::printable;
 use crate::texts::{texts_of, views_of};

@@ -107,7 +107,7 @@ pub finds_entry :
     BreaksAt (on_components (components_seen cs)) (sequence_seen vs) (reverse p.path.items) p.reason
 finds_entry cs vs i c v found o p hc hv before ec ev ef h ep er =
     let entries : right_before i (components_seen cs) (component_list (components_of (entries_seen vs))) ≡ true =
-        ap (λ x. right_before i (components_seen cs) x) (component_list-components_of (entries_seen vs)) ∙ before in
+    ap (λ x. right_before i (components_seen cs) x) (component_list-components_of (entries_seen vs)) ∙ before in
     let there : FindsEntry (on_one c) (option_map datum_of v) (Some o) = subst (λ x. FindsEntry (on_one c) (option_map datum_of v) x) ef h in
     rw (ep, er)
     (in_entry (components_seen cs) (components_of (entries_seen vs)) i (on_one c) (option_map datum_of v) (reverse o.path.items) o.reason
@@ -177,7 +177,7 @@ pub finds_element :
     BreaksAt (on_elements (constraint_of c)) (list_seen vs) (reverse p.path.items) p.reason
 finds_element c vs i v found o p h before e ef k ep er =
     let elements : list_all (λ x. meets (constraint_of c) x) (take i (element_list (elements_of (map datum_of vs)))) ≡ true =
-        ap (λ ds. list_all (λ x. meets (constraint_of c) x) (take i ds)) (element_list-elements_of (map datum_of vs)) ∙ before in
+    ap (λ ds. list_all (λ x. meets (constraint_of c) x) (take i ds)) (element_list-elements_of (map datum_of vs)) ∙ before in
     let there : BreaksAt (constraint_of c) (datum_of v) (reverse o.path.items) o.reason = subst (λ x. Finds (constraint_of c) (datum_of v) x) ef k in
     rw (ep, er)
     (in_element (constraint_of c) (elements_of (map datum_of vs)) i (datum_of v) (reverse o.path.items) o.reason elements (element_seen vs i v h e) there)

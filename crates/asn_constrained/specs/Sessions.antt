@@ -46,10 +46,18 @@ TookInside took q t (met s) = took q t (inner.over s)
 TookInside took q t (broken s) = took q t (inner.over s)
 TookInside took q t spent = (s : List ℕ) × took q t (inner.over s)
 
--- what is known of the octets of a value
+-- a fault that is answered again to every piece
+abbrev pub IsLasting : FeedFault → Type 0
+IsLasting (feed.Refused at why) = ⊤
+IsLasting feed.TooLong = ⊤
+IsLasting feed.Memory = ⊥
+IsLasting feed.Spent = ⊥
+
+-- what is known of the fault, or of the octets of a value
 abbrev pub KnownOf : Ruling → Shape → Constraint → PastUnder → Type 0
 KnownOf r t c (met s) = (v : Datum) × IsEncodingUnder r t c v s
 KnownOf r t c (broken s) = (v : Datum) × IsEncoding r t v s × (meets c v ≡ false)
+KnownOf r t c (stopped s fault) = IsLasting fault
 KnownOf r t c past = ⊤
 
 -- a session of the type and the constraint has this past: q is inside, and it holds the constraint and its end

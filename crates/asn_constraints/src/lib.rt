@@ -3,10 +3,14 @@
 
 mod broken;
 mod constraint;
+mod copying;
 mod judging;
+pub mod laws;
+mod spelling;
 mod strings;
 mod times;
 
 pub use broken::{Broken, Reason, judge_at};
 pub use constraint::{Component, Constraint, Interval, Lengths, Presence, TimeKind};
 pub use judging::judge;
+pub use spelling::judge_spelling;

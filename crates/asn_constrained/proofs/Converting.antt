@@ -55,7 +55,7 @@ read_fault : (a b : Ruling) (t : Shape) (c : Constraint) (o p : List ℕ) (why :
 read_fault a b t c o p (under.Broken used broken) la good w d = absurd (no_broken a t c o w.0 used broken la good w.1 w.2 d)
 read_fault a b t c o p (under.Type (decode.Refused at why)) la good w d = read_memory (decode.Refused at why) p (no_fault a t o w.0 (decode.Refused at why) la good w.2 d)
 read_fault a b t c o p (under.Type (decode.Truncated taken)) la good w d = read_memory (decode.Truncated taken) p (no_fault a t o w.0 (decode.Truncated taken) la good w.2 d)
-read_fault a b t c o p (under.Type (decode.Rest used)) la good w d = read_memory (decode.Rest used) p (no_fault a t o w.0 (decode.Rest used) la good w.2 (d.0, (d.1, d.2.0)))
+read_fault a b t c o p (under.Type (decode.Rest used)) la good w d = read_memory (decode.Rest used) p (no_fault a t o w.0 (decode.Rest used) la good w.2 (d.0, d.1, d.2.0))
 read_fault a b t c o p (under.Type decode.TooLong) la good w d = read_memory decode.TooLong p (no_fault a t o w.0 decode.TooLong la good w.2 d)
 read_fault a b t c o p (under.Type decode.Memory) la good w d = tt
 
@@ -75,4 +75,4 @@ exact a b t c o p (Err fault.Memory) la lb good h w = tt
 pub turns_back : (a b : Ruling) → RulesLaws a → RulesLaws b → TurnsBackUnder a b
 turns_back a b la lb t c o there back p good first is second =
     let forth : ConvertsUnder a b c t o p.items = subst (λ answer. ConvertedUnder a b c answer t o) is first in
-    exact b a t c p.items o back lb la good second (forth.0, (forth.1, (forth.3, forth.2)))
+    exact b a t c p.items o back lb la good second (forth.0, forth.1, forth.3, forth.2)

@@ -9,7 +9,7 @@ use Rattle.asn_constrained.specs.Under.{BreaksConstraint, RefusedByConstraint, A
 
 -- ---- two answers are one
 
-pub value_of : Told → Datum
+unfoldable pub value_of : Told → Datum
 value_of (done v n) = v
 value_of _ = nothing
 

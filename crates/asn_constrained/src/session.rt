@@ -48,7 +48,11 @@ impl<R: Rules> ConstrainedSession<R> {
             self.old self.new piece.now result }
     {
         match R::feed(&mut self.inner, piece) {
-            Ok(Step::Done { value, used }) => match broken_in(self.alloc, &self.constraint, &value) {
+            Ok(Step::Done { value, used }) => match broken_in(
+                self.alloc,
+                &self.constraint,
+                &value,
+            ) {
                 Ok(None) => {
                     self.end = End::Met;
                     Ok(Step::Done { value, used })

@@ -7,7 +7,7 @@ use Rattle.asn_constrained.proofs.constrained_type.ConstrainedType.read_newer.Go
 
 pub returns-in-Ok : goal.returns-in-Ok
 returns-in-Ok g c =
-    let l = g.R.ReadNewer.loose in
+    let l = g.R.OtherVersions.loose in
     let t = shape_of c.args.self.now.planned in
     let k = constraint_of c.args.self.now.constraint.value in
     let o = c.args.octets.now in

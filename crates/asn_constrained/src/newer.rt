@@ -30,7 +30,7 @@ pub enum ConstrainedNewerFault {
     Type(NewerFault),
     /// The message breaks a constraint of spelling, which each version keeps. Reported is the first constraint that its
     /// value breaks.
-    #[error("constraint of spelling broken")]
+    #[error("{}", .0.reason)]
     Spelling(Broken),
 }
 

@@ -1,6 +1,9 @@
 //! A session under a constraint, by any encoding rules.
 ghost use Rattle.std.specs.Prelude.{◌≡◌};
 ghost use Rattle.asn_values.specs.Shape.{Shape};
+ghost use Rattle.asn_rules.specs.Holding.{HoldsFew};
+ghost use Rattle.asn_rules.specs.Kept.{Keeps};
+ghost use Rattle.asn_rules.specs.Ticks.{Counts};
 ghost use Rattle.asn_constraints.specs.Constraints.{Constraint as Rule};
 ghost use Rattle.asn_constraints.specs.View.{constraint_of};
 ghost use Rattle.asn_constrained.specs.Sessions.{PastUnder, TookUnder, FeedsUnder, FinishedUnder};
@@ -77,6 +80,29 @@ impl<R: Rules> ConstrainedSession<R> {
             }
             Err(FeedFault::Spent) => Err(ConstrainedFeedFault::Type(FeedFault::Spent)),
         }
+    }
+
+    /// How many units its levels took: see `Rules::ticks`. Takes no memory.
+    pub fn ticks(&self) -> u64
+        ensures count { result ≡ R.ticked self.now.inner }
+        ensures seen { Counts R.ruling (λ q. R.took q.inner) self.now result }
+    {
+        R::ticks(&self.inner)
+    }
+
+    /// The octets that it keeps: see `Rules::kept`. Takes no memory.
+    pub fn kept(&self) -> &[u8]
+        ensures { Keeps R.ruling (λ q. R.took q.inner) self.now result.now }
+    {
+        R::kept(&self.inner)
+    }
+
+    /// How much of a message it holds: see `Rules::held`. Takes no memory.
+    pub fn held(&self) -> u64
+        ensures count { result ≡ R.holds self.now.inner }
+        ensures few { HoldsFew (λ q. R.took q.inner) self.now result }
+    {
+        R::held(&self.inner)
     }
 
     /// Ends the session: whether the octets taken are a whole encoding under the constraint. Takes no memory.

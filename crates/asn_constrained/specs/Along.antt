@@ -1,21 +1,19 @@
 -- What a walk along a plan still has to judge, and which values meet it.
-use Rattle.std.specs.Prelude.{◌≡◌, ℕ, zero, suc, true, List, [], ◌∷◌, ◌++◌, length, map, Option, Some, None, ⊤}
+use Rattle.std.specs.Prelude.{◌≡◌, ℕ, true, List, [], ◌∷◌, ◌++◌, length, map, Option, Some, None, ⊤}
 use Rattle.std.specs.Borrow.{Bor}
 use Rattle.asn_values.specs.Datum.{Datum, components, components_of, elements, elements_of, alternative}
 use Rattle.asn_constraints.specs.declared.constraint.Component.{Component}
+use Rattle.asn_constraints.specs.declared.constraint.Constraint.{Constraint}
 use Rattle.asn_constraints.specs.declared.constraint.Lengths.{Lengths}
-use Rattle.asn_constraints.specs.Constraints.{OnComponents, any, free, on_component, other_components_free, meets, meet_each, one_present, is_length}
+use Rattle.asn_constraints.specs.Constraints.{meets, meet_each, one_present, is_length}
 use Rattle.asn_constraints.specs.View.{constraint_of, on_one, components_seen, lengths_of}
-use Rattle.asn_constrained.specs.declared.along.due.Due.{Due}
-use Rattle.asn_constrained.specs.declared.along.due.Due.TheVariants as due
 use Rattle.asn_constrained.specs.declared.along.entries.Entries.{Entries}
 use Rattle.asn_constrained.specs.declared.along.elements.Elements.{Elements}
 
--- the value meets all that is due
-abbrev pub MeetsDue : Due → Datum → Type 0
-MeetsDue due.Nothing d = ⊤
-MeetsDue (due.One c) d = meets (constraint_of c.now) d ≡ true
-MeetsDue (due.Two c e) d = (meets (constraint_of c.now) d ≡ true) × (meets (constraint_of e.now) d ≡ true)
+-- the value meets the constraint that is due, if one is
+abbrev pub MeetsDue : Option (Bor Constraint) → Datum → Type 0
+MeetsDue None d = ⊤
+MeetsDue (Some c) d = meets (constraint_of c.now) d ≡ true
 
 -- ---- SEQUENCE
 
@@ -24,36 +22,21 @@ abbrev pub MeetsFirst : List Component → Datum → Type 0
 MeetsFirst [] d = ⊤
 MeetsFirst (c ∷ cs) d = meets (on_one c).constraint d ≡ true
 
--- this many components of which nothing is asked, before others
-abbrev pub frees : ℕ → OnComponents → OnComponents
-frees zero cs = cs
-frees (suc n) cs = on_component any free (frees n cs)
-
--- what is asked of the components from the next one on: that of the list after so many of which nothing is asked
-abbrev pub ahead : ℕ → List Component → OnComponents
-ahead n [] = other_components_free
-ahead n (c ∷ cs) = frees n (components_seen (c ∷ cs))
-
 -- the entries from the next one on meet what is asked of them
 pub record MeetAsked (e : Entries) (es : List (Option Datum)) : Type 0 where
-  pub first : meet_each (ahead e.until e.first.now) es ≡ true
-  pub second : meet_each (ahead e.until e.second.now) es ≡ true
+  pub rest : meet_each (components_seen e.rest.now) es ≡ true
   pub some : e.some_due ≡ true → one_present es ≡ true
-
--- a value that meets what is due meets what is asked of the next component
-abbrev pub AreNext : Entries → Due → Type 0
-AreNext e m = e.until ≡ 0 → (d : Datum) → MeetsDue m d → MeetsFirst e.first.now d × MeetsFirst e.second.now d
 
 -- The entries are the first ones of a SEQUENCE that has to meet what is due in s: it does where those after them meet what
 -- is asked of them. What is due in m is what the next one has to meet.
-pub record AreListed (s m : Due) (e : Entries) (es : List (Option Datum)) : Type 0 where
+pub record AreListed (s m : Option (Bor Constraint)) (e : Entries) (es : List (Option Datum)) : Type 0 where
   pub whole : (gs : List (Option Datum)) → MeetAsked e gs → MeetsDue s (components (components_of (es ++ gs)))
-  pub next : AreNext e m
+  pub next : (d : Datum) → MeetsDue m d → MeetsFirst e.rest.now d
 
 -- ---- SEQUENCE OF
 
--- each of the values meets all that is due
-abbrev pub AllMeetDue : Due → List Datum → Type 0
+-- each of the values meets what is due
+abbrev pub AllMeetDue : Option (Bor Constraint) → List Datum → Type 0
 AllMeetDue c [] = ⊤
 AllMeetDue c (d ∷ ds) = MeetsDue c d × AllMeetDue c ds
 
@@ -69,7 +52,7 @@ pub record MeetAskedOfEach (e : Elements) (ds : List Datum) : Type 0 where
 
 -- The elements are the first ones of a SEQUENCE OF that has to meet what is due in s: it does where its elements meet what
 -- is asked of them, as these do. What is due in m is what the next one has to meet.
-pub record AreRowed (s m : Due) (e : Elements) (ds : List Datum) : Type 0 where
+pub record AreRowed (s m : Option (Bor Constraint)) (e : Elements) (ds : List Datum) : Type 0 where
   pub whole : (es : List Datum) → MeetAskedOfEach e es → MeetsDue s (elements (elements_of es))
   pub each : AllMeetDue e.each ds
   pub count : e.count ≡ length ds
@@ -78,5 +61,5 @@ pub record AreRowed (s m : Due) (e : Elements) (ds : List Datum) : Type 0 where
 -- ---- CHOICE
 
 -- a CHOICE meets what is due in s where the value of its alternative at this place meets what is due in m
-abbrev pub IsChosen : Due → Due → ℕ → Type 0
+abbrev pub IsChosen : Option (Bor Constraint) → Option (Bor Constraint) → ℕ → Type 0
 IsChosen s m place = (d : Datum) → MeetsDue m d → MeetsDue s (alternative place d)

@@ -1,5 +1,5 @@
 //! Judges a constraint along the walk of a plan.
-mod due;
+mod choices;
 mod elements;
 mod entries;
 mod judging;

@@ -1,16 +1,16 @@
 //! Judges a constraint along the walk of a plan, and builds nothing of the value.
-ghost use Rattle.std.specs.Prelude.{◌≡◌, ◌≤◌, true, length};
+ghost use Rattle.std.specs.Prelude.{◌≡◌, ◌≤◌, true, length, IsSome};
 ghost use Rattle.asn_values.specs.Datum.{Datum};
-ghost use Rattle.asn_values.specs.View.{shape_of};
+ghost use Rattle.asn_values.specs.View.{shape_of, datum_of};
 ghost use Rattle.asn_rules.specs.Answer.{IsEncoding, max_octets};
 ghost use Rattle.asn_constraints.specs.Constraints.{meets};
 ghost use Rattle.asn_constraints.specs.View.{constraint_of};
 ghost use Rattle.asn_constrained.specs.Along.{MeetsDue, AreListed, AreRowed, IsChosen};
 
-use crate::along::due::Due;
+use crate::along::choices::choose;
 use crate::along::elements::Elements;
 use crate::along::entries::Entries;
-use asn_constraints::Constraint;
+use asn_constraints::{Constraint, judge};
 use asn_plan::{Build, FixedString, PlanRules, Planned};
 use asn_values::Value;
 use std::alloc::Global;
@@ -18,11 +18,11 @@ use std::alloc::Global;
 /// Judges what is due of each part, and builds nothing. It gives up where a constraint is broken, or can only be judged of
 /// a whole value.
 pub struct Along<'c> {
-    pub due: Due<'c>,
+    pub due: Option<&'c Constraint>,
 }
 
 impl<'c> Build for Along<'c> {
-    type Room = Due<'c>;
+    type Room = Option<&'c Constraint>;
 
     type Part = ();
 
@@ -41,27 +41,27 @@ impl<'c> Build for Along<'c> {
     ghost opened = { λ s r c place. IsChosen s r place };
 
     #[inline(always)]
-    fn number(room: &mut Due<'c>, integer: i128) -> Option<()> {
-        if let Due::Nothing = room {
+    fn number(room: &mut Option<&'c Constraint>, integer: i128) -> Option<()> {
+        let Some(constraint) = *room else {
             return Some(());
-        }
-        room.judge(&Value::Int(integer))
+        };
+        met(constraint, &Value::Int(integer))
     }
 
     #[inline(always)]
-    fn truth(room: &mut Due<'c>, is_true: bool) -> Option<()> {
-        if let Due::Nothing = room {
+    fn truth(room: &mut Option<&'c Constraint>, is_true: bool) -> Option<()> {
+        let Some(constraint) = *room else {
             return Some(());
-        }
-        room.judge(&Value::Bool(is_true))
+        };
+        met(constraint, &Value::Bool(is_true))
     }
 
     #[inline(always)]
-    fn item(room: &mut Due<'c>, position: u32) -> Option<()> {
-        if let Due::Nothing = room {
+    fn item(room: &mut Option<&'c Constraint>, position: u32) -> Option<()> {
+        let Some(constraint) = *room else {
             return Some(());
-        }
-        room.judge(&Value::Enum(position))
+        };
+        met(constraint, &Value::Enum(position))
     }
 
     #[inline(always)]
@@ -75,8 +75,11 @@ impl<'c> Build for Along<'c> {
     }
 
     #[inline(always)]
-    fn string(room: &mut Due<'c>, _fixed: &FixedString, _number: u64) -> Option<()> {
-        room.nothing()
+    fn string(room: &mut Option<&'c Constraint>, _fixed: &FixedString, _number: u64) -> Option<()> {
+        if room.is_some() {
+            return None;
+        }
+        Some(())
     }
 
     #[inline(always)]
@@ -85,73 +88,90 @@ impl<'c> Build for Along<'c> {
     }
 
     #[inline(always)]
-    fn counted(room: &mut Due<'c>, _entries: u32) -> Option<()> {
-        room.nothing()
+    fn counted(room: &mut Option<&'c Constraint>, _entries: u32) -> Option<()> {
+        if room.is_some() {
+            return None;
+        }
+        Some(())
     }
 
     #[inline(always)]
-    fn value(room: &mut Due<'c>, value: Value) -> Option<()> {
-        room.judge(&value)
+    fn value(room: &mut Option<&'c Constraint>, value: Value) -> Option<()> {
+        let Some(constraint) = *room else {
+            return Some(());
+        };
+        met(constraint, &value)
     }
 
     #[inline(always)]
-    fn kept(room: &mut Due<'c>, value: &Value) -> Option<()> {
-        room.judge(value)
+    fn kept(room: &mut Option<&'c Constraint>, value: &Value) -> Option<()> {
+        let Some(constraint) = *room else {
+            return Some(());
+        };
+        met(constraint, value)
     }
 
     #[inline(always)]
-    fn entries(_alloc: Global, room: &mut Due<'c>, _count: usize) -> Option<Entries<'c>> {
+    fn entries(_alloc: Global, room: &mut Option<&'c Constraint>, _count: usize) -> Option<Entries<'c>> {
         Entries::begin(room)
     }
 
     #[inline(always)]
-    fn absent(room: &mut Due<'c>, entries: &mut Entries<'c>) -> Option<()> {
+    fn absent(room: &mut Option<&'c Constraint>, entries: &mut Entries<'c>) -> Option<()> {
         entries.pass_absent(room)
     }
 
     #[inline(always)]
-    fn present(room: &mut Due<'c>, entries: &mut Entries<'c>, _part: ()) -> Option<()> {
+    fn present(room: &mut Option<&'c Constraint>, entries: &mut Entries<'c>, _part: ()) -> Option<()> {
         entries.pass_present(room)
     }
 
     #[inline(always)]
-    fn sequence(_room: &mut Due<'c>, entries: Entries<'c>) -> Option<()> {
+    fn sequence(_room: &mut Option<&'c Constraint>, entries: Entries<'c>) -> Option<()> {
         entries.end()
     }
 
     #[inline(always)]
-    fn elements(_alloc: Global, room: &mut Due<'c>) -> Option<Elements<'c>> {
+    fn elements(_alloc: Global, room: &mut Option<&'c Constraint>) -> Option<Elements<'c>> {
         Elements::begin(room)
     }
 
     #[inline(always)]
-    fn element(room: &mut Due<'c>, row: &mut Elements<'c>, _part: ()) -> Option<()> {
+    fn element(room: &mut Option<&'c Constraint>, row: &mut Elements<'c>, _part: ()) -> Option<()> {
         row.pass(room)
     }
 
     #[inline(always)]
-    fn list(room: &mut Due<'c>, row: Elements<'c>) -> Option<()> {
+    fn list(room: &mut Option<&'c Constraint>, row: Elements<'c>) -> Option<()> {
         row.end(room)
     }
 
     #[inline(always)]
-    fn choosing(room: &mut Due<'c>, place: usize) -> Option<()> {
-        if let Due::Nothing = room {
-            return Some(());
-        }
-        room.choose(place)
+    fn choosing(room: &mut Option<&'c Constraint>, place: usize) -> Option<()> {
+        choose(room, place)
     }
 
     #[inline(always)]
     fn choice(
         _alloc: Global,
-        _room: &mut Due<'c>,
+        _room: &mut Option<&'c Constraint>,
         _chosen: (),
         _place: usize,
         _part: (),
     ) -> Option<()> {
         Some(())
     }
+}
+
+/// Judges the value; `None` where it breaks the constraint.
+#[inline(never)]
+fn met(constraint: &Constraint, value: &Value) -> Option<()>
+    ensures { IsSome result → meets (constraint_of constraint.now) (datum_of value.now) ≡ true }
+{
+    if judge(constraint, value) {
+        return Some(());
+    }
+    None
 }
 
 /// Whether the octets are the complete encoding by the rules R of a value of the type that meets the constraint. No value is
@@ -166,7 +186,7 @@ pub fn check_along<'c, R: PlanRules>(
     ensures encoding { result ≡ true → (d : Datum) × IsEncoding R.ruling (shape_of planned.now) d octets.now
         × (meets (constraint_of constraint.now) d ≡ true) }
 {
-    let mut due = Due::One(constraint);
+    let mut due = Some(constraint);
     planned
         .build::<R, Along<'c>>(alloc, octets, &mut due)
         .is_some()

@@ -1,3 +1,6 @@
+pub mod Times
 pub mod Constraints
 pub mod View
-pub mod ConstraintExamples
+pub mod Spelling
+pub mod Broken
+pub mod Finding

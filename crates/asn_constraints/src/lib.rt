@@ -5,6 +5,7 @@ mod broken;
 mod constraint;
 mod judging;
 mod strings;
+mod times;
 
 pub use broken::{Broken, Reason, judge_at};
 pub use constraint::{Component, Constraint, Interval, Lengths, Presence, TimeKind};

@@ -1,8 +1,8 @@
 //! What a constraint on a CHOICE asks of the value of an alternative.
 ghost use Rattle.std.specs.Prelude.{◌≡◌, true, IfSome, IsSome};
 ghost use Rattle.asn_values.specs.Datum.{Datum, alternative};
-ghost use Rattle.asn_constraints.specs.Constraints.{meets};
-ghost use Rattle.asn_constraints.specs.View.{constraint_of};
+ghost use Rattle.asn_constraints.specs.Constraints.{meets, meets_at};
+ghost use Rattle.asn_constraints.specs.View.{constraint_of, alternatives_seen};
 ghost use Rattle.asn_constrained.specs.Along.{MeetsDue, IsChosen};
 
 use asn_constraints::Constraint;
@@ -27,24 +27,12 @@ fn asked_of_chosen<'c>(constraint: &'c Constraint, place: usize) -> Option<Optio
 {
     match constraint {
         Constraint::Alternatives(alternatives) => {
-            if place >= alternatives.len() {
-                return None;
-            }
-            match &alternatives[place] {
-                Constraint::Free => Some(None),
-                asked => Some(Some(asked)),
-            }
+            asked_at(alternatives.as_slice(), place)
         }
         Constraint::Both(first, second) => {
             let of_first = asked_of_chosen(first, place)?;
             let of_second = asked_of_chosen(second, place)?;
-            if of_first.is_none() {
-                return Some(of_second);
-            }
-            if of_second.is_none() {
-                return Some(of_first);
-            }
-            None
+            of_both(of_first, of_second)
         }
         Constraint::Free => Some(None),
         Constraint::Barred
@@ -59,5 +47,45 @@ fn asked_of_chosen<'c>(constraint: &'c Constraint, place: usize) -> Option<Optio
         | Constraint::Components(_)
         | Constraint::Elements(_)
         | Constraint::SomePresent => None,
+    }
+}
+
+/// What is asked of the value of the alternative at this place; `None` where there is no such.
+#[inline(always)]
+fn asked_at<'c>(alternatives: &'c [Constraint], place: usize) -> Option<Option<&'c Constraint>>
+    ensures { IfSome result (λ due. (d : Datum) → MeetsDue due d
+        → meets_at (alternatives_seen alternatives.now) place d ≡ true) }
+{
+    if place < alternatives.len() {
+        let asked = due_of(&alternatives[place]);
+        return Some(asked);
+    }
+    None
+}
+
+/// The constraint, if it asks anything.
+#[inline(always)]
+fn due_of<'c>(constraint: &'c Constraint) -> Option<&'c Constraint>
+    ensures { (d : Datum) → MeetsDue result d → meets (constraint_of constraint.now) d ≡ true }
+{
+    match constraint {
+        Constraint::Free => None,
+        asked => Some(asked),
+    }
+}
+
+/// The one of two constraints on a value that there is, `None` where there are both.
+#[inline(always)]
+fn of_both<'c>(
+    first: Option<&'c Constraint>,
+    second: Option<&'c Constraint>,
+) -> Option<Option<&'c Constraint>>
+    ensures of_first { IfSome result (λ due. (d : Datum) → MeetsDue due d → MeetsDue first.entry d) }
+    ensures of_second { IfSome result (λ due. (d : Datum) → MeetsDue due d → MeetsDue second.entry d) }
+{
+    match (first, second) {
+        (None, _) => Some(second),
+        (Some(_), None) => Some(first),
+        (Some(_), Some(_)) => None,
     }
 }

@@ -1,11 +1,11 @@
 //! What is still to be judged of a SEQUENCE OF whose elements are being read.
-ghost use Rattle.std.specs.Prelude.{◌≡◌, ◌++◌, ◌∷◌, [], true, List, Option, None, IfSome, IsSome};
+ghost use Rattle.std.specs.Prelude.{◌≡◌, ◌++◌, ◌∷◌, [], ℕ, true, List, Option, None, IfSome, IsSome};
 ghost use Rattle.std.specs.Borrow.{Bor};
 ghost use Rattle.asn_values.specs.Datum.{Datum, elements, elements_of};
 ghost use Rattle.asn_constraints.specs.Constraints.{meets};
 ghost use Rattle.asn_constraints.specs.View.{constraint_of};
 ghost use Rattle.asn_constraints.specs.declared.constraint.Constraint.{Constraint};
-ghost use Rattle.asn_constrained.specs.Along.{MeetsDue, MeetAskedOfEach, AreRowed};
+ghost use Rattle.asn_constrained.specs.Along.{MeetsDue, AllMeetDue, MayHaveLength, MeetAskedOfEach, AreRowed};
 
 use asn_constraints::{Constraint, Lengths, is_length};
 
@@ -114,18 +114,46 @@ fn asked_of_elements<'c>(constraint: &'c Constraint) -> Option<Elements<'c>>
 /// What two constraints ask of elements; `None` where both ask the same.
 #[inline(always)]
 fn of_both<'c>(first: Elements<'c>, second: Elements<'c>) -> Option<Elements<'c>>
-    ensures first { IfSome result (λ row. (ds : List Datum) → MeetAskedOfEach row ds → MeetAskedOfEach first ds) }
-    ensures second { IfSome result (λ row. (ds : List Datum) → MeetAskedOfEach row ds → MeetAskedOfEach second ds) }
+    ensures of_first { IfSome result (λ row. (ds : List Datum) → MeetAskedOfEach row ds → MeetAskedOfEach first.entry ds) }
+    ensures of_second { IfSome result (λ row. (ds : List Datum) → MeetAskedOfEach row ds → MeetAskedOfEach second.entry ds) }
 {
-    if first.each.is_some() && second.each.is_some() {
-        return None;
-    }
-    if first.lengths.is_some() && second.lengths.is_some() {
-        return None;
-    }
+    let each = each_of_both(first.each, second.each)?;
+    let lengths = lengths_of_both(first.lengths, second.lengths)?;
     Some(Elements {
-        each: if first.each.is_some() { first.each } else { second.each },
-        lengths: if first.lengths.is_some() { first.lengths } else { second.lengths },
+        each,
+        lengths,
         count: 0,
     })
+}
+
+/// The one of two constraints on each element that there is, `None` where there are both.
+#[inline(always)]
+fn each_of_both<'c>(
+    first: Option<&'c Constraint>,
+    second: Option<&'c Constraint>,
+) -> Option<Option<&'c Constraint>>
+    ensures of_first { IfSome result (λ each. (ds : List Datum) → AllMeetDue each ds → AllMeetDue first.entry ds) }
+    ensures of_second { IfSome result (λ each. (ds : List Datum) → AllMeetDue each ds → AllMeetDue second.entry ds) }
+{
+    match (first, second) {
+        (None, _) => Some(second),
+        (Some(_), None) => Some(first),
+        (Some(_), Some(_)) => None,
+    }
+}
+
+/// The one of two lists of lengths that there is, `None` where there are both.
+#[inline(always)]
+fn lengths_of_both<'c>(
+    first: Option<&'c [Lengths]>,
+    second: Option<&'c [Lengths]>,
+) -> Option<Option<&'c [Lengths]>>
+    ensures of_first { IfSome result (λ lengths. (n : ℕ) → MayHaveLength lengths n → MayHaveLength first.entry n) }
+    ensures of_second { IfSome result (λ lengths. (n : ℕ) → MayHaveLength lengths n → MayHaveLength second.entry n) }
+{
+    match (first, second) {
+        (None, _) => Some(second),
+        (Some(_), None) => Some(first),
+        (Some(_), Some(_)) => None,
+    }
 }

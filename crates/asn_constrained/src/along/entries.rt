@@ -80,10 +80,13 @@ impl<'c> Entries<'c> {
         ensures { IsSome result → (s m : Option (Bor Constraint)) (es : List (Option Datum))
             → AreListed s m self.now es → MeetsDue s (components (components_of es)) }
     {
-        if self.some_due || !self.rest.is_empty() {
+        if self.some_due {
             return None;
         }
-        Some(())
+        if self.rest.is_empty() {
+            return Some(());
+        }
+        None
     }
 }
 
@@ -140,9 +143,9 @@ fn asked_of_components<'c>(constraint: &'c Constraint) -> Option<Entries<'c>>
 /// What two constraints ask of components; `None` where both ask of them one after the other.
 #[inline(always)]
 fn of_both<'c>(first: Entries<'c>, second: Entries<'c>) -> Option<Entries<'c>>
-    ensures first { IfSome result (λ entries. (es : List (Option Datum)) → MeetAsked entries es → MeetAsked first es) }
-    ensures second { IfSome result (λ entries. (es : List (Option Datum)) → MeetAsked entries es
-        → MeetAsked second es) }
+    ensures of_first { IfSome result (λ entries. (es : List (Option Datum)) → MeetAsked entries es → MeetAsked first.entry es) }
+    ensures of_second { IfSome result (λ entries. (es : List (Option Datum)) → MeetAsked entries es
+        → MeetAsked second.entry es) }
 {
     let some_due = first.some_due || second.some_due;
     if first.rest.is_empty() {

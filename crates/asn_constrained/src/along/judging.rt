@@ -187,7 +187,8 @@ pub fn check_along<'c, R: PlanRules>(
         × (meets (constraint_of constraint.now) d ≡ true) }
 {
     let mut due = Some(constraint);
-    planned
-        .build::<R, Along<'c>>(alloc, octets, &mut due)
-        .is_some()
+    match planned.build::<R, Along<'c>>(alloc, octets, &mut due) {
+        Some(()) => true,
+        None => false,
+    }
 }

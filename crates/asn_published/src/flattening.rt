@@ -74,13 +74,17 @@ impl Flattened {
     }
 
     /// The constraint that the text of the module needs for the type at an index of the report: that of `constraint_of`
-    /// without those of the types whose names are in its text.
+    /// without those of the types whose names are in its text. With levels it is all of it, since the lower levels of a type
+    /// are no types of the report.
     ///
     /// # Errors
     /// `AllocError` where an allocation failed.
     pub fn own_constraint(&self, alloc: Global, index: usize) -> Result<Constraint, AllocError> {
         match self.places.get(index) {
-            Some(place) => own_constraint_at(alloc, self.marked.as_slice(), *place),
+            Some(place) if self.levels == 0 => {
+                own_constraint_at(alloc, self.marked.as_slice(), *place)
+            }
+            Some(place) => constraint_at(alloc, self.marked.as_slice(), *place),
             None => Ok(Constraint::Free),
         }
     }

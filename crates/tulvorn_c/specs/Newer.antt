@@ -2,7 +2,7 @@
 use Rattle.std.specs.Prelude.{◌≡◌, ◌⊎◌, ℕ, List, length, Option, Some, slice_get, MatchOption}
 use Rattle.asn_values.specs.Shape.{Shape}
 use Rattle.asn_values.specs.View.{datum_of}
-use Rattle.asn_view.specs.Typed.{typed}
+use Rattle.asn_constraints.specs.Constraints.{free}
 use Rattle.asn_newer.specs.Loose.{LooseCoding}
 use Rattle.asn_newer.specs.Reading.{IsNewer, NotNewer, skipped_seen}
 use Rattle.asn_newer.specs.Skipped as fields
@@ -11,15 +11,15 @@ use Rattle.asn_rules.specs.declared.newer.Newer.{Newer}
 use Rattle.tulvorn_c.specs.declared.object.Object.{Object}
 use Rattle.tulvorn_c.specs.declared.fault.Fault.{Fault}
 use Rattle.tulvorn_c.specs.Answers.{AreAsBefore, Copies}
-use Rattle.tulvorn_c.specs.Faults.{plain, done, of_newer}
-use Rattle.tulvorn_c.specs.Held.{held_value, held_skipped}
+use Rattle.tulvorn_c.specs.Faults.{plain, done, has_constraint, of_newer}
+use Rattle.tulvorn_c.specs.Held.{Constrained, value_of, held_valued, held_skipped}
 
 -- the handles hold the value that is read of the octets, and the fields that are skipped
-pub record HoldsNewer (l : LooseCoding) (t : Shape) (o : List ℕ) (value skipped : Option Object) : Type 0 where
+pub record HoldsNewer (l : LooseCoding) (t : Constrained) (o : List ℕ) (value skipped : Option Object) : Type 0 where
   pub newer : Newer
-  pub held : held_value value ≡ Some (typed t (datum_of newer.value))
+  pub held : held_valued value ≡ Some (value_of t (datum_of newer.value))
   pub fields_held : held_skipped skipped ≡ Some (skipped_seen newer.skipped.items)
-  pub read : IsNewer l t newer o
+  pub read : IsNewer l t.shape newer o
 
 -- the octets are read as no message of any version, as the fault tells
 pub record IsNotNewer (l : LooseCoding) (t : Shape) (o : List ℕ) (fault : Fault) : Type 0 where
@@ -32,10 +32,10 @@ abbrev pub BothStay : Option Object → Option Object → Option Object → Opti
 BothStay value value' skipped skipped' = (value' ≡ value) × (skipped' ≡ skipped)
 
 abbrev pub ReadsNewer : LooseCoding → List ℕ → Option Object → Option Object → Option Object → Option Object
-    → Shape → Fault → Type 0
+    → Constrained → Fault → Type 0
 ReadsNewer l o value value' skipped skipped' t fault =
-    ((fault ≡ done) × HoldsNewer l t o value' skipped')
-    ⊎ (BothStay value value' skipped skipped' × IsNotNewer l t o fault)
+    ((fault ≡ done) × (t.constraint ≡ free) × HoldsNewer l t o value' skipped')
+    ⊎ (BothStay value value' skipped skipped' × ((fault ≡ has_constraint) ⊎ IsNotNewer l t.shape o fault))
 
 -- how many fields there are
 abbrev pub TellsFields : ℕ → List fields.Skipped → Fault → Type 0

@@ -80,10 +80,10 @@ const OVER_BUDGET: u32 = 22;
 pub(crate) const HAS_CONSTRAINT: u32 = 23;
 
 /// The reason of a refusal where the value breaks the constraint of its type: the one after those of `Why`.
-const CONSTRAINT: u32 = 8;
+const WHY_CONSTRAINT: u32 = 8;
 
 /// The reason of a text where a line of a constraint is none of its type: the one after those of `ModuleFault`.
-const BAD_CONSTRAINT: u32 = 8;
+const WHY_BAD_CONSTRAINT: u32 = 8;
 
 /// What a call answered: a code, and, as the code says, a reason and a place.
 #[repr(C)]
@@ -134,7 +134,7 @@ impl Fault {
         };
         Fault {
             code: REFUSED,
-            why: CONSTRAINT,
+            why: WHY_CONSTRAINT,
             at,
         }
     }
@@ -267,7 +267,7 @@ impl Fault {
     {
         Fault {
             code: NO_MODULE,
-            why: BAD_CONSTRAINT,
+            why: WHY_BAD_CONSTRAINT,
             at: 0,
         }
     }

@@ -1,10 +1,10 @@
 //! Messages of one set of encoding rules as those of the other.
 ghost use Rattle.std.specs.Prelude.{◌≡◌, IfOk, IfErr, ⊤};
+ghost use Rattle.asn_constrained.specs.Converted.{ConvertsUnder};
 ghost use Rattle.tulvorn_c.specs.Answers.{
   AskedBy,
   ruling_of,
   other_ruling_of,
-  ConvertsUnder,
   ConvertsTo,
   ConvertsExactly,
   IsNotConverted,
@@ -83,8 +83,8 @@ fn recoded<A: Rules, B: Rules>(
     octets: &[u8],
     unit: Unit,
 ) -> Result<Vec<u8>, Fault>
-    ensures converted { IfOk result (λ p.
-        ConvertsUnder A.ruling B.ruling (constrained_of ty.now) octets.now p.items) }
+    ensures converted { IfOk result (λ p. ConvertsUnder A.ruling B.ruling (constrained_of ty.now).constraint
+        (constrained_of ty.now).shape octets.now p.items) }
     ensures fault { IfErr result (λ fault.
         IsNotConverted unit A.ruling B.ruling (constrained_of ty.now) octets.now fault) }
 {

@@ -1,0 +1,1 @@
+-- What is told of octets that have a counterpart by the other rules: it is given, or memory was wanting.

@@ -72,16 +72,14 @@ static int comes_back(tulvorn_handle *type, tulvorn_handle *value, uint32_t rule
     return 0;
 }
 
-/* What a receiver of the type reads of the octets: the value, where they are an encoding, and nothing is skipped. A type
-   with a constraint is refused. */
+/* What a receiver of the type reads of the octets: the value, where they are an encoding, and nothing is skipped. */
 static int received(tulvorn_handle *type, uint32_t rules, const struct octets *octets, uint32_t told) {
     static struct octets made;
     tulvorn_handle value = TULVORN_NONE, fields = TULVORN_NONE, out = TULVORN_NONE;
     tulvorn_fault fault;
     uint32_t code = tulvorn_read_newer(type, rules, octets->at, octets->size, &value, &fields, &fault), place;
     size_t count = 0;
-    if (told == TULVORN_DONE && code != TULVORN_HAS_CONSTRAINT)
-        CHECK(code == TULVORN_DONE && writes(&value, rules, octets) == 0);
+    if (told == TULVORN_DONE) CHECK(code == TULVORN_DONE && writes(&value, rules, octets) == 0);
     if (code == TULVORN_DONE) {
         CHECK(tulvorn_skipped_count(&fields, &count) == TULVORN_DONE && (told != TULVORN_DONE || count == 0));
         for (size_t at = 0; at < count; at++)

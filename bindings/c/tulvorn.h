@@ -78,7 +78,8 @@ enum {
     TULVORN_NO_PATH = 14,           /* no value of the type has a part there, as with a misspelt name */
     TULVORN_OTHER_KIND = 15,        /* the part there is of another kind */
     /* of tulvorn_read_newer alone: */
-    TULVORN_NO_MESSAGE = 16,        /* no message of any version begins so, or more octets follow one */
+    TULVORN_NO_MESSAGE = 16,        /* no message of any version begins so, or more octets follow one, or the value breaks
+                                       a constraint of its spelling */
     TULVORN_CUT_MESSAGE = 17,       /* the octets end before a message of any version does */
     TULVORN_TOO_MANY_ADDITIONS = 18, /* a count of additions, the index or tag of an alternative, or the index of an
                                         item, past those of the profile */
@@ -90,8 +91,8 @@ enum {
                                        DEFAULT, another alternative is chosen, or the list has fewer elements */
     /* of tulvorn_check_within and tulvorn_decode_within alone: */
     TULVORN_OVER_BUDGET = 22,       /* the octets are the encoding of a value that takes more than the budget */
-    /* of tulvorn_type and tulvorn_read_newer alone: */
-    TULVORN_HAS_CONSTRAINT = 23     /* the constraint of the type is too large, or the call does not judge constraints */
+    /* of tulvorn_type alone: */
+    TULVORN_LARGE_CONSTRAINT = 23   /* the constraint of the type has more than 1,000,000 parts */
 };
 
 /* ---- why, where octets are TULVORN_REFUSED: what was being read */
@@ -152,8 +153,8 @@ uint32_t tulvorn_module(const uint8_t *text, size_t len, tulvorn_handle *module,
 uint32_t tulvorn_explain_module(const uint8_t *text, size_t len, tulvorn_handle *words);
 
 /* Puts the type that the module assigns to the name into `type`, with its constraint. It outlives the module, which is as
-   it was. Answers MISUSE where `module` holds no module, NOT_TEXT, NO_NAME, NO_MEMORY, and HAS_CONSTRAINT if the
-   constraint has more than 1,000,000 parts. */
+   it was. Answers MISUSE where `module` holds no module, NOT_TEXT, NO_NAME, LARGE_CONSTRAINT,
+   NO_MEMORY. */
 uint32_t tulvorn_type(const tulvorn_handle *module, const uint8_t *name, size_t len, tulvorn_handle *type,
                       tulvorn_fault *fault);
 
@@ -251,7 +252,9 @@ uint32_t tulvorn_finish(tulvorn_handle *session, tulvorn_fault *fault);
    not have. A value with an item or alternative that the type does not have has no encoding, and tulvorn_name answers
    OTHER_KIND there. Its JSON shows the number: of an item `"?2"`, by PER its index among the additions, from 0, by OER
    its number; of an alternative `{"?1":null}`, its index, root before additions, from 0.
-   Answers NO_MESSAGE, CUT_MESSAGE, TOO_MANY_ADDITIONS, TOO_LONG, NO_MEMORY, and HAS_CONSTRAINT if the type has one. */
+   Of a constraint what each version keeps is judged: no DEFAULT is written out, no group is empty, named bits and times
+   have no last zeros. A message that breaks it is NO_MESSAGE. tulvorn_misfit shows what else of it the value breaks.
+   Answers NO_MESSAGE, CUT_MESSAGE, TOO_MANY_ADDITIONS, TOO_LONG, NO_MEMORY. */
 uint32_t tulvorn_read_newer(const tulvorn_handle *type, uint32_t rules, const uint8_t *octets, size_t len,
                             tulvorn_handle *value, tulvorn_handle *skipped, tulvorn_fault *fault);
 

@@ -32,23 +32,14 @@ static bool writes(const Value &value, Rules rules, const Octets &octets) {
            value.encode_into(rules, into.data(), into.size()) == octets.size() && into == octets;
 }
 
-// A receiver of the type reads the value, and nothing is skipped; a type with a constraint is refused.
-static bool received(const Type &type, Rules rules, const Octets &octets) {
-    try {
-        Newer newer = type.read_newer(rules, octets);
-        return newer.skipped.empty() && writes(newer.value, rules, octets);
-    } catch (const Fault &fault) {
-        return fault.code() == TULVORN_HAS_CONSTRAINT;
-    }
-}
-
 // The octets are the encoding of a value, which comes back from JSON and from the other rules.
 static bool taken(const Type &type, Rules rules, const Octets &octets) {
     Value value = type.decode(rules, octets);
+    Newer newer = type.read_newer(rules, octets);
     Rules other = rules == Rules::Per ? Rules::Oer : Rules::Per;
     return !type.fault_if(rules, octets) && type.explain(rules, octets).empty() && writes(value, rules, octets) &&
-           writes(type.from_json(value.to_json()), rules, octets) && received(type, rules, octets) &&
-           type.convert(other, type.convert(rules, octets)) == octets;
+           writes(type.from_json(value.to_json()), rules, octets) && newer.skipped.empty() &&
+           writes(newer.value, rules, octets) && type.convert(other, type.convert(rules, octets)) == octets;
 }
 
 // value PER OER JSON SHOWN

@@ -363,7 +363,10 @@ def constraints():
         assert kind.misfit(value) == words and kind.share().misfit(value) == words
         for call in value.encode, value.encoded_len:
             assert raised(tulvorn.EncodeError, lambda: call(rules)).code == tulvorn.NOT_OF_TYPE
-        assert raised(tulvorn.DecodeError, lambda: kind.read_newer(octets, rules)).code == tulvorn.HAS_CONSTRAINT
+        if "written out" in words or "group" in words:
+            assert raised(tulvorn.DecodeError, lambda: kind.read_newer(octets, rules)).code == tulvorn.NO_MESSAGE
+        else:
+            assert kind.misfit(kind.read_newer(octets, rules)[0]) == words
     assert spec.type("L").misfit(spec.type("L").of([2, 4])) is None
     for line in "--: S (2..", "--: T (2..3)", "--: S (SIZE (3))":
         fault = raised(tulvorn.ModuleError, lambda: tulvorn.compile_string(CONSTRAINED.replace("--: S (2..4 | 6..8)", line)))

@@ -21,18 +21,18 @@ use Rattle.asn_rules.specs.declared.fault.EncodeIntoFault.{EncodeIntoFault}
 use Rattle.asn_per.specs.Rules.{per_ruling}
 use Rattle.asn_oer.specs.Rules.{oer_ruling}
 use Rattle.asn_json.specs.Texts.{IsJson, IsNoJson, RepeatsKey}
-use Rattle.asn_convert.specs.Converted.{IsTooLong}
 use Rattle.asn_constraints.specs.Constraints.{meets}
 use Rattle.asn_constrained.specs.Under.{IsEncodingUnder, DecodedUnder, NotEncodedUnder}
 use Rattle.asn_constrained.specs.Measured.{NotMeasuredUnder, NotPlacedUnder}
-use Rattle.asn_constrained.specs.Converted.{ConvertsUnder, IsRead}
+use Rattle.asn_constrained.specs.Converted.{ConvertsUnder, ConvertedUnder}
+use Rattle.asn_constrained.specs.declared.conversion.ConvertFault.{ConvertFault}
 use Rattle.asn_constrained.specs.declared.fault.ConstrainedFault.{ConstrainedFault}
 use Rattle.asn_json.specs.Written.{json_of}
 use Rattle.asn_json.specs.Errors.{Shown, Refused}
 use Rattle.asn_json.specs.declared.fault.JsonFault.{JsonFault}
 use Rattle.tulvorn_c.specs.declared.object.Object.{Object}
 use Rattle.tulvorn_c.specs.declared.fault.Fault.{Fault}
-use Rattle.tulvorn_c.specs.Faults.{plain, done, no_memory, misuse, has_constraint, not_of_type, too_long, of_constrained, of_encode, of_length, of_encode_into, of_json, of_module, bad_constraint}
+use Rattle.tulvorn_c.specs.Faults.{plain, done, no_memory, misuse, large_constraint, of_constrained, of_converted, of_encode, of_length, of_encode_into, of_json, of_module, bad_constraint}
 use Rattle.tulvorn_c.specs.Held.{Constrained, Valued, value_of, held_module, held_constrained, held_valued, held_octets}
 
 -- ---- what a call is asked of
@@ -108,7 +108,7 @@ abbrev pub FindsName : List ℕ → Option Object → Option Object → ModuleTy
 FindsName name old new m fault =
     ((fault ≡ done) × (t : Constrained) × (type_in m.types name ≡ Some t.shape) × (held_constrained new ≡ Some t))
     ⊎ ((new ≡ old)
-    × (((fault ≡ plain 10) × (type_in m.types name ≡ None)) ⊎ (fault ≡ no_memory) ⊎ (fault ≡ has_constraint)))
+    × (((fault ≡ plain 10) × (type_in m.types name ≡ None)) ⊎ (fault ≡ no_memory) ⊎ (fault ≡ large_constraint)))
 
 abbrev pub FindsType : List ℕ → Option Object → Option Object → ModuleTypes → Fault → Type 0
 FindsType name old new m fault =
@@ -187,12 +187,10 @@ pub record HoldsConverted (a b : Ruling) (t : Constrained) (o : List ℕ) (new :
   pub held : held_octets new ≡ Some octets
   pub converted : ConvertsUnder a b t.constraint t.shape o octets
 
--- the octets are not decoded, or the encoding of their value by the rules b would be too long, or memory was wanting
-abbrev pub IsNotConverted : Unit → Ruling → Ruling → Constrained → List ℕ → Fault → Type 0
-IsNotConverted u a b t o fault =
-    IsNotDecoded u a t o fault
-    ⊎ ((fault ≡ too_long) × (v : Datum) × IsRead a t.constraint t.shape o v × IsTooLong b t.shape v)
-    ⊎ (fault ≡ no_memory)
+pub record IsNotConverted (u : Unit) (a b : Ruling) (t : Constrained) (o : List ℕ) (fault : Fault) : Type 0 where
+  pub why : ConvertFault
+  pub told : fault ≡ of_converted u why
+  pub holds : ConvertedUnder a b t.constraint (Err why) t.shape o
 
 abbrev pub ConvertsTo : Unit → Ruling → List ℕ → Option Object → Option Object → Ruling → Constrained → Fault → Type 0
 ConvertsTo u b o old new a t fault =

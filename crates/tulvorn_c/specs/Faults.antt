@@ -19,8 +19,8 @@ use Rattle.asn_plan.specs.declared.budget.WithinFault.TheVariants as within
 use Rattle.asn_constrained.specs.Places.{last_unit}
 use Rattle.asn_constrained.specs.declared.fault.ConstrainedFault.{ConstrainedFault}
 use Rattle.asn_constrained.specs.declared.fault.ConstrainedFault.TheVariants as under
-use Rattle.asn_convert.specs.declared.conversion.ConvertFault.{ConvertFault}
-use Rattle.asn_convert.specs.declared.conversion.ConvertFault.TheVariants as convert
+use Rattle.asn_constrained.specs.declared.conversion.ConvertFault.{ConvertFault}
+use Rattle.asn_constrained.specs.declared.conversion.ConvertFault.TheVariants as convert
 use Rattle.asn_json.specs.declared.fault.JsonFault.{JsonFault}
 use Rattle.asn_json.specs.declared.fault.JsonFault.TheVariants as json
 use Rattle.asn_newer.specs.declared.fault.NewerFault.{NewerFault}
@@ -50,8 +50,8 @@ misuse = plain 2
 abbrev pub not_of_type : Fault
 not_of_type = plain 11
 
-abbrev pub has_constraint : Fault
-has_constraint = plain 23
+abbrev pub large_constraint : Fault
+large_constraint = plain 23
 
 abbrev pub too_long : Fault
 too_long = plain 6
@@ -109,10 +109,10 @@ of_encode_into into.NotOfType = not_of_type
 of_encode_into into.TooLong = too_long
 of_encode_into (into.Short wanted) = placed 7 wanted
 
-abbrev pub of_convert : ConvertFault → Fault
-of_convert (convert.Read why) = of_decode why
-of_convert convert.TooLong = too_long
-of_convert convert.Memory = no_memory
+abbrev pub of_converted : units.Unit → ConvertFault → Fault
+of_converted u (convert.Read why) = of_constrained u why
+of_converted u convert.TooLong = too_long
+of_converted u convert.Memory = no_memory
 
 abbrev pub of_json : JsonFault → Fault
 of_json (json.Shape path) = plain 13

@@ -3,8 +3,8 @@ ghost use Rattle.std.specs.Prelude.{◌≡◌};
 ghost use Rattle.tulvorn_c.specs.Faults as faults;
 
 use tulvorn::{
-    ConstrainedFault, ConvertFault, DecodeFault, EncodeFault, EncodeIntoFault, FeedFault,
-    JsonFault, LengthFault, ModuleFault, NewerFault, Truncated, Unit, Why, WithinFault,
+    ConstrainedConvertFault, ConstrainedFault, DecodeFault, EncodeFault, EncodeIntoFault,
+    FeedFault, JsonFault, LengthFault, ModuleFault, NewerFault, Truncated, Unit, Why, WithinFault,
 };
 
 /// The call did what it was asked for.
@@ -26,7 +26,7 @@ const TRUNCATED: u32 = 4;
 const REST: u32 = 5;
 
 /// No encoding of at most 268,435,455 octets begins so, or a value has none; of a newer sender's message, it has more.
-pub(crate) const TOO_LONG: u32 = 6;
+const TOO_LONG: u32 = 6;
 
 /// The caller's octets are fewer than those that were to be written.
 pub(crate) const TOO_SHORT: u32 = 7;
@@ -55,7 +55,7 @@ pub(crate) const NO_PATH: u32 = 14;
 /// The part at the path is of another kind.
 pub(crate) const OTHER_KIND: u32 = 15;
 
-/// No message of any version begins so, or more octets follow one.
+/// No message of any version begins so, more octets follow one, or one breaks a constraint of spelling.
 const NO_MESSAGE: u32 = 16;
 
 /// The octets end before a message of any version does.
@@ -76,8 +76,8 @@ pub(crate) const ABSENT: u32 = 21;
 /// The value takes more than the budget.
 const OVER_BUDGET: u32 = 22;
 
-/// The type has a constraint, which this call does not judge.
-pub(crate) const HAS_CONSTRAINT: u32 = 23;
+/// The constraint of the type has more than 1,000,000 parts.
+pub(crate) const LARGE_CONSTRAINT: u32 = 23;
 
 /// The reason of a refusal where the value breaks the constraint of its type: the one after those of `Why`.
 const WHY_CONSTRAINT: u32 = 8;
@@ -208,13 +208,13 @@ impl Fault {
         }
     }
 
-    pub(crate) fn of_convert(fault: ConvertFault) -> Fault
-        ensures { result ≡ faults.of_convert fault }
+    pub(crate) fn of_converted(fault: &ConstrainedConvertFault, unit: Unit) -> Fault
+        ensures { result ≡ faults.of_converted unit fault.now }
     {
         match fault {
-            ConvertFault::Read(fault) => Fault::of_decode(fault),
-            ConvertFault::TooLong => Fault::plain(TOO_LONG),
-            ConvertFault::Memory => Fault::plain(NO_MEMORY),
+            ConstrainedConvertFault::Read(fault) => Fault::of_constrained(fault, unit),
+            ConstrainedConvertFault::TooLong => Fault::plain(TOO_LONG),
+            ConstrainedConvertFault::Memory => Fault::plain(NO_MEMORY),
         }
     }
 

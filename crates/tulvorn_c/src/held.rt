@@ -2,11 +2,12 @@
 ghost use Rattle.std.specs.Prelude.{◌≡◌, IfOk};
 ghost use Rattle.asn_values.specs.View.{datum_of};
 ghost use Rattle.asn_constraints.specs.Constraints.{meets};
+ghost use Rattle.asn_constraints.specs.Spelling.{spelling};
 ghost use Rattle.tulvorn_c.specs.Held.{constrained_of};
 
 use std::alloc::AllocError;
 use std::sync::Arc;
-use tulvorn::{Checked, Constraint, Value, judge};
+use tulvorn::{Checked, Constraint, Value, judge, judge_spelling};
 
 /// A type and the constraint on its values, which all handles of the type share.
 #[derive(Drop)]
@@ -41,6 +42,16 @@ impl HeldType {
     {
         match &self.constraint {
             Some(constraint) => judge(constraint, value),
+            None => true,
+        }
+    }
+
+    /// Whether the value meets what the constraint says of spelling.
+    pub(crate) fn admits_spelling(&self, value: &Value) -> bool
+        ensures { result ≡ meets (spelling (constrained_of self.now).constraint) (datum_of value.now) }
+    {
+        match &self.constraint {
+            Some(constraint) => judge_spelling(constraint, value),
             None => true,
         }
     }

@@ -23,7 +23,7 @@ ghost use Rattle.tulvorn_c.specs.Faults.{plain, no_memory, bad_constraint};
 ghost use Rattle.tulvorn_c.specs.Held.{constrained_of, held_module, held_constrained};
 ghost use Rattle.tulvorn_c.specs.Misfits.{HoldsWords};
 
-use crate::fault::{DONE, Fault, HAS_CONSTRAINT, MISUSE, NO_MEMORY, NO_NAME, NOT_TEXT};
+use crate::fault::{DONE, Fault, LARGE_CONSTRAINT, MISUSE, NO_MEMORY, NO_NAME, NOT_TEXT};
 use crate::handle::Handle;
 use crate::held::HeldType;
 use crate::object::Object;
@@ -244,7 +244,7 @@ fn put_type(alloc: Global, types: &ConstrainedModule, name: &str, out: &mut Hand
     };
     let constraint = match types.constraint_named(alloc, name) {
         Ok(constraint) => constraint.unwrap_or(Constraint::Free),
-        Err(WholeFault::TooLarge) => return Fault::plain(HAS_CONSTRAINT),
+        Err(WholeFault::TooLarge) => return Fault::plain(LARGE_CONSTRAINT),
         Err(WholeFault::Memory) => return Fault::plain(NO_MEMORY),
     };
     match constrained_held(alloc, ty, constraint) {

@@ -1,13 +1,20 @@
 //! Messages of newer and older senders, and the fields of them that the type has not.
 ghost use Rattle.std.specs.Prelude.{◌≡◌, IfOk, IfErr};
-ghost use Rattle.asn_newer.specs.Reading.{NotNewer, skipped_seen};
+ghost use Rattle.asn_newer.specs.Reading.{skipped_seen};
 ghost use Rattle.asn_newer.specs.Rules.{per_loose, oer_loose};
 ghost use Rattle.tulvorn_c.specs.Answers.{Asked, AreAsBefore};
 ghost use Rattle.tulvorn_c.specs.Faults.{plain, misuse};
 ghost use Rattle.tulvorn_c.specs.Held.{constrained_of, held_constrained, held_skipped};
-ghost use Rattle.tulvorn_c.specs.Newer.{HoldsNewer, BothStay, ReadsNewer, TellsFields, TellsField};
+ghost use Rattle.tulvorn_c.specs.Newer.{
+  HoldsNewer,
+  NotNewerUnder,
+  BothStay,
+  ReadsNewer,
+  TellsFields,
+  TellsField,
+};
 
-use crate::fault::{DONE, Fault, HAS_CONSTRAINT, MISUSE, NO_PATH};
+use crate::fault::{DONE, Fault, MISUSE, NO_PATH};
 use crate::handle::Handle;
 use crate::held::HeldType;
 use crate::object::Object;
@@ -17,7 +24,7 @@ use std::alloc::Global;
 use tulvorn::{NewerFault, Oer, Per, ReadNewer, Skipped, read_newer};
 
 /// The value of a message of some version of the type, and the fields that the type has not: see `tulvorn::read_newer`.
-/// A type with a constraint is refused.
+/// Of the constraint what it says of spelling is judged.
 #[unsafe(no_mangle)]
 pub extern "C" fn tulvorn_read_newer(
     alloc: Global,
@@ -63,9 +70,6 @@ fn read_by<R: ReadNewer>(
     ensures { ReadsNewer R.OtherVersions.loose octets.now value.old.kept value.new.kept skipped.old.kept
         skipped.new.kept (constrained_of ty.now) result }
 {
-    if ty.constraint.is_some() {
-        return Fault::plain(HAS_CONSTRAINT);
-    }
     match newer_held::<R>(alloc, ty, octets) {
         Ok(held) => {
             let BothHeld {
@@ -95,10 +99,12 @@ fn newer_held<R: ReadNewer>(
 ) -> Result<BothHeld, NewerFault>
     ensures read { IfOk result (λ h.
         HoldsNewer R.OtherVersions.loose (constrained_of ty.now) octets.now h.value.kept h.skipped.kept) }
-    ensures fault { IfErr result (λ why.
-        NotNewer R.OtherVersions.loose (constrained_of ty.now).shape octets.now why) }
+    ensures fault { IfErr result (NotNewerUnder R.OtherVersions.loose (constrained_of ty.now) octets.now) }
 {
     let newer = read_newer::<R>(alloc, &ty.checked, octets)?;
+    if !ty.admits_spelling(&newer.value) {
+        return Err(NewerFault::Refused);
+    }
     let Ok(ty) = ty.copy() else {
         return Err(NewerFault::Memory);
     };

@@ -173,7 +173,7 @@ fn words_of_code(code: u32) -> &'static str
         20 => "session spent",
         21 => "absent",
         22 => "over budget",
-        23 => "constraint not judged",
+        23 => "constraint too large",
         _ => "unknown code",
     }
 }

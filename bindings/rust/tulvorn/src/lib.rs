@@ -177,8 +177,8 @@ pub enum Reason {
     Absent,
     /// The octets are the encoding of a value that takes more than the budget.
     OverBudget,
-    /// The type has a constraint that the call does not judge, or one that is too large.
-    HasConstraint,
+    /// The constraint of the type has more than 1,000,000 parts.
+    LargeConstraint,
     /// The library answered a code that this crate does not know, or the crate misused it.
     Other(u32),
 }
@@ -224,7 +224,7 @@ impl Error {
             20 => Reason::Spent,
             21 => Reason::Absent,
             22 => Reason::OverBudget,
-            23 => Reason::HasConstraint,
+            23 => Reason::LargeConstraint,
             code => Reason::Other(code),
         };
         Error { reason, fault: (fault.code, fault.why, fault.at), rules, words: None }

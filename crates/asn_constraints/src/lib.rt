@@ -1,4 +1,4 @@
-//! Constraints beside a type: which of its values a published type has, where no encoding shows the difference.
+//! Constraints on the values of a type that no encoding shows.
 #![tactic(auto)]
 
 mod broken;

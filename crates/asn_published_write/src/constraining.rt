@@ -54,19 +54,20 @@ pub(crate) fn lengths_shown(seen: &Seen, line: u32) -> Result<Interval, Refusal>
 }
 
 /// Leaves out the characters that a kind of string has anyway, and puts in those of PrintableString, which is written as
-/// VisibleString.
+/// VisibleString, unless they come with the type that is named.
 pub(crate) fn with_letters(
     alloc: Global,
     allowed: Allowed,
     kind: Letters,
+    is_name: bool,
 ) -> Result<Allowed, AllocError> {
     let own = letters_of(alloc, kind)?;
     let letters = match allowed.letters {
-        None if kind == Letters::Printable => Some(own),
+        None if kind == Letters::Printable && !is_name => Some(own),
         None => None,
         Some(set) => {
             let are_all = own.iter().all(|interval| covers(set.as_slice(), *interval));
-            if are_all && kind != Letters::Printable {
+            if are_all && (kind != Letters::Printable || is_name) {
                 None
             } else {
                 Some(met(alloc, set.as_slice(), own.as_slice())?)

@@ -168,7 +168,7 @@ pub finds_alternative :
 finds_alternative cs i c d found o p h e ef k ep er =
     let there : BreaksAt (constraint_of c) d (reverse o.path.items) o.reason = subst (λ x. Finds (constraint_of c) d x) ef k in
     let inside : BreaksAt (alternative_at (alternatives_seen cs) i) d (reverse o.path.items) o.reason =
-        subst (λ x. BreaksAt x d (reverse o.path.items) o.reason) (sym (alternative_seen cs i c h e)) there in
+    subst (λ x. BreaksAt x d (reverse o.path.items) o.reason) (sym (alternative_seen cs i c h e)) there in
     rw (ep, er) (in_alternative (alternatives_seen cs) i d (reverse o.path.items) o.reason inside)
 
 pub alternative_is_met :

@@ -13,7 +13,7 @@ import json, re, sys
 
 # the limits of the profile: its highest integer, the alternatives of a CHOICE, the extension additions of an ENUMERATED.
 # The spellings below do not know them: what is past them is not encoded
-HIGHEST, ALTERNATIVES, ITEM_ADDITIONS = (1 << 64) - 1, 200, 200
+HIGHEST, ALTERNATIVES, ITEM_ADDITIONS = (1 << 64) - 1, 256, 200
 
 TOKEN = re.compile(r'--.*?(?:--|$)|::=|\.\.\.|\.\.|[{}(),]|-?[0-9]+|[A-Za-z][A-Za-z0-9]*(?:-[A-Za-z0-9]+)*', re.M)
 

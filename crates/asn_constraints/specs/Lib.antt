@@ -4,3 +4,5 @@ pub mod View
 pub mod Spelling
 pub mod Broken
 pub mod Finding
+pub mod ConstraintExamples
+pub mod SpellingExamples

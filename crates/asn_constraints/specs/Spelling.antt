@@ -2,11 +2,17 @@
 -- its encodings are canonical too: they leave out a DEFAULT and an empty group, last zeros of named bits, and last zeros
 -- of a time.
 use Rattle.std.specs.Prelude.{◌&&◌, Bool, true, false}
-use Rattle.asn_constraints.specs.Constraints.{any, Constraint, free, both, either, trimmed, time, except, on_components, on_elements, on_alternatives, some_present, unknown, OnComponents, other_components_free, on_component, OnAlternatives, other_alternatives_barred, other_alternatives_free, on_alternative}
+use Rattle.asn_constraints.specs.Constraints.{Presence, any, Constraint, free, both, either, trimmed, time, except, on_components, on_elements, on_alternatives, some_present, unknown, OnComponents, other_components_free, on_component, OnAlternatives, other_alternatives_barred, other_alternatives_free, on_alternative}
+use Rattle.asn_constraints.specs.View.{OnOne}
 
 -- an item or an alternative that the type has not is not judged
 abbrev pub if_known : Constraint → Constraint
 if_known c = either unknown c
+
+-- the component may be there or not
+abbrev pub may_be_either : Presence → Bool
+may_be_either any = true
+may_be_either _ = false
 
 abbrev mutual
   -- nothing in it is a constraint of values
@@ -24,8 +30,11 @@ abbrev mutual
 
   pub are_of_spelling : OnComponents → Bool
   are_of_spelling other_components_free = true
-  are_of_spelling (on_component any c cs) = is_of_spelling c && are_of_spelling cs
-  are_of_spelling _ = false
+  are_of_spelling (on_component p c cs) = (may_be_either p && is_of_spelling c) && are_of_spelling cs
+
+-- the same of the constraint on one component
+abbrev pub is_one_of_spelling : OnOne → Bool
+is_one_of_spelling o = may_be_either o.presence && is_of_spelling o.constraint
 
 abbrev mutual
   -- Constraints of values become free. So does a union with such a constraint in it: a newer version may have loosened

@@ -1,9 +1,9 @@
 //! Where a value breaks a constraint.
-ghost use Rattle.std.specs.Prelude.{◌≡◌, IfOk, IfSome, Some, option_map, reverse, is_none, [], ◌∷◌, false};
+ghost use Rattle.std.specs.Prelude.{◌≡◌, ◌<◌, length, IsTrue, IsFalse, IfOk, IfSome, Some, option_map, reverse, is_none, [], ◌∷◌, false};
 ghost use Rattle.asn_values.specs.Datum.{alternative};
 ghost use Rattle.asn_values.specs.View.{datum_of};
-ghost use Rattle.asn_constraints.specs.Constraints.{meets, on_components, on_elements, on_alternatives};
-ghost use Rattle.asn_constraints.specs.Broken.{BreaksAt, reason_of, has_parts};
+ghost use Rattle.asn_constraints.specs.Constraints.{meets, barred, on_components, on_elements, on_alternatives};
+ghost use Rattle.asn_constraints.specs.Broken.{BreaksAt, alternative_at, reason_of, has_parts};
 ghost use Rattle.asn_constraints.specs.Finding.{Finds, FindsEntry};
 ghost use Rattle.asn_constraints.specs.View.{constraint_of, on_one, components_seen, alternatives_seen, sequence_seen, list_seen};
 
@@ -259,11 +259,22 @@ fn broken_alternative(
     ensures { IfOk result (λ found.
         Finds (on_alternatives (alternatives_seen alternatives.now)) (alternative index (datum_of chosen.now)) found) }
 {
-    if alternatives.len() <= index || matches!(alternatives[index], Constraint::Barred) {
+    if is_barred(alternatives, index) {
         return Ok(Some(at(index, here(alloc, Reason::Alternative))?));
     }
     match first_broken(alloc, &alternatives[index], chosen)? {
         None => Ok(None),
         Some(broken) => Ok(Some(at(index, broken)?)),
     }
+}
+
+/// Whether no value of the alternative with this index is allowed.
+fn is_barred(alternatives: &[Constraint], index: usize) -> bool
+    ensures barred { IsTrue result → alternative_at (alternatives_seen alternatives.now) index ≡ barred }
+    ensures listed { IsFalse result → index < length alternatives.now }
+{
+    if alternatives.len() <= index {
+        return true;
+    }
+    matches!(alternatives[index], Constraint::Barred)
 }

@@ -31,7 +31,7 @@ pub const MAX_COMPONENTS: usize = 64;
 pub const MAX_ADDITIONS: usize = 64;
 
 /// The most alternatives of a CHOICE, those of the root and the additions together.
-pub const MAX_ALTERNATIVES: usize = 200;
+pub const MAX_ALTERNATIVES: usize = 256;
 
 /// The most extension additions of an ENUMERATED.
 pub const MAX_ITEM_ADDITIONS: usize = 200;
@@ -39,11 +39,12 @@ pub const MAX_ITEM_ADDITIONS: usize = 200;
 /// The most items of an ENUMERATED, those of the root and the additions together.
 pub const MAX_ITEMS: usize = 256;
 
-/// The most levels of types inside one another. A simple type is one level.
-pub const MAX_LEVELS: u32 = 32;
+/// The most levels of types inside one another. A simple type is one level, a SEQUENCE or CHOICE one more than the
+/// deepest type inside it, and a SEQUENCE OF two more than its element.
+pub const MAX_LEVELS: u32 = 64;
 
 /// The most types inside a type, itself counted.
-pub const MAX_TYPES: u32 = 10_000;
+pub const MAX_TYPES: u32 = 100_000;
 
 /// How many items a block of a fragment has (X.691, "general length determinant").
 pub const BLOCK: u64 = 16_384;

@@ -117,7 +117,7 @@ module _ (look : List ℕ → Option Meant) where
         ap more_choice_nodes (sym (same_some _ ms last)) ∙ branches_weight rest inner ei
 
 -- of more types than the profile has, none of the profile is built
-pub stuck_by_count : (look : List ℕ → Option Meant) (tree : Tree) (n : ℕ) → n ≡ capped (weight look tree) → 10000 < n → IsStuck look tree
+pub stuck_by_count : (look : List ℕ → Option Meant) (tree : Tree) (n : ℕ) → n ≡ capped (weight look tree) → 100000 < n → IsStuck look tree
 stuck_by_count look tree n e more m h p =
     let few = ltb-false most_nodes (nodes m.shape) (right_false (somewhere too_many_here m.shape) _ (p TooMany)) in
     let same = weight_is look tree m h in

@@ -31,8 +31,8 @@ record IsGood (x : Typed) : Type 0 where
   named : IsPrintable (name x.name)
   of_profile : InProfile x.shape
 
-again : (all : List Assignment) (x : Typed) → IsGood x → TypeAgain (stands_for 0 all) x.shape 32
-again all x h = type_again (stands_for 0 all) x.shape 32 (ltb-false most_levels (depth x.shape) (h.of_profile TooDeep)) h.of_profile
+again : (all : List Assignment) (x : Typed) → IsGood x → TypeAgain (stands_for 0 all) x.shape 64
+again all x h = type_again (stands_for 0 all) x.shape 64 (ltb-false most_levels (depth x.shape) (h.of_profile TooDeep)) h.of_profile
 
 -- ---- the text is read as what it was printed from
 
@@ -84,7 +84,7 @@ same_names all (a ∷ rest) (x ∷ xs) h = rw (h.0, same_names all rest xs h.3) 
 
 -- ---- a module again
 
-all_fit : (xs : List Typed) → AllByRecursion IsGood xs → AllByRecursion (λ (a : Assignment). IsTree a.tree 32) (map assignment_printed xs)
+all_fit : (xs : List Typed) → AllByRecursion IsGood xs → AllByRecursion (λ (a : Assignment). IsTree a.tree 64) (map assignment_printed xs)
 all_fit [] h = tt
 all_fit (x ∷ xs) h = ((again [] x h.0).fits, all_fit xs h.1)
 

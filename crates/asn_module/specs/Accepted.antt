@@ -33,7 +33,7 @@ AreTypes all (a ∷ rest) (t ∷ ts) =
 -- the text is of the grammar, assigns no name twice, and gives each name its type
 pub record Accepted (text : List ℕ) (m : ModuleTypes) : Type 0 where
   pub tree : ModuleTree
-  pub written : IsModuleText 32 text tree
+  pub written : IsModuleText 64 text tree
   pub distinct : has_twice bytes_eq (map (λ a. a.name) tree.assignments) ≡ false
   pub named : m.name ≡ tree.name
   pub typed : AreTypes tree.assignments tree.assignments m.types

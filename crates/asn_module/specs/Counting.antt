@@ -7,7 +7,7 @@ use Rattle.asn_module.specs.Meaning.{Meant}
 
 -- a number of types, as far as it is counted: to one more than a type of the profile may have
 abbrev pub capped : ℕ → ℕ
-capped n = min 10001 n
+capped n = min 100001 n
 
 abbrev pub known_nodes : Option Meant → ℕ
 known_nodes None = 0

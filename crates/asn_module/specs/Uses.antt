@@ -57,5 +57,5 @@ says_used m q = is_some (get_by_text m.used q)
 -- it says so exactly of the names to which types of the text refer
 pub record TellsUses (text : List ℕ) (m : Module) : Type 0 where
   pub tree : ModuleTree
-  pub written : IsModuleText 32 text tree
+  pub written : IsModuleText 64 text tree
   pub is : (q : List ℕ) → says_used m q ≡ is_used q tree.assignments

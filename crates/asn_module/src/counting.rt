@@ -19,8 +19,8 @@ use std::collections::HashMap;
 
 /// Two numbers of types together, as far as they are counted.
 fn together(first: u32, second: u32) -> u32
-    requires first { first ≤ 10001 }
-    requires second { second ≤ 10001 }
+    requires first { first ≤ 100001 }
+    requires second { second ≤ 100001 }
     ensures { result ≡ capped (first + second) }
 {
     if first + second > MAX_TYPES {
@@ -126,7 +126,7 @@ fn count_branches(
     total
 }
 
-/// How many types a notation stands for, where `names` are the types that are built; 10,001 where they are more.
+/// How many types a notation stands for, where `names` are the types that are built; 100,001 where they are more.
 #[cycle(counting)]
 pub(crate) fn count(names: &[Named], indices: &HashMap<&str, usize>, ty: &TypeNotation) -> u32
     requires { Finds indices.now (names_in names.now) }

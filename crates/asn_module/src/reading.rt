@@ -114,7 +114,7 @@ pub fn read(alloc: Global, text: &str) -> Result<Module, ModuleFault>
 
 /// What `read` answers, of a module that is no larger than `most`: each type of its names and each type inside them
 /// counts one, each item of an ENUMERATED one, and each name in them its octets, with references followed. What is
-/// built is no larger, except the type of one name, which has at most 10,000 types inside it: so a short text whose
+/// built is no larger, except the type of one name, which has at most 100,000 types inside it: so a short text whose
 /// references multiply its types takes no more memory than that. A name that only refers to another takes none, and is
 /// counted as it is written out.
 ///

@@ -73,7 +73,7 @@ pub trait Sink {
         level: usize,
         length: u64,
     ) -> Result<Self::Outer, Self::Fault>
-        requires deep { level < 32 }
+        requires deep { level < 64 }
         ensures { IfOk result (λ outer.
             Begins stands keeps wants_lengths level framing length self.old self.new outer) };
 

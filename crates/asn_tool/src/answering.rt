@@ -1,6 +1,7 @@
 //! The answer to one message, in the form and the layout that is asked for. Standard error says why it is refused.
 use crate::budget::{Answered, answer_within};
-use crate::marking::answer_marked;
+use crate::demands::Demands;
+use crate::marking::answer_published;
 use crate::writing::{put, put_octets, put_refusal, tell, text_in};
 use asn_convert::{Job, Order, RuleName, RunFault, answer_line};
 use asn_jobs::{CountFault, OctetForm, Place, Progress, octets_in};
@@ -10,7 +11,6 @@ use asn_look::{
     why_refused, widest_of,
 };
 use asn_plan::Planned;
-use asn_published::Marks;
 use asn_request::asking::{Asking, Forms, Versions};
 use asn_rules::Counted;
 use asn_values::Checked;
@@ -33,8 +33,8 @@ pub struct Asked<'t> {
     pub is_counted: bool,
     /// The most that a value may take, if there is a bound.
     pub budget: Option<u32>,
-    /// What is not looked at of values, where the answers say so.
-    pub marks: Option<&'t Marks>,
+    /// What the published type has in addition to this type.
+    pub demands: Demands<'t>,
     /// Whether a message is answered plainly though a part of it is not looked at.
     pub is_wider_taken: bool,
     /// That of `asn_look::widest_of` for the type.
@@ -47,7 +47,7 @@ impl<'t> Asked<'t> {
         asking: &Asking<'_>,
         job: &Job,
         planned: &'t Planned,
-        marks: Option<&'t Marks>,
+        demands: Demands<'t>,
     ) -> Option<Asked<'t>> {
         let Job::Lines { order, rules, .. } = job else {
             return None;
@@ -62,7 +62,7 @@ impl<'t> Asked<'t> {
             is_explained: asking.is_explained,
             is_counted: asking.is_counted,
             budget: asking.budget,
-            marks,
+            demands,
             is_wider_taken: asking.is_wider_taken,
             widest: widest_of(planned.get().get()),
         })
@@ -135,10 +135,8 @@ fn answer_line_of<W: Write>(
     if let Some(entries) = over_by_json(rt, line, asked)? {
         return refuse_json(rt, answers, place, entries, asked);
     }
-    if let Some(marks) = asked.marks {
-        if asked.order != Order::Newer {
-            return answer_marked(rt, answers, place, line, asked, marks);
-        }
+    if !asked.demands.is_nothing() && asked.order != Order::Newer {
+        return answer_published(rt, answers, place, line, asked);
     }
     let answered = if asked.is_as_it_is() {
         answer_to(rt, &mut answers.output, line, asked)?

@@ -1,5 +1,5 @@
 -- How what a walk found of the parts of a type tells what holds of the whole.
-use Rattle.std.proofs.Common.{◌≡◌, ◌≤◌, ◌<◌, ◌+◌, ◌-◌, ap, ◌||◌, inl, inr, ℕ, suc, Bool, true, false, List, [], ◌∷◌, nat_lt, Option, Some, None, refl, sym, subst, arith}
+use Rattle.std.proofs.Common.{◌≡◌, ◌≤◌, ◌<◌, ◌+◌, ◌-◌, ap, ◌||◌, inl, inr, ℕ, suc, Bool, true, false, List, [], ◌∷◌, nat_lt, Option, Some, None, refl, sym, subst, ◌∙◌, arith}
 use Rattle.asn_values.specs.declared.fault.TypeFault.{TypeFault}
 use Rattle.asn_values.specs.declared.fault.TypeFault.TheVariants as fault
 use Rattle.asn_values.specs.Shape.{Shape}
@@ -73,32 +73,42 @@ ends levels start left all w = w.sound left (none_sound levels left)
 
 -- ---- a type around those inside it
 
+pub record IsAround (step : ℕ) (t : Shape) (inside : Extent) : Type 0 where
+  pub count : nodes t ≡ suc inside.count
+  -- for how many levels it counts
+  pub levels : depth t ≡ step + inside.levels
+  pub holds : (condition : Shape → Bool) → somewhere condition t ≡ (condition t || inside.holds condition)
+
+-- where it counts one
 abbrev pub around : Shape → Extent → Extent
 around t e = record { count = suc e.count; levels = suc e.levels; holds = λ condition. condition t || e.holds condition }
 
-pub record IsAround (t : Shape) (inside : Extent) : Type 0 where
-  pub same : of_type t ≡ around t inside
+one_more : (n : ℕ) → suc n ≡ 1 + n
+one_more n = omega arith
 
-module _ (levels start : ℕ) (t : Shape) (inside : Extent) (is : IsAround t inside) (some : 0 < levels) (any : 0 < start) where
+pub is_around : (t : Shape) (inside : Extent) → of_type t ≡ around t inside → IsAround 1 t inside
+is_around t inside same = record {
+  count = ap (λ (e : Extent). e.count) same;
+  levels = ap (λ (e : Extent). e.levels) same ∙ one_more inside.levels;
+  holds = λ condition. ap (λ (e : Extent). e.holds condition) same;
+}
+
+module _ (step levels start : ℕ) (t : Shape) (inside : Extent) (is : IsAround step t inside) (some : 0 < levels) (any : 0 < start) where
   -- it is sound where it is so by itself and they are
-  pub sound_around : (left : ℕ) → (depth t ≤ levels - 1 + 1 → IsFaultless t) → IsSoundWithin (levels - 1) (start - 1) left inside → IsSoundWithin levels start left (of_type t)
-  sound_around left here h =
-      let deep : depth t ≡ suc inside.levels = ap (λ (e : Extent). e.levels) is.same in
-      let faultless : IsFaultless t = here (omega (arith, h.shallow, deep)) in
-      rw is.same (record {
-        counted = omega (arith, h.counted);
-        shallow = omega (arith, h.shallow);
-        faultless = λ c. rw (faultless c) (h.faultless c);
-      })
+  pub sound_around : step ≤ levels → (left : ℕ) → (depth t ≤ levels - 1 + 1 → IsFaultless t) → IsSoundWithin (levels - step) (start - 1) left inside → IsSoundWithin levels start left (of_type t)
+  sound_around room left here h =
+      let faultless : IsFaultless t = here (omega (arith, h.shallow, is.levels)) in
+      record {
+        counted = omega (arith, h.counted, is.count);
+        shallow = omega (arith, h.shallow, is.levels);
+        faultless = λ c. is.holds (test_of c) ∙ rw (faultless c) (h.faultless c);
+      }
 
   -- a fault of them is one of it
-  pub fault_around : (f : TypeFault) → IsFaultWithin f (levels - 1) (start - 1) inside → IsFaultWithin f levels start (of_type t)
-  fault_around f h = subst (IsFaultWithin f levels start) (sym is.same) (one_further h)
-    where
-      one_further : IsFaultWithin f (levels - 1) (start - 1) inside → IsFaultWithin f levels start (around t inside)
-      one_further (inl h) = inl (found_also (condition_of f) inside.holds (around t inside).holds (λ c. second_holds (c t) (inside.holds c)) h)
-      one_further (inr (inl (e, h))) = inr (inl (e, omega (arith, h)))
-      one_further (inr (inr (e, h))) = inr (inr (e, omega (arith, h)))
+  pub fault_around : (f : TypeFault) → IsFaultWithin f (levels - step) (start - 1) inside → IsFaultWithin f levels start (of_type t)
+  fault_around f (inl h) = inl (found_also (condition_of f) inside.holds (of_type t).holds (λ c e. is.holds c ∙ second_holds (c t) (inside.holds c) e) h)
+  fault_around f (inr (inl (e, h))) = inr (inl (e, omega (arith, h, is.count)))
+  fault_around f (inr (inr (e, h))) = inr (inr (e, omega (arith, h, is.levels)))
 
 -- ---- a type that has no others inside it
 

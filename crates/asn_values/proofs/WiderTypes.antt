@@ -7,6 +7,7 @@ use Rattle.std.specs.Int.RustNames.{int_le, int_lt}
 use Rattle.asn_values.specs.Datum.{Datum, truth, nothing, number, item, bit_list, octet_list, characters, unicode, components, elements, alternative, unknown_item, unknown_alternative}
 use Rattle.asn_values.specs.Shape.{Demand, must, optional, default, more_fields, more_labels, more_alternatives, count, Shape, boolean, null, integer, enumerated, bit_string, octet_string, restricted, utf8_string, sequence, sequence_of, choice, Fields, no_fields, field, MoreFields, closed, marked, Alternatives, no_alternatives, one_of, MoreAlternatives, closed_choice, marked_choice}
 use Rattle.std.proofs.lemmas.Bool.{ltb-false, le-ltb}
+use Rattle.asn_values.specs.Measures.{nodes}
 use Rattle.asn_values.specs.Fits.{Limits, AreWider, lowest_integer}
 use Rattle.asn_values.proofs.Defaults.{le_also, le_true, not_below, le_not_below}
 use Rattle.asn_values.specs.Profile.{Condition, EmptyRange, SizeTooLarge, DuplicateName, BadEnumeration, UselessMark, BadDefault, ZeroWidthElement, AdditionNotOptional, TooMany, TooDeep, InProfileUnder, is_outside_under, low_above_high, empty_range_under, useless_mark_under, lowest_of, highest_of_under, good_default_under, bad_default_at_under, bad_default_under, too_many_here_under, has_under, most_items, somewhere, some_field, some_addition, some_alternative, some_more}
@@ -97,7 +98,8 @@ module _ (l m : Limits)
     (over : (z : ℤ) → int_lt l.highest z ≡ false → int_lt m.highest z ≡ false)
     (under : (z : ℤ) → int_lt z l.highest ≡ true → int_lt z m.highest ≡ true)
     (reach : (z : ℤ) → int_le l.highest z ≡ false → int_le m.highest z ≡ false)
-    (alternatives : l.alternatives ≤ m.alternatives) (additions : l.item_additions ≤ m.item_additions) where
+    (alternatives : l.alternatives ≤ m.alternatives) (additions : l.item_additions ≤ m.item_additions) (few : l.nodes ≤ m.nodes)
+    (levels : (t : Shape) → l.levels_of t ≤ l.levels → m.levels_of t ≤ m.levels) where
   outside_wider : (o : Option ℤ) → is_outside_under l o ≡ false → is_outside_under m o ≡ false
   outside_wider None h = h
   outside_wider (Some z) h =
@@ -229,9 +231,10 @@ module _ (l m : Limits)
   profile_wider t h ZeroWidthElement = h ZeroWidthElement
   profile_wider t h AdditionNotOptional = h AdditionNotOptional
   profile_wider t h TooMany =
-      let p = or_parts_false (somewhere (too_many_here_under l) t) _ (h TooMany) in
-      or_false (somewhere (too_many_here_under m) t) _ (less_somewhere (too_many_here_under l) (too_many_here_under m) parts_wider t p.0) p.1
-  profile_wider t h TooDeep = h TooDeep
+      let p = or_parts_false (somewhere (too_many_here_under l) t) (nat_lt l.nodes (nodes t)) (h TooMany) in
+      or_false (somewhere (too_many_here_under m) t) (nat_lt m.nodes (nodes t)) (less_somewhere (too_many_here_under l) (too_many_here_under m) parts_wider t p.0)
+      (many_wider l.nodes m.nodes (nodes t) few p.1)
+  profile_wider t h TooDeep = le-ltb m.levels (m.levels_of t) (levels t (ltb-false l.levels (l.levels_of t) (h TooDeep)))
 
 -- ---- by the limits
 
@@ -257,7 +260,7 @@ module _ (l m : Limits) (w : AreWider l m) where
       by_test false e = refl
 
   wider_in_profile : (t : Shape) → InProfileUnder l t → InProfileUnder m t
-  wider_in_profile t h = profile_wider l m over under reach w.alternatives w.item_additions t h
+  wider_in_profile t h = profile_wider l m over under reach w.alternatives w.item_additions w.nodes w.levels t h
 
 pub types_wider : (l m : Limits) → AreWider l m → (t : Shape) → InProfileUnder l t → InProfileUnder m t
 types_wider l m w t h = wider_in_profile l m w t h

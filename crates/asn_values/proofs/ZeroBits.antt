@@ -75,7 +75,7 @@ mutual
 -- ---- all levels
 
 -- each type has a level
-one_level : (t : Shape) → 1 ≤ depth t
+pub one_level : (t : Shape) → 1 ≤ depth t
 one_level boolean = omega arith
 one_level null = omega arith
 one_level (integer b) = omega arith

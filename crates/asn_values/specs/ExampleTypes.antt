@@ -215,17 +215,21 @@ abbrev pub lists_around : ℕ → Shape → Shape
 lists_around zero t = t
 lists_around (suc n) t = sequence_of (lists_around n t) any_size
 
+-- and n CHOICEs of one alternative around it
+abbrev pub choices_around : ℕ → Shape → Shape
+choices_around zero t = t
+choices_around (suc n) t = choice (one_of (codes "a") (choices_around n t) no_alternatives) closed_choice
+
 -- a SEQUENCE of n BOOLEANs, each OPTIONAL
 abbrev pub truths : ℕ → Shape
 truths n = sequence (optionals_of n boolean) closed
 
--- a type of 9950 + n nodes
+-- a type of 99998 + n nodes
 abbrev pub large_type : ℕ → Shape
 large_type n =
-    sequence (component [] (sequence (optionals_of 64 (truths 64)) closed)
-    (component [] (sequence (optionals_of 64 (truths 64)) closed)
-    (component [] (sequence (optionals_of 25 (truths 64)) closed)
-    (component [] (truths n) no_fields)))) closed
+    sequence (component [] (sequence (optionals_of 24 (sequence (optionals_of 64 (truths 64)) closed)) closed)
+    (component [] (sequence (optionals_of 2 (truths 64)) closed)
+    (component [] (truths n) no_fields))) closed
 
 -- BOOLEAN, and n times a SEQUENCE with two components of the type before
 abbrev pub doubled : ℕ → Shape

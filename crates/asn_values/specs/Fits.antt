@@ -3,9 +3,10 @@ use Rattle.std.specs.Prelude.{◌≤◌, ◌<◌, ◌+◌, ◌-◌, ℕ, zero, s
 use Rattle.std.specs.List.{AllByRecursion}
 use Rattle.std.specs.Int.RustNames.{int_le}
 pub use Rattle.asn_limits.specs.Limits.{max_len, lowest_integer, highest_integer, highest_number, offset_of_zero, integer_count}
-use Rattle.asn_limits.specs.Limits.{most_alternatives, most_item_additions}
+use Rattle.asn_limits.specs.Limits.{most_alternatives, most_item_additions, most_nodes, most_levels}
 use Rattle.asn_values.specs.Datum.{Datum, truth, nothing, number, item, bit_list, octet_list, characters, unicode, components, elements, alternative, component_list, element_list}
 use Rattle.asn_values.specs.Shape.{Range, SizeRange, Alphabet, ia5, numeric, visible, Shape, boolean, null, integer, enumerated, bit_string, octet_string, restricted, utf8_string, sequence, sequence_of, choice, Demand, must, optional, default, more_labels, Fields, no_fields, field, MoreFields, closed, marked, demands, count, Alternatives, no_alternatives, one_of, MoreAlternatives, closed_choice, marked_choice}
+use Rattle.asn_values.specs.Measures.{depth}
 
 -- ---- limits
 
@@ -16,16 +17,30 @@ pub record Limits : Type 0 where
   -- the most alternatives of a CHOICE, and the most extension additions of an ENUMERATED
   pub alternatives : ℕ
   pub item_additions : ℕ
+  -- the most types inside a type, itself counted
+  pub nodes : ℕ
+  -- how many levels a type has, and the most levels
+  pub levels_of : Shape → ℕ
+  pub levels : ℕ
 
 -- each limit of the second profile is that of the first, or above it
 pub record AreWider (l m : Limits) : Type 0 where
   pub highest : l.highest ≤ℤ m.highest
   pub alternatives : l.alternatives ≤ m.alternatives
   pub item_additions : l.item_additions ≤ m.item_additions
+  pub nodes : l.nodes ≤ m.nodes
+  pub levels : (t : Shape) → l.levels_of t ≤ l.levels → m.levels_of t ≤ m.levels
 
 -- those of this profile
 abbrev pub limits : Limits
-limits = record { highest = highest_integer; alternatives = most_alternatives; item_additions = most_item_additions }
+limits = record {
+  highest = highest_integer;
+  alternatives = most_alternatives;
+  item_additions = most_item_additions;
+  nodes = most_nodes;
+  levels_of = depth;
+  levels = most_levels;
+}
 
 -- ---- numbers and lengths
 

@@ -25,7 +25,7 @@ depth_of_a_sequence_without_components = refl
 depth_counts_additions : depth outer_type ≡ 3
 depth_counts_additions = refl
 
-depth_of_lists : depth (lists_around 31 boolean) ≡ 32
+depth_of_lists : depth (lists_around 31 boolean) ≡ 63
 depth_of_lists = refl
 
 -- ---- nodes, each type once
@@ -47,7 +47,7 @@ nodes_of_a_choice = refl
 nodes_of_a_list : nodes (sequence_of boolean any_size) ≡ 2
 nodes_of_a_list = refl
 
-nodes_of_a_large_type : nodes (large_type 50) ≡ 10000
+nodes_of_a_large_type : nodes (large_type 2) ≡ 100000
 nodes_of_a_large_type = refl
 
 nodes_of_a_type_doubled_twelve_times : nodes (doubled 12) ≡ 8191

@@ -3,12 +3,13 @@ use Rattle.std.specs.Prelude.{◌+◌, ℕ, suc, max, length}
 use Rattle.asn_values.specs.Datum.{Datum, truth, nothing, number, item, bit_list, octet_list, characters, unicode, components, elements, alternative, unknown_item, unknown_alternative, Components, no_components, absent, present, Elements, no_elements, element}
 use Rattle.asn_values.specs.Shape.{Shape, bit_string, octet_string, restricted, utf8_string, sequence, sequence_of, choice, Fields, no_fields, field, MoreFields, closed, marked, Alternatives, no_alternatives, one_of, MoreAlternatives, closed_choice, marked_choice}
 
--- ---- the levels of a type: a simple type has one, a type around others one more than its deepest
+-- ---- the levels of a type: a simple type has one, a SEQUENCE or CHOICE one more than the deepest inside it, and a
+-- ---- SEQUENCE OF two more than its element, since lists of lists are what makes values long
 
 abbrev mutual
   pub depth : Shape → ℕ
   depth (sequence root more) = suc (max (fields_depth root) (more_depth more))
-  depth (sequence_of t s) = suc (depth t)
+  depth (sequence_of t s) = suc (suc (depth t))
   depth (choice root more) = suc (max (choice_depth root) (more_choice_depth more))
   depth _ = 1
 

@@ -1,7 +1,54 @@
--- The limits of the profile that came before this one.
-use Rattle.std.specs.Prelude.{pos}
-use Rattle.asn_values.specs.Fits.{Limits}
+-- The limits of the profiles that came before this one.
+use Rattle.std.specs.Prelude.{ℕ, suc, max, pos}
+use Rattle.asn_values.specs.Shape.{Shape, sequence, sequence_of, choice, Fields, no_fields, field, MoreFields, closed, marked, Alternatives, no_alternatives, one_of, MoreAlternatives, closed_choice, marked_choice}
+use Rattle.asn_values.specs.Fits.{Limits, highest_integer}
 
--- integers of 64 bits in two's complement, a CHOICE of 63 alternatives and an ENUMERATED of 64 extension additions
+-- ---- the types inside one another, a SEQUENCE OF counting one
+
+abbrev mutual
+  pub nesting : Shape → ℕ
+  nesting (sequence root more) = suc (max (fields_nesting root) (more_nesting more))
+  nesting (sequence_of t s) = suc (nesting t)
+  nesting (choice root more) = suc (max (choice_nesting root) (more_choice_nesting more))
+  nesting _ = 1
+
+  pub fields_nesting : Fields → ℕ
+  fields_nesting no_fields = 0
+  fields_nesting (field name demand t fs) = max (nesting t) (fields_nesting fs)
+
+  pub more_nesting : MoreFields → ℕ
+  more_nesting closed = 0
+  more_nesting (marked fs) = fields_nesting fs
+
+  pub choice_nesting : Alternatives → ℕ
+  choice_nesting no_alternatives = 0
+  choice_nesting (one_of name t alts) = max (nesting t) (choice_nesting alts)
+
+  pub more_choice_nesting : MoreAlternatives → ℕ
+  more_choice_nesting closed_choice = 0
+  more_choice_nesting (marked_choice alts) = choice_nesting alts
+
+-- ---- limits
+
+-- 200 alternatives and extension additions, 10,000 types inside a type, and 32 of them inside one another
 abbrev pub older_limits : Limits
-older_limits = record { highest = pos 9223372036854775807; alternatives = 63; item_additions = 64 }
+older_limits = record {
+  highest = highest_integer;
+  alternatives = 200;
+  item_additions = 200;
+  nodes = 10000;
+  levels_of = nesting;
+  levels = 32;
+}
+
+-- before those: integers of 64 bits in two's complement, a CHOICE of 63 alternatives and an ENUMERATED of 64 extension
+-- additions
+abbrev pub oldest_limits : Limits
+oldest_limits = record {
+  highest = pos 9223372036854775807;
+  alternatives = 63;
+  item_additions = 64;
+  nodes = 10000;
+  levels_of = nesting;
+  levels = 32;
+}

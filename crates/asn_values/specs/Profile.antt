@@ -5,7 +5,7 @@ use Rattle.std.specs.Int.RustNames.{int_le, int_lt}
 pub use Rattle.asn_limits.specs.Limits.{largest_size_bound, most_items, most_components, most_additions, most_item_additions, most_alternatives, most_nodes, most_levels}
 use Rattle.asn_values.specs.Datum.{Datum, truth, number, item}
 use Rattle.asn_values.specs.Shape.{Range, SizeRange, Shape, boolean, null, integer, enumerated, bit_string, octet_string, restricted, utf8_string, sequence, sequence_of, choice, Demand, must, optional, default, MoreLabels, closed_labels, marked_labels, more_labels, Fields, no_fields, field, MoreFields, closed, marked, more_fields, demands, field_names, Alternatives, no_alternatives, one_of, MoreAlternatives, closed_choice, marked_choice, more_alternatives, alternative_names, count}
-use Rattle.asn_values.specs.Measures.{depth, nodes}
+use Rattle.asn_values.specs.Measures.{nodes}
 use Rattle.asn_values.specs.Fits.{Limits, limits, lowest_integer, highest_integer, at_least, at_most, in_range}
 
 -- ---- every node of a type
@@ -307,8 +307,8 @@ has_under l UselessMark t = somewhere (useless_mark_under l) t
 has_under l BadDefault t = somewhere (bad_default_under l) t
 has_under l ZeroWidthElement t = somewhere zero_width_element t
 has_under l AdditionNotOptional t = somewhere addition_not_optional t
-has_under l TooMany t = somewhere (too_many_here_under l) t || nat_lt most_nodes (nodes t)
-has_under l TooDeep t = nat_lt most_levels (depth t)
+has_under l TooMany t = somewhere (too_many_here_under l) t || nat_lt l.nodes (nodes t)
+has_under l TooDeep t = nat_lt l.levels (l.levels_of t)
 
 abbrev pub has : Condition → Shape → Bool
 has = has_under limits

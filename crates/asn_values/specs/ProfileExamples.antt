@@ -4,7 +4,7 @@ use Rattle.asn_values.specs.Datum.{truth, nothing, number, item, octet_list}
 use Rattle.asn_values.specs.Shape.{boolean, null, integer, enumerated, bit_string, octet_string, restricted, ia5, utf8_string, sequence, sequence_of, choice, closed_labels, marked_labels, no_fields, closed, marked, no_alternatives, one_of, closed_choice, marked_choice}
 use Rattle.asn_values.specs.Fits.{lowest_integer, highest_integer}
 use Rattle.asn_values.specs.Profile.{EmptyRange, SizeTooLarge, DuplicateName, BadEnumeration, UselessMark, BadDefault, ZeroWidthElement, AdditionNotOptional, TooMany, TooDeep, has, most_components, most_additions, most_item_additions, most_alternatives, most_items}
-use Rattle.asn_values.specs.ExampleTypes.{between, number_from, number_to, any_number, between_or_more, exactly, size_between, size_from, any_size, size_between_or_more, label, component, optional_component, default_component, alternatives_of, optionals_of, labels_from, extended_type, extended_choice, unsorted_enumeration, large_type, lists_around, doubled, past_the_highest, before_the_lowest}
+use Rattle.asn_values.specs.ExampleTypes.{between, number_from, number_to, any_number, between_or_more, exactly, size_between, size_from, any_size, size_between_or_more, label, component, optional_component, default_component, alternatives_of, optionals_of, labels_from, extended_type, extended_choice, unsorted_enumeration, large_type, lists_around, choices_around, doubled, past_the_highest, before_the_lowest}
 
 -- ---- EmptyRange
 
@@ -436,31 +436,38 @@ one_additional_item_more : has TooMany
     (enumerated (labels_from 0 1) (marked_labels (labels_from 1 (most_item_additions + 1)))) ≡ true
 one_additional_item_more = refl
 
--- 1 + 2 * (1 + 64 * 65) + (1 + 25 * 65) + 51
-10000_nodes : has TooMany (large_type 50) ≡ false
-10000_nodes = refl
+-- 1 + (1 + 24 * (1 + 64 * 65)) + (1 + 2 * 65) + 3
+100000_nodes : has TooMany (large_type 2) ≡ false
+100000_nodes = refl
 
-10001_nodes : has TooMany (large_type 51) ≡ true
-10001_nodes = refl
+100001_nodes : has TooMany (large_type 3) ≡ true
+100001_nodes = refl
 
--- 2^13 - 1 = 8191 nodes
-a_type_doubled_twelve_times : has TooMany (doubled 12) ≡ false
-a_type_doubled_twelve_times = refl
+-- 2^16 - 1 = 65535 nodes
+a_type_doubled_fifteen_times : has TooMany (doubled 15) ≡ false
+a_type_doubled_fifteen_times = refl
 
--- 2^14 - 1 = 16383 nodes
-a_type_doubled_thirteen_times : has TooMany (doubled 13) ≡ true
-a_type_doubled_thirteen_times = refl
+-- 2^17 - 1 = 131071 nodes
+a_type_doubled_sixteen_times : has TooMany (doubled 16) ≡ true
+a_type_doubled_sixteen_times = refl
 
 -- ---- TooDeep
 
--- 31 lists around a BOOLEAN
-32_levels : has TooDeep (lists_around 31 boolean) ≡ false
-32_levels = refl
+-- 63 CHOICEs around a BOOLEAN
+64_levels : has TooDeep (choices_around 63 boolean) ≡ false
+64_levels = refl
 
-33_levels : has TooDeep (lists_around 32 boolean) ≡ true
-33_levels = refl
+65_levels : has TooDeep (choices_around 64 boolean) ≡ true
+65_levels = refl
 
-33_levels_in_an_addition : has TooDeep
+-- 31 lists around a BOOLEAN, each of two levels
+63_levels_of_lists : has TooDeep (lists_around 31 boolean) ≡ false
+63_levels_of_lists = refl
+
+65_levels_of_lists : has TooDeep (lists_around 32 boolean) ≡ true
+65_levels_of_lists = refl
+
+65_levels_in_an_addition : has TooDeep
     (choice (one_of (codes "a") null no_alternatives)
-    (marked_choice (one_of (codes "b") (lists_around 31 boolean) no_alternatives))) ≡ true
-33_levels_in_an_addition = refl
+    (marked_choice (one_of (codes "b") (choices_around 63 boolean) no_alternatives))) ≡ true
+65_levels_in_an_addition = refl

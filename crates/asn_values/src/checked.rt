@@ -38,13 +38,13 @@ impl Model for Checked {
 impl Checked {
     /// The type, where all conditions of the profile hold of it. Allocates one shared cell.
     ///
-    /// No type below level 32 is looked at, but to drop a type takes stack for each of its levels: some
+    /// No type below level 64 is looked at, but to drop a type takes stack for each of its levels: some
     /// 26,000 levels overflow it. So whoever builds a type from untrusted input bounds its nesting first.
     ///
     /// # Errors
     /// The fault of the first type inside it that has one, a type before those inside it and these from left to
-    /// right; of several faults of that type, the one with the least number. A type at level 33 is `TooDeep`,
-    /// whatever else holds of it, and the 10,001st is `TooMany`. `Memory` where there is no fault and the allocation
+    /// right; of several faults of that type, the one with the least number. A type past level 64 is `TooDeep`,
+    /// whatever else holds of it, and the 100,001st is `TooMany`. `Memory` where there is no fault and the allocation
     /// failed. On error the type is dropped.
     pub fn new(alloc: Global, ty: AsnType) -> Result<Checked, TypeFault>
         ensures same { IfOk result (λ c. c ≡ ty) }

@@ -37,11 +37,11 @@ pub enum TypeFault {
     #[error("addition not optional")]
     AdditionNotOptional = 8,
     /// More than 64 components before the extension marker of a SEQUENCE or 64 additions, more than
-    /// 200 alternatives in a CHOICE, more than 256 items in an ENUMERATED or 200 additions to them, or
-    /// more than 10,000 types in one type, itself counted.
+    /// 256 alternatives in a CHOICE, more than 256 items in an ENUMERATED or 200 additions to them, or
+    /// more than 100,000 types in one type, itself counted.
     #[error("too many")]
     TooMany = 9,
-    /// More than 32 levels of types inside one another.
+    /// More than 64 levels of types inside one another, a SEQUENCE OF counting two.
     #[error("too deep")]
     TooDeep = 10,
     /// An allocation failed.

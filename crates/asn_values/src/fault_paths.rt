@@ -23,8 +23,8 @@ impl AsnType {
     /// The fault that `Checked::new` answers for this type, and the path to where it is; None where the type is of the
     /// profile. Allocates the path. The fault is never `Memory`.
     ///
-    /// The path of a type that is too deep leads to its first type at level 33; of one with too many types inside,
-    /// to the 10,001st.
+    /// The path of a type that is too deep leads to its first type past level 64; of one with too many types inside,
+    /// to the 100,001st.
     ///
     /// # Errors
     /// `AllocError` where an allocation failed.
@@ -58,16 +58,24 @@ fn path_to_fault(alloc: Global, ty: &AsnType) -> Result<String, AllocError> {
     let mut path = String::from_str(alloc, "$")?;
     let mut here = ty;
     let mut start = MAX_TYPES;
-    for level in 0..MAX_LEVELS {
-        let Some(part) = faulty_part(alloc, here, MAX_LEVELS - 1 - level, start) else {
+    let mut levels = MAX_LEVELS;
+    for _ in 0..MAX_LEVELS {
+        if levels == 0 {
+            break;
+        }
+        let Some(part) = faulty_part(alloc, here, levels - 1, start) else {
             return Ok(path);
         };
         match part.name {
             Some(name) => {
                 path.push_str(".")?;
                 path.push_str(name)?;
+                levels -= 1;
             }
-            None => path.push_str("[]")?,
+            None => {
+                path.push_str("[]")?;
+                levels = levels.saturating_sub(2);
+            }
         }
         here = part.ty;
         start = part.start;

@@ -11,8 +11,8 @@ use crate::types::{Alt, AsnType, Bounds, Field, Item, Size};
 use crate::{additions, default_values, enumerations, names, ranges, sizes, zero_bits};
 use std::alloc::Global;
 
-/// Checks the type and all types inside it. Fails past `levels` levels of nesting or a budget of `start` types;
-/// returns the budget left.
+/// Checks the type and all types inside it. Fails past `levels` levels of nesting, of which a SEQUENCE OF takes two,
+/// or a budget of `start` types; returns the budget left.
 ///
 /// # Errors
 /// The fault of the first type that has one, a type before those inside it; of several faults of that type, the one
@@ -50,7 +50,9 @@ pub(crate) fn check_type(
                 Some(more) => check_fields(alloc, more, levels - 1, left),
             }
         }
-        AsnType::SeqOf(element, _) => check_type(alloc, element, levels - 1, start - 1),
+        AsnType::SeqOf(element, _) => {
+            check_type(alloc, element, levels.saturating_sub(2), start - 1)
+        }
         AsnType::Choice { root, ext } => {
             let left = check_alternatives(alloc, root, levels - 1, start - 1)?;
             match ext {

@@ -11,20 +11,20 @@ use Rattle.asn_values.specs.View.{shape_of, branch_of, alternatives_of, more_alt
 use Rattle.asn_values.proofs.Alternatives.{shape_of_branch}
 use Rattle.asn_walk.proofs.Parts.{choice_shape, additions_are}
 
--- a type of the profile has at most 32
-pub profile_deep : (t : Shape) → InProfile t → depth t ≤ 32
+-- a type of the profile has at most 64
+pub profile_deep : (t : Shape) → InProfile t → depth t ≤ 64
 profile_deep t good = ltb-false most_levels (depth t) (good TooDeep)
 
 -- ---- a SEQUENCE
 
-pub root_deep : {t : Shape} {root : Fields} {more : MoreFields} (level : ℕ) → t ≡ sequence root more → level + depth t ≤ 32 → level + fields_depth root ≤ 32
+pub root_deep : {t : Shape} {root : Fields} {more : MoreFields} (level : ℕ) → t ≡ sequence root more → level + depth t ≤ 64 → level + fields_depth root ≤ 64
 root_deep {root = root} {more = more} level e h =
-    let all : level + depth (sequence root more) ≤ 32 = subst (λ (x : Shape). level + depth x ≤ 32) e h in
+    let all : level + depth (sequence root more) ≤ 64 = subst (λ (x : Shape). level + depth x ≤ 64) e h in
     omega (arith, all)
 
-pub additions_deep : {t : Shape} {root added : Fields} (level : ℕ) → t ≡ sequence root (marked added) → level + depth t ≤ 32 → level + fields_depth added ≤ 31
+pub additions_deep : {t : Shape} {root added : Fields} (level : ℕ) → t ≡ sequence root (marked added) → level + depth t ≤ 64 → level + fields_depth added ≤ 63
 additions_deep {root = root} {added = added} level e h =
-    let all : level + depth (sequence root (marked added)) ≤ 32 = subst (λ (x : Shape). level + depth x ≤ 32) e h in
+    let all : level + depth (sequence root (marked added)) ≤ 64 = subst (λ (x : Shape). level + depth x ≤ 64) e h in
     omega (arith, all)
 
 -- ---- a CHOICE
@@ -33,14 +33,14 @@ more_depth_is : (m : MoreAlternatives) → more_choice_depth m ≡ choice_depth 
 more_depth_is closed_choice = refl
 more_depth_is (marked_choice alts) = refl
 
-module _ (level : ℕ) (t : AsnType) (root : Vec Alt Global) (ext : Option (Vec Alt Global)) (is : t ≡ asn_type.Choice root ext) (h : level + depth (shape_of t) ≤ 32) where
-  all : level + depth (choice (alternatives_of (map branch_of root.items)) (more_alternatives_of ext)) ≤ 32
-  all = subst (λ (x : Shape). level + depth x ≤ 32) (choice_shape t root ext is) h
+module _ (level : ℕ) (t : AsnType) (root : Vec Alt Global) (ext : Option (Vec Alt Global)) (is : t ≡ asn_type.Choice root ext) (h : level + depth (shape_of t) ≤ 64) where
+  all : level + depth (choice (alternatives_of (map branch_of root.items)) (more_alternatives_of ext)) ≤ 64
+  all = subst (λ (x : Shape). level + depth x ≤ 64) (choice_shape t root ext is) h
 
-  pub roots_deep : (alts : List Alt) → alts ≡ root.items → level + choice_depth (alternatives_of (map branch_of alts)) ≤ 32
-  roots_deep alts e = (let few : level + choice_depth (alternatives_of (map branch_of root.items)) ≤ 32 = omega (arith, all) in subst (λ (l : List Alt). level + choice_depth (alternatives_of (map branch_of l)) ≤ 32) (sym e) few)
+  pub roots_deep : (alts : List Alt) → alts ≡ root.items → level + choice_depth (alternatives_of (map branch_of alts)) ≤ 64
+  roots_deep alts e = (let few : level + choice_depth (alternatives_of (map branch_of root.items)) ≤ 64 = omega (arith, all) in subst (λ (l : List Alt). level + choice_depth (alternatives_of (map branch_of l)) ≤ 64) (sym e) few)
 
-  pub added_deep : (additions : Vec Alt Global) (more : List Alt) → ext ≡ Some additions → more ≡ additions.items → level + choice_depth (alternatives_of (map branch_of more)) ≤ 31
+  pub added_deep : (additions : Vec Alt Global) (more : List Alt) → ext ≡ Some additions → more ≡ additions.items → level + choice_depth (alternatives_of (map branch_of more)) ≤ 63
   added_deep additions more e em =
       let same : more_choice_depth (more_alternatives_of ext) ≡ choice_depth (alternatives_of (map branch_of more)) = more_depth_is (more_alternatives_of ext) ∙ ap choice_depth (additions_are ext additions more e em) in
       omega (arith, all, same)

@@ -29,7 +29,7 @@ pub(crate) fn write_sequence<R: WriteLeaves, S: FieldLengths, V: Source>(
 ) -> Result<(), Unwritten<S::Fault>>
     requires sequence { IsSequence ty.now }
     requires of_profile { InProfile (shape_of ty.now) }
-    requires deep { level + depth (shape_of ty.now) ≤ 32 }
+    requires deep { level + depth (shape_of ty.now) ≤ 64 }
     ensures of_type { TellsWhether result (Fits (shape_of ty.now) (V.datum value)) }
     ensures written { OnOk result (WritesDatum (TakesAt S.stands S.wants_lengths level) R.rules
         sink.old sink.new ty.now (V.datum value)) }
@@ -51,7 +51,7 @@ fn write_entries<R: WriteLeaves, S: FieldLengths, V: Source>(
 ) -> Result<(), Unwritten<S::Fault>>
     requires sequence { IsSequence ty.now }
     requires of_profile { InProfile (shape_of ty.now) }
-    requires deep { level + depth (shape_of ty.now) ≤ 32 }
+    requires deep { level + depth (shape_of ty.now) ≤ 64 }
     ensures of_type { TellsWhether result (Fits (shape_of ty.now) (sequence_of (V.entries_left entries))) }
     ensures written { OnOk result (WritesDatum (TakesAt S.stands S.wants_lengths level) R.rules
         sink.old sink.new ty.now (sequence_of (V.entries_left entries))) }
@@ -87,7 +87,7 @@ fn write_entries_apart<R: WriteLeaves, S: FieldLengths, V: Source>(
 ) -> Result<(), Unwritten<S::Fault>>
     requires sequence { IsSequence ty.now }
     requires of_profile { InProfile (shape_of ty.now) }
-    requires deep { level + depth (shape_of ty.now) ≤ 32 }
+    requires deep { level + depth (shape_of ty.now) ≤ 64 }
     ensures of_type { TellsWhether result (Fits (shape_of ty.now) (sequence_of (V.entries_left entries))) }
     ensures written { OnOk result (WritesDatum (TakesAt S.stands S.wants_lengths level) R.rules
         sink.old sink.new ty.now (sequence_of (V.entries_left entries))) }
@@ -107,7 +107,7 @@ fn write_inner<R: WriteLeaves, S: FieldLengths, V: Source>(
     sink: &mut S,
 ) -> Result<(), Unwritten<S::Fault>>
     requires of_profile { InProfile (shape_of ty.now) }
-    requires deep { level + depth (shape_of ty.now) ≤ 32 }
+    requires deep { level + depth (shape_of ty.now) ≤ 64 }
     ensures of_type { TellsWhether result (Fits (shape_of ty.now) (V.datum value)) }
     ensures written { OnOk result (WritesDatum (TakesAt S.stands S.wants_lengths level) R.rules
         sink.old sink.new ty.now (V.datum value)) }
@@ -134,7 +134,7 @@ fn write_plain<R: WriteLeaves, S: FieldLengths, V: Source>(
 ) -> Result<(), Unwritten<S::Fault>>
     requires of_profile { AreOfProfile (fields_seen fields.now) }
     requires few { length fields.now ≤ 64 }
-    requires deep { level + fields_depth (fields_seen fields.now) ≤ 32 }
+    requires deep { level + fields_depth (fields_seen fields.now) ≤ 64 }
     ensures of_type { TellsWhether result (EachFits fields.now (V.entries_left entries)) }
     ensures written { OnOk result (WritesRootOf (TakesAt S.stands S.wants_lengths level) R.rules
         sink.old sink.new None fields.now (V.entries_left entries)) }
@@ -153,7 +153,7 @@ fn write_marked<R: WriteLeaves, S: FieldLengths, V: Source>(
 ) -> Result<(), Unwritten<S::Fault>>
     requires of_profile { AreOfProfile (fields_seen fields.now) }
     requires few { length fields.now ≤ 64 }
-    requires deep { level + fields_depth (fields_seen fields.now) ≤ 32 }
+    requires deep { level + fields_depth (fields_seen fields.now) ≤ 64 }
     ensures of_type { TellsWhether result (EachFits fields.now (V.entries_left entries)) }
     ensures written { OnOk result (WritesRootOf (TakesAt S.stands S.wants_lengths level) R.rules
         sink.old sink.new (Some extended) fields.now (V.entries_left entries)) }
@@ -174,7 +174,7 @@ fn write_root<R: WriteLeaves, S: FieldLengths, V: Source>(
 ) -> Result<(), Unwritten<S::Fault>>
     requires of_profile { AreOfProfile (fields_seen fields.now) }
     requires few { length fields.now ≤ 64 }
-    requires deep { level + fields_depth (fields_seen fields.now) ≤ 32 }
+    requires deep { level + fields_depth (fields_seen fields.now) ≤ 64 }
     ensures of_type { TellsWhether result (EachFits fields.now (V.entries_left entries)) }
     ensures written { OnOk result (WritesRootOf (TakesAt S.stands S.wants_lengths level) R.rules
         sink.old sink.new extended fields.now (V.entries_left entries)) }
@@ -201,7 +201,7 @@ fn write_components<R: WriteLeaves, S: FieldLengths, V: Source>(
 ) -> Result<(), Unwritten<S::Fault>>
     requires of_profile { AreOfProfile (fields_seen fields.now) }
     requires each { length fields.now ≡ length (V.entries_left entries) }
-    requires deep { level + fields_depth (fields_seen fields.now) ≤ 32 }
+    requires deep { level + fields_depth (fields_seen fields.now) ≤ 64 }
     ensures of_type { TellsWhether result (EachFits fields.now (V.entries_left entries)) }
     ensures written { OnOk result (Writes (TakesAt S.stands S.wants_lengths level) R.rules
         sink.old sink.new
@@ -244,7 +244,7 @@ fn write_additions<R: WriteLeaves, S: FieldLengths, V: Source>(
     requires of_profile { AreOfProfile (fields_seen fields.now) }
     requires optional { AreOptional (fields_seen fields.now) }
     requires few { length fields.now ≤ 64 }
-    requires deep { level + fields_depth (fields_seen fields.now) ≤ 31 }
+    requires deep { level + fields_depth (fields_seen fields.now) ≤ 63 }
     ensures of_type { TellsWhether result (EachFits fields.now (V.entries_left entries)) }
     ensures written { OnOk result (WritesAdditionsOf (TakesAt S.stands S.wants_lengths level) R.rules
         sink.old sink.new fields.now (V.entries_left entries)) }
@@ -274,7 +274,7 @@ fn write_open_components<R: WriteLeaves, S: FieldLengths, V: Source>(
     requires of_profile { AreOfProfile (fields_seen fields.now) }
     requires optional { AreOptional (fields_seen fields.now) }
     requires each { length fields.now ≡ length (V.entries_left entries) }
-    requires deep { level + fields_depth (fields_seen fields.now) ≤ 31 }
+    requires deep { level + fields_depth (fields_seen fields.now) ≤ 63 }
     ensures of_type { TellsWhether result (EachFits fields.now (V.entries_left entries)) }
     ensures written { OnOk result (Writes (TakesAt S.stands S.wants_lengths level) R.rules
         sink.old sink.new

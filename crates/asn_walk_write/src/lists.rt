@@ -27,7 +27,7 @@ pub(crate) fn write_list<R: WriteLeaves, S: FieldLengths, V: Source>(
     sink: &mut S,
 ) -> Result<(), Unwritten<S::Fault>>
     requires of_profile { InProfile (sequence_of_seen element.now size.now) }
-    requires deep { level + depth (sequence_of_seen element.now size.now) ≤ 32 }
+    requires deep { level + depth (sequence_of_seen element.now size.now) ≤ 64 }
     ensures of_type { TellsWhether result
         (Fits (sequence_of_seen element.now size.now) (list_of (V.elements_left elements))) }
     ensures written { OnOk result (WritesListOf (TakesAt S.stands S.wants_lengths level) R.rules
@@ -59,7 +59,7 @@ fn write_elements<R: WriteLeaves, S: FieldLengths, V: Source>(
     sink: &mut S,
 ) -> Result<(), Unwritten<S::Fault>>
     requires of_profile { InProfile (shape_of element.now) }
-    requires deep { level + depth (shape_of element.now) ≤ 32 }
+    requires deep { level + depth (shape_of element.now) ≤ 64 }
     ensures of_type { TellsWhether result
         (AllByRecursion (λ d. Fits (shape_of element.now) d) (V.elements_left elements)) }
     ensures written { OnOk result (WritesRowOf (TakesAt S.stands S.wants_lengths level) R.rules

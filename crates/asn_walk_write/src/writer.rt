@@ -30,7 +30,7 @@ pub fn write_complete<R: WriteLeaves, S: FieldLengths, V: Source>(
     sink: &mut S,
 ) -> Result<(), Unwritten<S::Fault>>
     requires of_profile { InProfile (shape_of ty.now) }
-    requires deep { level + depth (shape_of ty.now) ≤ 32 }
+    requires deep { level + depth (shape_of ty.now) ≤ 64 }
     ensures of_type { TellsWhether result (Fits (shape_of ty.now) (V.datum value)) }
     ensures written { OnOk result (WritesWhole S.stands S.wants_lengths level R.rules
         sink.old sink.new ty.now (V.datum value)) }
@@ -50,7 +50,7 @@ pub(crate) fn write_open_field<R: WriteLeaves, S: FieldLengths, V: Source>(
     sink: &mut S,
 ) -> Result<(), Unwritten<S::Fault>>
     requires of_profile { InProfile (shape_of ty.now) }
-    requires deep { level + depth (shape_of ty.now) ≤ 31 }
+    requires deep { level + depth (shape_of ty.now) ≤ 63 }
     ensures of_type { TellsWhether result (Fits (shape_of ty.now) (V.datum value)) }
     ensures written { OnOk result (WritesOpenDatum (TakesAt S.stands S.wants_lengths level) R.rules
         sink.old sink.new ty.now (V.datum value)) }
@@ -74,7 +74,7 @@ pub(crate) fn write<R: WriteLeaves, S: FieldLengths, V: Source>(
     sink: &mut S,
 ) -> Result<(), Unwritten<S::Fault>>
     requires of_profile { InProfile (shape_of ty.now) }
-    requires deep { level + depth (shape_of ty.now) ≤ 32 }
+    requires deep { level + depth (shape_of ty.now) ≤ 64 }
     ensures of_type { TellsWhether result (Fits (shape_of ty.now) (V.datum value)) }
     ensures written { OnOk result (WritesDatum (TakesAt S.stands S.wants_lengths level) R.rules
         sink.old sink.new ty.now (V.datum value)) }
@@ -135,7 +135,7 @@ fn write_alternative<R: WriteLeaves, S: FieldLengths, V: Source>(
 ) -> Result<(), Unwritten<S::Fault>>
     requires of_profile { AreAllOfProfile (alternatives_seen alternatives.now) }
     requires inside { index < length alternatives.now }
-    requires deep { level + choice_depth (alternatives_seen alternatives.now) ≤ 32 }
+    requires deep { level + choice_depth (alternatives_seen alternatives.now) ≤ 64 }
     ensures of_type { TellsWhether result
         (FitsAlternative (alternatives_seen alternatives.now) index (V.datum value)) }
     ensures written { OnOk result (WritesAlternativeOf (TakesAt S.stands S.wants_lengths level) R.rules
@@ -155,7 +155,7 @@ fn write_added_alternative<R: WriteLeaves, S: FieldLengths, V: Source>(
 ) -> Result<(), Unwritten<S::Fault>>
     requires of_profile { AreAllOfProfile (alternatives_seen alternatives.now) }
     requires inside { index < length alternatives.now }
-    requires deep { level + choice_depth (alternatives_seen alternatives.now) ≤ 31 }
+    requires deep { level + choice_depth (alternatives_seen alternatives.now) ≤ 63 }
     ensures of_type { TellsWhether result
         (FitsAlternative (alternatives_seen alternatives.now) index (V.datum value)) }
     ensures written { OnOk result (WritesOpenAlternativeOf (TakesAt S.stands S.wants_lengths level) R.rules

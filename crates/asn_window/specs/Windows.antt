@@ -23,5 +23,5 @@ pub record WindowStands {O : Type 0} (held : O → Held) (w : Window O) (c : Con
   pub level : w.depth ≡ length c.around
   pub phase : w.phase ≡ length taken % 8
   pub empty : w.is_empty ≡ is_nil taken
-  pub long_left : length w.fragments.left ≡ 32
-  pub long_after : length w.fragments.after ≡ 32
+  pub long_left : length w.fragments.left ≡ 64
+  pub long_after : length w.fragments.after ≡ 64

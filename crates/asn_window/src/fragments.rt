@@ -16,9 +16,9 @@ use asn_values::profile::BLOCK;
 #[derive(Drop)]
 pub struct Fragments {
     /// how many bits of the field come before its next length determinant; 0 where none comes any more
-    pub left: [u64; 32],
+    pub left: [u64; 64],
     /// how many octets of its content come after these
-    pub after: [u64; 32],
+    pub after: [u64; 64],
 }
 
 /// How many bits come before the next length determinant, where `others` of the bits after the one of `items` octets

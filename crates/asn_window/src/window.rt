@@ -37,7 +37,7 @@ pub struct Window<'a, O> {
     /// whether there is no bit of it
     pub is_empty: bool,
     ghost small: { phase < 8 },
-    ghost shallow: { depth ≤ 32 },
+    ghost shallow: { depth ≤ 64 },
 }
 
 /// Whether there is still no bit after `k` more bits or octets.
@@ -71,8 +71,8 @@ impl<'a, O: Output> Window<'a, O> {
                 pending: 0,
             },
             fragments: Fragments {
-                left: [0; 32],
-                after: [0; 32],
+                left: [0; 64],
+                after: [0; 64],
             },
             depth: 0,
             phase: 0,
@@ -94,7 +94,7 @@ impl<'a, O: Output> Window<'a, O> {
 
     /// Goes into an open type field whose length was written.
     fn enter(&mut self, level: usize) -> Phase
-        requires { level < 32 }
+        requires { level < 64 }
         ensures outer { result.phase ≡ self.old.phase }
         ensures name { self.new.output.ghost_name ≡ self.old.output.ghost_name }
         ensures output { self.new.output.now ≡ self.old.output.now }

@@ -2,7 +2,7 @@
 -- of the parts of spellings.
 use Rattle.std.proofs.Common.{◌≡◌, ◌≤◌, ◌<◌, ◌+◌, ◌*◌, ◌^◌, ℕ, suc, Bool, true, false, List, [], ◌∷◌, ◌++◌, length, map, refl, sym, subst, arith, nat_lt, length-append}
 use Rattle.std.proofs.lemmas.Bool.{ltb-true}
-use Rattle.std.proofs.Math.Nat.{suc-mul, pow-le-pow_right}
+use Rattle.std.proofs.Math.Nat.{suc-mul, pow-succ', pow-le-pow_right, mul-le-mul_left}
 use Rattle.std.specs.List.{AllByRecursion}
 use Rattle.asn_bits.specs.Numbers.{octets, octet_count}
 use Rattle.asn_bits.specs.Lengths.{octet_length, joined}
@@ -23,13 +23,13 @@ field_limit : ℕ
 field_limit = 256 ^ 127
 
 -- the most octets of a value of a type of k levels
-abbrev pub room : ℕ → ℕ
-room k = 2147483648 ^ k
+pub room : ℕ → ℕ
+room k = 65536 * 32768 ^ k
 
--- 32 levels have less than that
-room_32 : room 32 < field_limit
-unfolding field_limit
-room_32 = ltb-true (2147483648 ^ 32) (256 ^ 127) refl
+-- 64 levels have less than that
+room_64 : room 64 < field_limit
+unfolding field_limit room
+room_64 = ltb-true (65536 * 32768 ^ 64) (256 ^ 127) refl
 
 -- which is 256 to the power 127
 below_limit : (n : ℕ) → n < field_limit → n < 256 ^ 127
@@ -38,14 +38,33 @@ below_limit n h = h
 
 -- more levels have more room
 pub room_grows : (j k : ℕ) → j ≤ k → room j ≤ room k
-room_grows j k h = pow-le-pow_right (ltb-true 0 2147483648 refl) h
+unfolding room
+room_grows j k h = mul-le-mul_left 65536 (pow-le-pow_right (ltb-true 0 32768 refl) h)
 
--- of types of at most 32 levels a length counts all
-within_limit : (n k : ℕ) → n ≤ room k → k ≤ 32 → n < field_limit
+room_zero : room 0 ≡ 65536
+unfolding room
+room_zero = refl
+
+-- the room of a simple type
+pub room_first : room 1 ≡ 2147483648
+unfolding room
+room_first = refl
+
+-- the room of one more level
+pub room_next : (k : ℕ) → room (suc k) ≡ 32768 * room k
+unfolding room
+room_next k = omega (arith, pow-succ' 32768 k)
+
+-- there is some room at each level
+pub room_some : (k : ℕ) → 1 ≤ room k
+room_some k = let some = room_grows 0 k (omega arith) in omega (arith, room_zero, some)
+
+-- of types of at most 64 levels a length counts all
+within_limit : (n k : ℕ) → n ≤ room k → k ≤ 64 → n < field_limit
 within_limit n k h l =
-    let a : room k ≤ room 32 = room_grows k 32 l in
-    let b = room_32 in
-    between n (room k) (room 32) field_limit h a b
+    let a : room k ≤ room 64 = room_grows k 64 l in
+    let b = room_64 in
+    between n (room k) (room 64) field_limit h a b
   where
     between : (a b c d : ℕ) → a ≤ b → b ≤ c → c < d → a < d
     between a b c d p q r = omega arith
@@ -96,8 +115,8 @@ spelled_in_limit n c h p =
     let m = p.most in
     short_more ((length c + 2) + n) (2 * n + 2) (spelled c) (omega arith) (short_append (length c + 2) n (octet_length (length c)) c (length_short (length c) (omega arith)) p)
 
--- of types of at most 32 levels, a content with its length
-pub short_spelled : (n k : ℕ) (c : List ℕ) → n ≤ room k → k ≤ 32 → Short n c → Short (2 * n + 2) (spelled c)
+-- of types of at most 64 levels, a content with its length
+pub short_spelled : (n k : ℕ) (c : List ℕ) → n ≤ room k → k ≤ 64 → Short n c → Short (2 * n + 2) (spelled c)
 short_spelled n k c h l p = spelled_in_limit n c (within_limit n k h l) p
 
 -- ---- chunks
@@ -127,7 +146,7 @@ spelt_append m n xs ys p q = record {
 }
 
 -- an open field
-pub spelt_open : (n k : ℕ) (cs : List Chunk) → n ≤ room k → k ≤ 32 → Spelt n cs → Spelt (2 * n + 2) (an_open_field cs)
+pub spelt_open : (n k : ℕ) (cs : List Chunk) → n ≤ room k → k ≤ 64 → Spelt n cs → Spelt (2 * n + 2) (an_open_field cs)
 spelt_open n k cs h l p =
     let os = p.units.octets in
     record {

@@ -2,7 +2,7 @@
 use Rattle.std.proofs.Common.{◌≡◌, ◌≤◌, ◌+◌, ◌-◌, ◌*◌, ℕ, zero, suc, max, Bool, true, false, List, [], ◌∷◌, ◌++◌, length, map, take, drop, Option, refl, sym, subst, arith, nat_lt, MatchBool, length-append}
 use Rattle.std.proofs.lemmas.Bool.{ltb-false, or_parts}
 use Rattle.std.proofs.lemmas.List.{length-map}
-use Rattle.std.proofs.Math.Nat.{pow-succ', suc-mul, mul-le-mul_right}
+use Rattle.std.proofs.Math.Nat.{suc-mul, mul-le-mul_right}
 use Rattle.asn_values.specs.Datum.{Datum, truth, number, item, bit_list, octet_list, characters, unicode, components, elements, alternative, component_list, element_list}
 use Rattle.asn_values.specs.Shape.{Shape, boolean, null, integer, enumerated, bit_string, octet_string, restricted, utf8_string, sequence, sequence_of, choice, more_labels, Fields, no_fields, field, MoreFields, closed, marked, is_marked, more_fields, demands, Alternatives, no_alternatives, one_of, MoreAlternatives, closed_choice, marked_choice, count}
 use Rattle.asn_values.specs.Measures.{depth, fields_depth, more_depth, choice_depth, more_choice_depth}
@@ -23,22 +23,10 @@ use Rattle.asn_walk.proofs.ItemNumbers.{number_is_small}
 use Rattle.asn_oer.specs.Oer.{whole_number, bit_octets, sized_octets, item_number, tag, variable_bits, an_open_field, oer, oer_each, oer_open, oer_additions, oer_alternative, oer_more}
 use Rattle.asn_oer.proofs.Law.GoodTypes.{Good, GoodFields, GoodAlternatives, first_good, rest_good, here_good, later_good, root_good, additions_good, choice_good, choice_additions_good, few_alternatives, tag_below}
 use Rattle.asn_oer.proofs.Law.Spellings.{front}
-use Rattle.asn_oer.proofs.Encodings.Spelt.{room, room_grows, Short, short_append, short_more, Spelt, spelt_none, spelt_more, spelt_ones, spelt_append, spelt_open, spelt_joined}
+use Rattle.asn_oer.proofs.Encodings.Spelt.{room, room_grows, room_first, room_next, room_some, Short, short_append, short_more, Spelt, spelt_none, spelt_more, spelt_ones, spelt_append, spelt_open, spelt_joined}
 use Rattle.asn_oer.proofs.Encodings.SpeltLeaves.{number_short, item_short, bits_short, variable_short, preamble_short, content_short, sized_short, quantity_short, tag_short}
 
 -- ---- room
-
--- the room of a simple type
-room_first : room 1 ≡ 2147483648
-room_first = refl
-
--- the room of one more level
-room_next : (k : ℕ) → room (suc k) ≡ 2147483648 * room k
-room_next k = pow-succ' 2147483648 k
-
--- there is some room at each level
-room_some : (k : ℕ) → 1 ≤ room k
-room_some k = room_grows 0 k (omega arith)
 
 -- a spelling of a simple type
 leaf : (n : ℕ) (us : List ℕ) → n ≤ 2147483648 → Short n us → Spelt (room 1) (ones us)
@@ -66,7 +54,7 @@ few_in_front root m e es h = omega (arith, length-append (extension_bit m e) (pr
 
 mutual
   -- of at most as many levels as the profile has
-  pub oer_spelt : (t : Shape) → Good t → depth t ≤ 32 → (d : Datum) → Fits t d → Spelt (room (depth t)) (oer t d)
+  pub oer_spelt : (t : Shape) → Good t → depth t ≤ 64 → (d : Datum) → Fits t d → Spelt (room (depth t)) (oer t d)
   oer_spelt boolean h l (truth true) f = leaf 1 (255 ∷ []) (omega arith) (record { octets = (omega arith, tt); most = omega arith })
   oer_spelt boolean h l (truth false) f = leaf 1 (0 ∷ []) (omega arith) (record { octets = (omega arith, tt); most = omega arith })
   oer_spelt boolean h l _ f = absurd f
@@ -112,7 +100,7 @@ mutual
       let short : n ≤ max_len = f.0.0 in
       let many : n * room k ≤ max_len * room k = mul-le-mul_right (room k) short in
       let some = room_some k in
-      spelt_more (536870914 + n * room k) (room (suc k)) (oer (sequence_of t z) (elements ds)) (omega (arith, room_next k))
+      spelt_more (536870914 + n * room k) (room (suc (suc k))) (oer (sequence_of t z) (elements ds)) (omega (arith, room_next k, room_next (suc k)))
       (spelt_append 536870914 (n * room k) (ones (spelled (least n))) (joined (map (λ e. oer t e) xs)) (spelt_ones 536870914 (spelled (least n)) (quantity_short n short))
       (spelt_joined (room k) (λ e. Fits t e) (λ e. oer t e) (λ e p. oer_spelt t (record { numbers = h.numbers; parts = h.parts }) (omega arith) e p) xs f.1))
   oer_spelt (sequence_of t z) h l _ f = absurd f
@@ -133,7 +121,7 @@ mutual
   oer_spelt (choice root more) h l _ f = absurd f
 
   -- the components of a SEQUENCE
-  each_spelt : (fs : Fields) → GoodFields fs → (k : ℕ) → fields_depth fs ≤ k → k ≤ 32 → (es : List (Option Datum)) → FitsEach fs es → Spelt (length (demands fs) * room k) (oer_each fs es)
+  each_spelt : (fs : Fields) → GoodFields fs → (k : ℕ) → fields_depth fs ≤ k → k ≤ 64 → (es : List (Option Datum)) → FitsEach fs es → Spelt (length (demands fs) * room k) (oer_each fs es)
   each_spelt no_fields h k l m es f = spelt_none (0 * room k)
   each_spelt (field name demand t fs) h k l m [] f = absurd f
   each_spelt (field name demand t fs) h k l m (e ∷ es) f =
@@ -144,7 +132,7 @@ mutual
       (each_spelt fs (rest_good name demand t fs h) k (omega arith) m es f.1))
 
   -- its additions
-  more_spelt : (root : Fields) (more : MoreFields) → Good (sequence root more) → (k : ℕ) → more_depth more ≤ k → k ≤ 32 → (es : List (Option Datum)) → FitsMore more es
+  more_spelt : (root : Fields) (more : MoreFields) → Good (sequence root more) → (k : ℕ) → more_depth more ≤ k → k ≤ 64 → (es : List (Option Datum)) → FitsMore more es
       → Spelt (146 + 64 * (2 * room k + 2)) (oer_additions more es)
   more_spelt root closed h k l m es f = spelt_none (146 + 64 * (2 * room k + 2))
   more_spelt root (marked fs) h k l m es f = go (any_present es) (opens_spelt fs (additions_good root fs h) k l m es f)
@@ -161,7 +149,7 @@ mutual
       go false p = spelt_none (146 + 64 * (2 * room k + 2))
 
   -- the open fields of those that are present
-  opens_spelt : (fs : Fields) → GoodFields fs → (k : ℕ) → fields_depth fs ≤ k → k ≤ 32 → (es : List (Option Datum)) → FitsEach fs es → Spelt (length (demands fs) * (2 * room k + 2)) (oer_open fs es)
+  opens_spelt : (fs : Fields) → GoodFields fs → (k : ℕ) → fields_depth fs ≤ k → k ≤ 64 → (es : List (Option Datum)) → FitsEach fs es → Spelt (length (demands fs) * (2 * room k + 2)) (oer_open fs es)
   opens_spelt no_fields h k l m es f = spelt_none (0 * (2 * room k + 2))
   opens_spelt (field name demand t fs) h k l m [] f = absurd f
   opens_spelt (field name demand t fs) h k l m (e ∷ es) f =
@@ -173,19 +161,19 @@ mutual
       (opens_spelt fs (rest_good name demand t fs h) k (omega arith) m es f.1))
 
   -- the values of one alternative of the root
-  alternative_spelt : (alts : Alternatives) → GoodAlternatives alts → (k : ℕ) → choice_depth alts ≤ k → k ≤ 32 → (i : ℕ) (d : Datum) → FitsAlternative alts i d → Spelt (room k) (oer_alternative alts i d)
+  alternative_spelt : (alts : Alternatives) → GoodAlternatives alts → (k : ℕ) → choice_depth alts ≤ k → k ≤ 64 → (i : ℕ) (d : Datum) → FitsAlternative alts i d → Spelt (room k) (oer_alternative alts i d)
   alternative_spelt no_alternatives h k l m i d f = absurd f
   alternative_spelt (one_of name t alts) h k l m zero d f =
       spelt_more (room (depth t)) (room k) (oer t d) (room_grows (depth t) k (omega arith)) (oer_spelt t (here_good name t alts h) (omega arith) d f)
   alternative_spelt (one_of name t alts) h k l m (suc i) d f = alternative_spelt alts (later_good name t alts h) k (omega arith) m i d f
 
   -- the values of one addition, in an open field
-  other_spelt : (root : Alternatives) (more : MoreAlternatives) → Good (choice root more) → (k : ℕ) → more_choice_depth more ≤ k → k ≤ 32 → (i : ℕ) (d : Datum) → FitsMoreAlternatives more i d
+  other_spelt : (root : Alternatives) (more : MoreAlternatives) → Good (choice root more) → (k : ℕ) → more_choice_depth more ≤ k → k ≤ 64 → (i : ℕ) (d : Datum) → FitsMoreAlternatives more i d
       → Spelt (2 * room k + 2) (oer_more more i d)
   other_spelt root closed_choice h k l m i d f = absurd f
   other_spelt root (marked_choice alts) h k l m i d f =
       spelt_open (room k) k (oer_alternative alts i d) (omega arith) m (alternative_spelt alts (choice_additions_good root alts h) k l m i d f)
 
 -- the levels of a type of the profile
-pub few_levels : (t : Shape) → InProfile t → depth t ≤ 32
-few_levels t h = ltb-false 32 (depth t) (h TooDeep)
+pub few_levels : (t : Shape) → InProfile t → depth t ≤ 64
+few_levels t h = ltb-false 64 (depth t) (h TooDeep)

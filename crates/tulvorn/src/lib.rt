@@ -33,6 +33,7 @@ pub use asn_constraints::TimeKind;
 pub use asn_constraints::judge;
 pub use asn_constraints::judge_at;
 pub use asn_constraints::judge_spelling;
+pub use asn_constraints::path_text;
 pub use asn_convert::ConvertFault;
 pub use asn_convert::convert;
 pub use asn_examples::least_value;

@@ -1,7 +1,7 @@
 -- How many octets a session has taken.
 use Rattle.std.proofs.Common.{◌≡◌, ◌≤◌, ◌<◌, ◌+◌, ◌++◌, ℕ, List, length, take, min, sym, ap, arith}
 use Rattle.std.specs.Prelude.{◌^◌, ◌-◌, Ok}
-use Rattle.std.proofs.lemmas.List.{length-append, length-take}
+use Rattle.std.proofs.lemmas.List.{length-take}
 use Rattle.asn_values.specs.Shape.{Shape}
 use Rattle.asn_values.specs.declared.value.Value.{Value}
 use Rattle.asn_rules.specs.Answer.{Ruling, max_octets}

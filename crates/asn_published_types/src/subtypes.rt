@@ -192,9 +192,11 @@ impl<'a, 't> Subtypes<'a, 't> {
         }
     }
 
-    /// Which values the constraints of a node allow. Those of the types that it names are given where they do not come with
-    /// these types: where a marker ends them, which ends there (X.680, "serial application of constraints"), and where one
-    /// ends those of the node, after which each value of its parent may come.
+    /// Which values the constraints of a node allow.
+    ///
+    /// Those of the types that it names come with these types, and are given in two cases only. A marker that ends them is
+    /// no marker of the node's type (X.680, "serial application of constraints"). After a marker that ends those of the
+    /// node, each value of its parent may come.
     pub fn allowed_at(
         &self,
         alloc: Global,

@@ -4,7 +4,7 @@ use crate::allowed::Allowed;
 use crate::intervals::{between, of_ranges, only};
 use crate::numbers::Scope;
 use crate::places::{after_table, after_unseen, mark_at, root_end};
-use crate::seen::{Mode, Seen};
+use crate::seen::Mode;
 use crate::subtypes::{Around, Of, Subtypes, Work};
 use asn_constraints::Constraint;
 use asn_published_text::nodes::Shape;
@@ -291,20 +291,19 @@ impl<'a, 't> Subtypes<'a, 't> {
         mode: Mode,
         at: usize,
     ) -> Result<Element, AllocError> {
-        match self.values.value_seen(alloc, scope, mode, at) {
-            Ok((Seen { numbers, .. }, behind)) => match numbers {
-                Some(ranges) => Ok(Some((
-                    Allowed {
-                        numbers: Some(of_ranges(alloc, &ranges)?),
-                        ..Allowed::all()
-                    },
-                    behind,
-                ))),
-                None => Ok(Some((Allowed::missing(), behind))),
+        let found = match self.values.value_seen(alloc, scope, mode, at) {
+            Ok(found) => found,
+            Err(Refusal::Memory) => return Err(AllocError),
+            Err(Refusal::At { .. }) => return Ok(None),
+        };
+        let allowed = match &found.0.numbers {
+            Some(ranges) => Allowed {
+                numbers: Some(of_ranges(alloc, ranges)?),
+                ..Allowed::all()
             },
-            Err(Refusal::Memory) => Err(AllocError),
-            Err(Refusal::At { .. }) => Ok(None),
-        }
+            None => Allowed::missing(),
+        };
+        Ok(Some((allowed, found.1)))
     }
 
     /// What the value or the range at `at` allows, and the index after it.

@@ -5,6 +5,7 @@ ghost use Rattle.asn_constraints.specs.Constraints.{free};
 ghost use Rattle.asn_constraints.specs.View.{constraint_of};
 ghost use Rattle.asn_constrained.specs.Under.{ChecksUnder, DecodedUnder, is_rest};
 
+use crate::along::check_along;
 use crate::codec::{decode_into_under, decode_under, is_free, why_broken};
 use crate::fault::ConstrainedFault;
 use asn_constraints::Constraint;
@@ -13,8 +14,8 @@ use asn_rules::DecodeFault;
 use asn_values::Value;
 use std::alloc::Global;
 
-/// Whether the octets are the complete encoding of a value that meets the constraint. No value is built where the
-/// constraint is free.
+/// Whether the octets are the complete encoding of a value that meets the constraint. No value is built where
+/// the constraint is free, or where the value meets it and it is judged part by part.
 ///
 /// # Errors
 /// As `decode_by_plan`.
@@ -28,6 +29,9 @@ pub(crate) fn check_under<R: PlanRules>(
 {
     if is_free(constraint) {
         return check_free::<R>(alloc, planned, octets);
+    }
+    if check_along::<R>(alloc, planned, constraint, octets) {
+        return Ok(());
     }
     match decode_by_plan::<R>(alloc, planned, constraint, octets) {
         Ok(_) => Ok(()),

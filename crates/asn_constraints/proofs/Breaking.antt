@@ -9,7 +9,7 @@ use Rattle.asn_constraints.specs.declared.broken.Reason.{Reason}
 use Rattle.asn_constraints.specs.declared.broken.Reason.TheVariants as reason
 use Rattle.asn_constraints.specs.Constraints.{any, must_be, must_not_be, Constraint, free, barred, both, either, on_components, on_elements, on_alternatives, OnComponents, other_components_free, on_component, OnAlternatives, other_alternatives_barred, other_alternatives_free, on_alternative, entry_meets, meets, meet_each, meets_at, may_be_present}
 use Rattle.asn_constraints.specs.View.{OnOne}
-use Rattle.asn_constraints.specs.Broken.{presence_at, component_at, alternative_at, count, has_parts, reason_of, BreaksAt, itself, without_parts, first, second, missing, not_absent, in_component, in_element, not_allowed, in_alternative}
+use Rattle.asn_constraints.specs.Broken.{presence_at, component_at, alternative_at, count, right_before, has_parts, reason_of, BreaksAt, itself, without_parts, first, second, missing, not_absent, in_component, in_element, not_allowed, in_alternative}
 use Rattle.asn_constraints.specs.Finding.{BreaksEntry}
 
 -- one false part of two
@@ -69,12 +69,12 @@ pub broken_not_met : (c : Constraint) (d : Datum) (path : List ℕ) (r : Reason)
 broken_not_met _ _ _ _ (itself c d r e h) = h
 broken_not_met _ _ _ _ (without_parts c d h) = kind_fails c d h
 broken_not_met _ _ _ _ (first c e d path r h) = left_false (meets c d) (meets e d) (broken_not_met c d path r h)
-broken_not_met _ _ _ _ (second c e d path r h) = right_false (meets c d) (meets e d) (broken_not_met e d path r h)
-broken_not_met _ _ _ _ (missing cs es i p h) = entry_fails cs (component_list es) i None h (rw p refl)
-broken_not_met _ _ _ _ (not_absent cs es i d p h) = entry_fails cs (component_list es) i (Some d) h (rw p refl)
-broken_not_met _ _ _ _ (in_component cs es i d path r h k) =
+broken_not_met _ _ _ _ (second c e d path r met h) = right_false (meets c d) (meets e d) (broken_not_met e d path r h)
+broken_not_met _ _ _ _ (missing cs es i before p h) = entry_fails cs (component_list es) i None h (rw p refl)
+broken_not_met _ _ _ _ (not_absent cs es i d before p h) = entry_fails cs (component_list es) i (Some d) h (rw p refl)
+broken_not_met _ _ _ _ (in_component cs es i d path r before h k) =
     entry_fails cs (component_list es) i (Some d) h (right_false (may_be_present (presence_at cs i)) (meets (component_at cs i) d) (broken_not_met (component_at cs i) d path r k))
-broken_not_met _ _ _ _ (in_element c es i d path r h k) = element_fails c (element_list es) i d h (broken_not_met c d path r k)
+broken_not_met _ _ _ _ (in_element c es i d path r before h k) = element_fails c (element_list es) i d h (broken_not_met c d path r k)
 broken_not_met _ _ _ _ (not_allowed cs i d h) = alternative_judged cs i d ∙ rw h refl
 broken_not_met _ _ _ _ (in_alternative cs i d path r k) = alternative_judged cs i d ∙ broken_not_met (alternative_at cs i) d path r k
 
@@ -82,7 +82,7 @@ broken_not_met _ _ _ _ (in_alternative cs i d path r k) = alternative_judged cs 
 pub in_entry :
     (cs : OnComponents) (es : Components) (i : ℕ) (o : OnOne) (e : Option Datum) (path : List ℕ) (r : Reason) →
     presence_at cs i ≡ o.presence → component_at cs i ≡ o.constraint → slice_get (component_list es) i ≡ Some e →
-    BreaksEntry o e path r → BreaksAt (on_components cs) (components es) (i ∷ path) r
-in_entry cs es i o None path r ep ec ee h = rw (h.1, h.2) (missing cs es i (ep ∙ h.0) ee)
-in_entry cs es i o (Some d) path r ep ec ee (inl h) = rw (h.1, h.2) (not_absent cs es i d (ep ∙ h.0) ee)
-in_entry cs es i o (Some d) path r ep ec ee (inr h) = in_component cs es i d path r ee (rw ec h)
+    right_before i cs (component_list es) ≡ true → BreaksEntry o e path r → BreaksAt (on_components cs) (components es) (i ∷ path) r
+in_entry cs es i o None path r ep ec ee before h = rw (h.1, h.2) (missing cs es i before (ep ∙ h.0) ee)
+in_entry cs es i o (Some d) path r ep ec ee before (inl h) = rw (h.1, h.2) (not_absent cs es i d before (ep ∙ h.0) ee)
+in_entry cs es i o (Some d) path r ep ec ee before (inr h) = in_component cs es i d path r before ee (rw ec h)

@@ -1,10 +1,10 @@
 -- Where the program finds a broken place, and that it is one.
 use Rattle.std.specs.Global.{Box}
-use Rattle.std.proofs.Common.{◌≡◌, ◌<◌, ◌≤◌, ℕ, zero, suc, Bool, true, false, List, [], ◌∷◌, map, length, get_or, drop, Option, Some, None, option_map, Result, IfOk, Vec, Global, reverse, refl, ap, ◌∙◌, sym, subst, rules, arith, nat_le}
+use Rattle.std.proofs.Common.{◌≡◌, ◌<◌, ◌≤◌, ℕ, zero, suc, Bool, true, false, List, [], ◌∷◌, map, length, get_or, take, ◌+◌, ◌&&◌, Option, Some, None, option_map, Result, IfOk, Vec, Global, reverse, refl, ap, ◌∙◌, sym, subst, rules, arith, nat_le}
 use Rattle.std.specs.declared.alloc.AllocError.{AllocError}
 use Rattle.std.specs.List.{list_all, slice_get}
 use Rattle.std.proofs.lemmas.Bool.{lt-leb}
-use Rattle.std.proofs.lemmas.List.{length-map, drop_all}
+use Rattle.std.proofs.lemmas.List.{length-map, take_all}
 use Rattle.std.proofs.lemmas.Option.{slice_get_read, slice_get-map}
 use Rattle.std.proofs.lemmas.Result.{IfOk-weaker}
 use Rattle.asn_values.specs.declared.value.Value.{Value}
@@ -18,8 +18,9 @@ use Rattle.asn_constraints.specs.declared.broken.Reason.TheVariants as reason
 use Rattle.asn_constraints.specs.declared.constraint.Component.{Component}
 use Rattle.asn_constraints.specs.declared.constraint.Constraint.{Constraint, Barred, Both, Components, the_lemmas}
 use Rattle.asn_constraints.specs.Constraints.{barred, both, on_components, on_elements, on_alternatives, meets, meet_each, meets_at}
-use Rattle.asn_constraints.specs.View.{constraint_of, on_one, on_components_of, on_alternatives_of, components_seen, alternatives_seen, sequence_seen, list_seen}
-use Rattle.asn_constraints.specs.Broken.{presence_at, component_at, alternative_at, count, has_parts, BreaksAt, without_parts, first, second, in_element, in_alternative}
+use Rattle.std.specs.Cmp.{first_so, second_so}
+use Rattle.asn_constraints.specs.View.{constraint_of, on_one, on_components_of, on_alternatives_of, components_seen, alternatives_seen, sequence_seen, list_seen, meets_one}
+use Rattle.asn_constraints.specs.Broken.{presence_at, component_at, alternative_at, count, right_before, has_parts, BreaksAt, without_parts, first, second, in_element, in_alternative}
 use Rattle.asn_constraints.specs.Finding.{Finds, FindsEntry}
 use Rattle.asn_constraints.proofs.Breaking.{alternative_judged, in_entry}
 use Rattle.asn_constraints.proofs.Views.{constraint_of-Components}
@@ -44,7 +45,7 @@ finds_first c a b e d found o ec ee ef h =
 -- what the second gives, where the first is met
 second_of : (a b : Constraint) (d : Datum) → meets (constraint_of a) d ≡ true → (found : Option Broken) → Finds (constraint_of b) d found → Finds (both (constraint_of a) (constraint_of b)) d found
 second_of a b d h None k = rw (h, k) refl
-second_of a b d h (Some o) k = second (constraint_of a) (constraint_of b) d (reverse o.path.items) o.reason k
+second_of a b d h (Some o) k = second (constraint_of a) (constraint_of b) d (reverse o.path.items) o.reason h k
 
 pub finds_second :
     (c : Constraint) (a b : Box Constraint) (e f : Constraint) (d : Datum) (found : Option Broken) (r : Result (Option Broken) AllocError) →
@@ -100,23 +101,66 @@ entry_seen vs i v h e =
 
 pub finds_entry :
     (cs : List Component) (vs : List (Option Value)) (i : ℕ) (c : Component) (v : Option Value) (found : Option Broken) (o p : Broken) →
-    i < length cs → i < length vs → c ≡ get_or cs i c → v ≡ get_or vs i v → found ≡ Some o → FindsEntry (on_one c) (option_map datum_of v) found →
+    i < length cs → i < length vs → right_before i (components_seen cs) (entries_seen vs) ≡ true →
+    c ≡ get_or cs i c → v ≡ get_or vs i v → found ≡ Some o → FindsEntry (on_one c) (option_map datum_of v) found →
     reverse p.path.items ≡ i ∷ reverse o.path.items → p.reason ≡ o.reason →
     BreaksAt (on_components (components_seen cs)) (sequence_seen vs) (reverse p.path.items) p.reason
-finds_entry cs vs i c v found o p hc hv ec ev ef h ep er =
+finds_entry cs vs i c v found o p hc hv before ec ev ef h ep er =
+    let entries : right_before i (components_seen cs) (component_list (components_of (entries_seen vs))) ≡ true =
+    ap (λ x. right_before i (components_seen cs) x) (component_list-components_of (entries_seen vs)) ∙ before in
     let there : FindsEntry (on_one c) (option_map datum_of v) (Some o) = subst (λ x. FindsEntry (on_one c) (option_map datum_of v) x) ef h in
     rw (ep, er)
     (in_entry (components_seen cs) (components_of (entries_seen vs)) i (on_one c) (option_map datum_of v) (reverse o.path.items) o.reason
-    (presence_seen cs i c hc ec) (component_seen cs i c hc ec) (entry_seen vs i v hv ev) there)
+    (presence_seen cs i c hc ec) (component_seen cs i c hc ec) (entry_seen vs i v hv ev) entries there)
 
--- none of them is broken
+and_both : (a b : Bool) → a ≡ true → b ≡ true → (a && b) ≡ true
+and_both a b h k = rw (h, k) refl
+
+-- one more entry is right
+right_on :
+    (i : ℕ) (cs : List Component) (vs : List (Option Value)) (c : Component) (v : Option Value) →
+    i < length cs → i < length vs → c ≡ get_or cs i c → v ≡ get_or vs i v →
+    right_before i (components_seen cs) (entries_seen vs) ≡ true → meets_one (on_one c) (option_map datum_of v) ≡ true →
+    right_before (suc i) (components_seen cs) (entries_seen vs) ≡ true
+right_on i [] vs c v hc hv ec ev before h = absurd (omega arith)
+right_on i (x ∷ cs) [] c v hc hv ec ev before h = absurd (omega arith)
+right_on zero (x ∷ cs) (y ∷ vs) c v hc hv ec ev before h =
+    and_both (meets_one (on_one x) (option_map datum_of y)) true
+    (ap (λ k. meets_one (on_one k) (option_map datum_of y)) (sym ec) ∙ (ap (λ k. meets_one (on_one c) (option_map datum_of k)) (sym ev) ∙ h)) refl
+right_on (suc i) (x ∷ cs) (y ∷ vs) c v hc hv ec ev before h =
+    let here = meets_one (on_one x) (option_map datum_of y) in
+    let others = right_before i (components_seen cs) (entries_seen vs) in
+    and_both here (right_before (suc i) (components_seen cs) (entries_seen vs)) (first_so here others before)
+    (right_on i cs vs c v (omega arith) (omega arith) ec ev (second_so here others before) h)
+
+pub right_next :
+    (i : ℕ) (cs : List Component) (vs : List (Option Value)) (c : Component) (v : Option Value) (found : Option Broken) →
+    i < length cs → i < length vs → c ≡ get_or cs i c → v ≡ get_or vs i v →
+    right_before i (components_seen cs) (entries_seen vs) ≡ true → found ≡ None → FindsEntry (on_one c) (option_map datum_of v) found →
+    right_before (i + 1) (components_seen cs) (entries_seen vs) ≡ true
+right_next i cs vs c v found hc hv ec ev before en h =
+    let right : meets_one (on_one c) (option_map datum_of v) ≡ true = subst (λ x. FindsEntry (on_one c) (option_map datum_of v) x) en h in
+    let next : i + 1 ≡ suc i = omega arith in
+    rw next (right_on i cs vs c v hc hv ec ev before right)
+
+-- all are right
+all_right :
+    (n : ℕ) (cs : List Component) (vs : List (Option Value)) → length cs ≤ n → length cs ≤ length vs →
+    right_before n (components_seen cs) (entries_seen vs) ≡ true → meet_each (components_seen cs) (entries_seen vs) ≡ true
+all_right n [] vs h k before = refl
+all_right n (c ∷ cs) [] h k before = absurd (omega arith)
+all_right zero (c ∷ cs) (v ∷ vs) h k before = absurd (omega arith)
+all_right (suc n) (c ∷ cs) (v ∷ vs) h k before =
+    let here = meets_one (on_one c) (option_map datum_of v) in
+    let others = right_before n (components_seen cs) (entries_seen vs) in
+    and_both here (meet_each (components_seen cs) (entries_seen vs)) (first_so here others before)
+    (all_right n cs vs (omega arith) (omega arith) (second_so here others before))
+
 pub all_entries :
-    (cs : List Component) (vs : List (Option Value)) (i : ℕ) → length cs ≤ i →
-    meet_each (components_seen (drop i cs)) (entries_seen (drop i vs)) ≡ meet_each (components_seen cs) (entries_seen vs) →
-    meet_each (components_seen cs) (component_list (components_of (entries_seen vs))) ≡ true
-all_entries cs vs i h e =
-    let none : meet_each (components_seen (drop i cs)) (entries_seen (drop i vs)) ≡ true = ap (λ x. meet_each (components_seen x) (entries_seen (drop i vs))) (drop_all i cs h) in
-    ap (λ x. meet_each (components_seen cs) x) (component_list-components_of (entries_seen vs)) ∙ (sym e ∙ none)
+    (n : ℕ) (cs : List Component) (vs : List (Option Value)) → length cs ≤ n → length cs ≤ length vs →
+    right_before n (components_seen cs) (entries_seen vs) ≡ true → meet_each (components_seen cs) (component_list (components_of (entries_seen vs))) ≡ true
+all_entries n cs vs h k before =
+    ap (λ x. meet_each (components_seen cs) x) (component_list-components_of (entries_seen vs)) ∙ all_right n cs vs h k before
 
 -- ---- elements
 
@@ -127,21 +171,42 @@ element_seen vs i v h e =
 
 pub finds_element :
     (c : Constraint) (vs : List Value) (i : ℕ) (v : Value) (found : Option Broken) (o p : Broken) →
-    i < length vs → v ≡ get_or vs i v → found ≡ Some o → Finds (constraint_of c) (datum_of v) found →
+    i < length vs → list_all (λ x. meets (constraint_of c) x) (take i (map datum_of vs)) ≡ true →
+    v ≡ get_or vs i v → found ≡ Some o → Finds (constraint_of c) (datum_of v) found →
     reverse p.path.items ≡ i ∷ reverse o.path.items → p.reason ≡ o.reason →
     BreaksAt (on_elements (constraint_of c)) (list_seen vs) (reverse p.path.items) p.reason
-finds_element c vs i v found o p h e ef k ep er =
+finds_element c vs i v found o p h before e ef k ep er =
+    let elements : list_all (λ x. meets (constraint_of c) x) (take i (element_list (elements_of (map datum_of vs)))) ≡ true =
+    ap (λ ds. list_all (λ x. meets (constraint_of c) x) (take i ds)) (element_list-elements_of (map datum_of vs)) ∙ before in
     let there : BreaksAt (constraint_of c) (datum_of v) (reverse o.path.items) o.reason = subst (λ x. Finds (constraint_of c) (datum_of v) x) ef k in
     rw (ep, er)
-    (in_element (constraint_of c) (elements_of (map datum_of vs)) i (datum_of v) (reverse o.path.items) o.reason (element_seen vs i v h e) there)
+    (in_element (constraint_of c) (elements_of (map datum_of vs)) i (datum_of v) (reverse o.path.items) o.reason elements (element_seen vs i v h e) there)
+
+-- one more element meets the constraint
+meet_on : (f : Datum → Bool) (ds : List Datum) (i : ℕ) (d : Datum) → slice_get ds i ≡ Some d → list_all f (take i ds) ≡ true → f d ≡ true → list_all f (take (suc i) ds) ≡ true
+meet_on f [] i d h before k = refl
+meet_on f (x ∷ ds) zero d h before k =
+    let same : x ≡ d = cc in
+    and_both (f x) true (rw same k) refl
+meet_on f (x ∷ ds) (suc i) d h before k =
+    and_both (f x) (list_all f (take (suc i) ds)) (first_so (f x) (list_all f (take i ds)) before) (meet_on f ds i d h (second_so (f x) (list_all f (take i ds)) before) k)
+
+pub meet_next :
+    (c : Constraint) (vs : List Value) (i : ℕ) (v : Value) (found : Option Broken) → i < length vs → v ≡ get_or vs i v →
+    list_all (λ x. meets (constraint_of c) x) (take i (map datum_of vs)) ≡ true → found ≡ None → Finds (constraint_of c) (datum_of v) found →
+    list_all (λ x. meets (constraint_of c) x) (take (i + 1) (map datum_of vs)) ≡ true
+meet_next c vs i v found h e before en k =
+    let met : meets (constraint_of c) (datum_of v) ≡ true = subst (λ x. Finds (constraint_of c) (datum_of v) x) en k in
+    let there : slice_get (map datum_of vs) i ≡ Some (datum_of v) = slice_get-map datum_of vs i ∙ ap (option_map datum_of) (slice_get_read vs (length vs) i v refl h e) in
+    let next : i + 1 ≡ suc i = omega arith in
+    rw next (meet_on (λ x. meets (constraint_of c) x) (map datum_of vs) i (datum_of v) there before met)
 
 pub all_elements :
-    (c : Constraint) (vs : List Value) (i : ℕ) → length vs ≤ i →
-    list_all (λ d. meets (constraint_of c) d) (map datum_of (drop i vs)) ≡ list_all (λ d. meets (constraint_of c) d) (map datum_of vs) →
+    (c : Constraint) (vs : List Value) (i : ℕ) → length vs ≤ i → list_all (λ x. meets (constraint_of c) x) (take i (map datum_of vs)) ≡ true →
     list_all (λ d. meets (constraint_of c) d) (element_list (elements_of (map datum_of vs))) ≡ true
-all_elements c vs i h e =
-    let none : list_all (λ d. meets (constraint_of c) d) (map datum_of (drop i vs)) ≡ true = ap (λ x. list_all (λ d. meets (constraint_of c) d) (map datum_of x)) (drop_all i vs h) in
-    ap (λ x. list_all (λ d. meets (constraint_of c) d) x) (element_list-elements_of (map datum_of vs)) ∙ (sym e ∙ none)
+all_elements c vs i h before =
+    let whole : take i (map datum_of vs) ≡ map datum_of vs = take_all i (map datum_of vs) (rw (length-map vs datum_of) h) in
+    ap (λ x. list_all (λ d. meets (constraint_of c) d) x) (element_list-elements_of (map datum_of vs)) ∙ (ap (λ x. list_all (λ d. meets (constraint_of c) d) x) (sym whole) ∙ before)
 
 -- ---- alternatives
 

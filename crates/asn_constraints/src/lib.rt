@@ -1,4 +1,4 @@
-//! Constraints beside a type: which of its values a published type has, where no encoding shows the difference.
+//! Constraints on the values of a type that no encoding shows.
 #![tactic(auto)]
 
 mod broken;
@@ -16,3 +16,4 @@ pub use constraint::{Component, Constraint, Interval, Lengths, Presence, TimeKin
 pub use judging::judge;
 pub use paths::path_text;
 pub use spelling::judge_spelling;
+pub use strings::is_length;

@@ -73,6 +73,17 @@ impl Flattened {
         Ok(Constraint::Free)
     }
 
+    /// The same of the type at an index of the report.
+    ///
+    /// # Errors
+    /// `AllocError` where an allocation failed.
+    pub fn constraint_at(&self, alloc: Global, index: usize) -> Result<Constraint, AllocError> {
+        match self.places.get(index) {
+            Some(place) => constraint_at(alloc, self.marked.as_slice(), *place),
+            None => Ok(Constraint::Free),
+        }
+    }
+
     /// The marks of the type of a name; `None` where nothing of its values is to be said, or there is no such type.
     pub fn into_marks(self, name: &str) -> Option<Marks> {
         let Flattened {

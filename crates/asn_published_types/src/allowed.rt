@@ -2,11 +2,26 @@
 //! rest.
 use crate::intervals::{EVERY, covers, joined, met, outside};
 use crate::joining::{both, either};
-use asn_constraints::{Component, Constraint, Interval, Lengths};
+use asn_constraints::{Constraint, Interval, Lengths};
+use asn_values::profile::{HIGHEST_INTEGER, LOWEST_INTEGER};
 use std::alloc::{AllocError, Global};
 
 /// How deep what is not a set may be.
 const MOST_DEPTH: u32 = 200;
+
+/// The integers of the profile, and the codes of the characters of its strings that have codes of one octet.
+const INTEGERS: Interval = Interval {
+    low: LOWEST_INTEGER,
+    high: HIGHEST_INTEGER,
+};
+
+const CODES: Interval = Interval { low: 0, high: 127 };
+
+/// The lengths of strings and lists.
+pub const LENGTHS: Interval = Interval {
+    low: 0,
+    high: u32::MAX as i128,
+};
 
 /// How many positions of items are looked at: more than an ENUMERATED has.
 const MOST_POSITIONS: u32 = 512;
@@ -43,8 +58,8 @@ impl Shown {
     /// Nothing.
     pub fn nothing() -> Shown {
         Shown {
-            numbers: EVERY,
-            lengths: EVERY,
+            numbers: INTEGERS,
+            lengths: LENGTHS,
             items: EVERY,
         }
     }
@@ -198,7 +213,8 @@ impl Allowed {
         let mut total = Constraint::Free;
         if let Some(set) = self.numbers {
             if !covers(set.as_slice(), shown.numbers) {
-                total = both(alloc, total, Constraint::Numbers(set))?;
+                let numbers = met(alloc, set.as_slice(), &[INTEGERS])?;
+                total = both(alloc, total, Constraint::Numbers(numbers))?;
             }
         }
         if let Some(set) = self.lengths {
@@ -208,8 +224,9 @@ impl Allowed {
             }
         }
         if let Some(set) = self.letters {
-            if !covers(set.as_slice(), EVERY) {
-                total = both(alloc, total, Constraint::Characters(set))?;
+            if !covers(set.as_slice(), CODES) {
+                let letters = met(alloc, set.as_slice(), &[CODES])?;
+                total = both(alloc, total, Constraint::Characters(letters))?;
             }
         }
         if let Some(set) = self.items {

@@ -275,16 +275,12 @@ impl<'a, 't> Subtypes<'a, 't> {
 
     /// What the numbers or characters at `at` are inside SIZE or FROM, and the index after them.
     fn numbers_at(&self, alloc: Global, around: Around, at: usize) -> Result<Element, AllocError> {
-        let scope = Scope {
-            least: Some(0),
-            ..around.scope(None)
-        };
         let mode = if around.of == Of::Letters {
             Mode::Letters
         } else {
             Mode::Numbers
         };
-        self.range_at(alloc, scope, mode, at)
+        self.range_at(alloc, around.scope(None), mode, at)
     }
 
     /// What the range or the single number or character at `at` allows, and the index after it.

@@ -1,5 +1,6 @@
 //! Reads constraints on the parts of a type (X.680, "inner subtyping").
 use crate::allowed::Allowed;
+use crate::intervals::EVERY;
 use crate::parts::{Parts, Said};
 use crate::subtypes::{Around, Of, Subtypes, Work};
 use asn_published_text::nodes::Shape;
@@ -61,13 +62,18 @@ impl<'a, 't> Subtypes<'a, 't> {
         if levels == 0 || !work.take() {
             return Ok(Allowed::missing());
         }
-        let whole = self.whole_of(alloc, index, levels - 1, work)?;
-        let inside = Around {
+        let mut inside = Around {
             base,
             of: Of::Values,
+            numbers: EVERY,
+            lengths: EVERY,
             ..around
         };
-        let allowed = self.group_of(alloc, inside.after(&whole), at, levels - 1, work)?;
+        if self.is_simple(base) {
+            let whole = self.whole_of(alloc, index, levels - 1, work)?;
+            inside = inside.after(&whole);
+        }
+        let allowed = self.group_of(alloc, inside, at, levels - 1, work)?;
         if allowed.is_marked {
             return Ok(Allowed::all());
         }

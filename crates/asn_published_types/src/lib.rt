@@ -34,5 +34,5 @@ pub mod steps;
 pub mod subtypes;
 pub mod tags;
 pub mod tree;
-mod value_notation;
+pub mod value_notation;
 mod value_parts;

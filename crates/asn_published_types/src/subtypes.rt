@@ -73,7 +73,8 @@ pub(crate) struct Around {
     /// The node of the type, which is no name of another.
     pub base: usize,
     pub of: Of,
-    /// Between which lengths the constraints before it leave strings.
+    /// Between which numbers and lengths the constraints before it leave values.
+    pub numbers: Interval,
     pub lengths: Interval,
 }
 
@@ -85,6 +86,7 @@ impl Around {
             instance: node.instance,
             base,
             of: Of::Values,
+            numbers: EVERY,
             lengths: EVERY,
         }
     }
@@ -92,19 +94,36 @@ impl Around {
     /// The same place, after constraints that allow these values.
     pub(crate) fn after(self, allowed: &Allowed) -> Around {
         Around {
+            numbers: hull_within(self.numbers, &allowed.numbers),
             lengths: hull_within(self.lengths, &allowed.lengths),
             ..self
         }
     }
 
-    /// Where numbers are.
+    /// Where numbers are: MIN and MAX mean those that the constraints before leave.
     pub(crate) fn scope(self, named: Option<(usize, usize)>) -> Scope {
+        let hull = match self.of {
+            Of::Values => self.numbers,
+            Of::Sizes => Interval {
+                low: self.lengths.low.max(0),
+                high: self.lengths.high,
+            },
+            Of::Letters => EVERY,
+        };
         Scope {
             module: self.module,
             named,
             instance: self.instance,
-            least: None,
-            most: None,
+            least: if hull.low == EVERY.low {
+                None
+            } else {
+                Some(hull.low)
+            },
+            most: if hull.high == EVERY.high {
+                None
+            } else {
+                Some(hull.high)
+            },
         }
     }
 }
@@ -219,6 +238,14 @@ impl<'a, 't> Subtypes<'a, 't> {
         }
     }
 
+    /// Whether a node has numbers or lengths.
+    pub(crate) fn is_simple(&self, base: usize) -> bool {
+        match self.tagging.forest.node(base) {
+            Some(node) => !matches!(node.shape, Shape::Members { .. }),
+            None => false,
+        }
+    }
+
     /// Which values the constraints of a node allow and those of the types that it names, without what a marker adds.
     #[cycle(allowed)]
     pub(crate) fn whole_of(
@@ -272,9 +299,11 @@ impl<'a, 't> Subtypes<'a, 't> {
             return Ok(Allowed::missing());
         }
         let mut around = Around::of(&node, base);
-        if let Some(name) = self.named_by(index) {
-            let parent = self.whole_of(alloc, name, levels - 1, work)?;
-            around = around.after(&parent);
+        if self.is_simple(base) {
+            if let Some(name) = self.named_by(index) {
+                let parent = self.whole_of(alloc, name, levels - 1, work)?;
+                around = around.after(&parent);
+            }
         }
         let mut total = Allowed::all();
         let mut is_marked = false;

@@ -1,5 +1,5 @@
 //! The constraint of a whole type, of those of its nodes.
-use crate::joining::{both, copy_of};
+use crate::joining::both;
 use crate::limits::MOST_LEVELS;
 use crate::steps::{Holds, Marked, Step};
 use asn_constraints::{Component, Constraint, Presence};
@@ -52,7 +52,7 @@ fn tree_at(
         let Some(step) = at.step(types) else {
             return Ok(total);
         };
-        let own = copy_of(alloc, &step.constraint)?;
+        let own = step.constraint.copy(alloc)?;
         total = both(alloc, total, own)?;
         let inside = at.step.saturating_add(1);
         if step.end > inside {
@@ -88,7 +88,7 @@ fn constraint_of_names(
         let Some(step) = (Place { index, step: 0 }).step(types) else {
             break;
         };
-        let own = copy_of(alloc, &step.constraint)?;
+        let own = step.constraint.copy(alloc)?;
         total = both(alloc, total, own)?;
         to = step.to;
     }

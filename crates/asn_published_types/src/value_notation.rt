@@ -3,6 +3,7 @@ use crate::items::items_of;
 use crate::numbers::Scope;
 use crate::quoted::{bits_of, characters_of, octets_of};
 use crate::subtypes::{Around, Of, Subtypes, Work};
+use asn_constraints::{Constraint, TimeKind, judge};
 use asn_published_text::extents::after_tags;
 use asn_published_text::modules::What;
 use asn_published_text::nodes::{Node, Shape};
@@ -99,6 +100,7 @@ impl<'a, 't> Subtypes<'a, 't> {
         if levels == 0 || !work.take() || around.of != Of::Values {
             return Ok(None);
         }
+        let there = self.values.world.tokens_of(node.module);
         let found = match node.shape {
             Shape::Boolean => truth_at(tokens, at),
             Shape::Null if tokens.is_word(at, "NULL") => Some((Value::Null, next(at))),
@@ -107,6 +109,7 @@ impl<'a, 't> Subtypes<'a, 't> {
             Shape::Bits { .. } => self.bits_at(alloc, around, &node, at)?,
             Shape::Octets => octets_of(alloc, tokens, at)?,
             Shape::Text(_) => characters_of(alloc, tokens, at, false)?,
+            Shape::Time => canonical_time(characters_of(alloc, tokens, at, false)?, &node, there),
             Shape::Utf8 => characters_of(alloc, tokens, at, true)?,
             Shape::List { .. } => self.list_value(alloc, around, at, levels - 1, work)?,
             Shape::Members { .. } => self.members_value(alloc, around, at, levels - 1, work)?,
@@ -308,6 +311,24 @@ fn scope_of_items(node: &Node<'_>) -> Scope {
         instance: node.instance,
         least: None,
         most: None,
+    }
+}
+
+/// The kind of a time type.
+pub fn kind_of_time(tokens: Option<&Tokens<'_>>, node: &Node<'_>) -> TimeKind {
+    match tokens {
+        Some(tokens) if tokens.is_word(after_tags(tokens, node.at), "UTCTime") => TimeKind::Utc,
+        _ => TimeKind::Generalized,
+    }
+}
+
+/// The value of a time type, where it is the canonical one of its time.
+fn canonical_time(read: Read, node: &Node<'_>, tokens: Option<&Tokens<'_>>) -> Read {
+    let (value, behind) = read?;
+    if judge(&Constraint::Time(kind_of_time(tokens, node)), &value) {
+        Some((value, behind))
+    } else {
+        None
     }
 }
 

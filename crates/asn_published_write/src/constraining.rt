@@ -5,7 +5,7 @@ use crate::writer::Writer;
 use asn_constraints::{Constraint, Interval};
 use asn_published_text::nodes::Letters;
 use asn_published_text::refusal::Refusal;
-use asn_published_types::allowed::{Allowed, Shown};
+use asn_published_types::allowed::{Allowed, LENGTHS, Shown};
 use asn_published_types::bounds::{Numbers, lengths_between, numbers_between};
 use asn_published_types::intervals::{covers, met};
 use asn_published_types::report::Remark;
@@ -19,12 +19,6 @@ pub(crate) struct Left {
     pub seen: Seen,
     pub allowed: Allowed,
 }
-
-/// The lengths of every string and list.
-const EVERY_LENGTH: Interval = Interval {
-    low: 0,
-    high: u32::MAX as i128,
-};
 
 /// The numbers that a type has by what encodings show of it.
 pub(crate) fn numbers_shown(seen: &Seen, line: u32) -> Result<Interval, Refusal> {
@@ -47,26 +41,27 @@ pub(crate) fn lengths_shown(seen: &Seen, line: u32) -> Result<Interval, Refusal>
     Ok(match between {
         Some(lengths) if !seen.marked => Interval {
             low: lengths.low,
-            high: lengths.high.unwrap_or(EVERY_LENGTH.high),
+            high: lengths.high.unwrap_or(LENGTHS.high),
         },
-        _ => EVERY_LENGTH,
+        _ => LENGTHS,
     })
 }
 
 /// Leaves out the characters that a kind of string has anyway, and puts in those of PrintableString, which is written as
-/// VisibleString.
+/// VisibleString, unless they come with the type that is named.
 pub(crate) fn with_letters(
     alloc: Global,
     allowed: Allowed,
     kind: Letters,
+    is_name: bool,
 ) -> Result<Allowed, AllocError> {
     let own = letters_of(alloc, kind)?;
     let letters = match allowed.letters {
-        None if kind == Letters::Printable => Some(own),
+        None if kind == Letters::Printable && !is_name => Some(own),
         None => None,
         Some(set) => {
             let are_all = own.iter().all(|interval| covers(set.as_slice(), *interval));
-            if are_all && kind != Letters::Printable {
+            if are_all && (kind != Letters::Printable || is_name) {
                 None
             } else {
                 Some(met(alloc, set.as_slice(), own.as_slice())?)

@@ -164,7 +164,7 @@ impl<'t> Writer<'t> {
         let no_bits = self.put_size(alloc, known, index, &left, line)?;
         let Left { seen, allowed } = left;
         let allowed = match base {
-            Base::Text(kind) => with_letters(alloc, allowed, kind)?,
+            Base::Text(kind) => with_letters(alloc, allowed, kind, is_name(known, index))?,
             _ => allowed,
         };
         let shown = Shown {
@@ -186,12 +186,12 @@ impl<'t> Writer<'t> {
         left: Left,
         line: u32,
     ) -> Result<Left, Refusal> {
-        let Left { seen, allowed } = left;
+        let Left { seen, allowed: _ } = left;
+        // (another size has other last zeros)
         self.trail.take_whole();
-        let names = known
+        let mut allowed = known
             .subtypes()
             .allowed_with_names(alloc, index, &mut self.counts.work)?;
-        let mut allowed = allowed.and(alloc, names)?;
         if is_fixed(&seen, line)? {
             return Ok(Left { seen, allowed });
         }
@@ -293,6 +293,14 @@ impl<'t> Writer<'t> {
             self.remark(alloc, known, index, Remark::Characters)?;
         }
         Ok(())
+    }
+}
+
+/// Whether a node is the name of a type, whose characters it has.
+fn is_name(known: &Known<'_, '_>, index: usize) -> bool {
+    match known.forest.node(index) {
+        Some(node) => matches!(node.shape, Shape::Reference { .. }),
+        None => false,
     }
 }
 

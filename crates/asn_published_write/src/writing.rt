@@ -1,14 +1,14 @@
 //! Writes one node: a simple type, the items of an ENUMERATED, or the beginning of a type that holds others.
 use crate::known::Known;
 use crate::writer::Writer;
-use asn_constraints::{Constraint, TimeKind};
-use asn_published_text::extents::after_tags;
+use asn_constraints::Constraint;
 use asn_published_text::nodes::{Node, Shape};
 use asn_published_text::refusal::{Refusal, Why, refused};
 use asn_published_types::info::{Base, Info};
 use asn_published_types::items::{Item, Items, items_of};
 use asn_published_types::pieces::push_pieces;
 use asn_published_types::report::Remark;
+use asn_published_types::value_notation::kind_of_time;
 use std::alloc::Global;
 use std::fmt::Write;
 
@@ -95,12 +95,7 @@ impl<'t> Writer<'t> {
         index: usize,
         node: &Node<'t>,
     ) -> Result<(), Refusal> {
-        let kind = match known.values.world.tokens_of(node.module) {
-            Some(tokens) if tokens.is_word(after_tags(tokens, node.at), "UTCTime") => {
-                TimeKind::Utc
-            }
-            _ => TimeKind::Generalized,
-        };
+        let kind = kind_of_time(known.values.world.tokens_of(node.module), node);
         self.trail.constrain(alloc, index, Constraint::Time(kind))?;
         self.write_plain(alloc, known, index, "VisibleString", Base::Other)
     }

@@ -2,7 +2,7 @@ use Rattle.std.proofs.Common.{◌≡◌, ◌<◌, ◌∷◌, ◌∙◌, ap, arit
 use Rattle.asn_values.specs.View.{datum_of}
 use Rattle.asn_constraints.specs.View.{alternatives_seen}
 use Rattle.asn_constraints.specs.Broken.{not_allowed}
-use Rattle.asn_constraints.proofs.Places.{finds_first, finds_second, finds_sequence, too_few_parts, finds_entry, finds_element, finds_alternative, alternative_is_met, all_entries, all_elements}
+use Rattle.asn_constraints.proofs.Places.{finds_first, finds_second, finds_sequence, too_few_parts, finds_entry, finds_element, finds_alternative, alternative_is_met, all_entries, all_elements, right_next, meet_next}
 use Rattle.asn_constraints.proofs.broken.+broken.Goals as goal
 
 pub first_broken-returns-in-Some : goal.first_broken-returns-in-Some
@@ -28,17 +28,27 @@ broken_component-returns-then-entries-components t c =
 pub broken_component-returns-in-Some : goal.broken_component-returns-in-Some
 broken_component-returns-in-Some t c =
     finds_entry c.args.components.now c.args.entries.now c.loop-index.index c.index-components-index.result c.index-entries-index.result c.in_ok-broken.field-0 c.in-Some.broken c.in_ok-at.field-0
-    (omega arith) (omega arith) c.index-components-index.is c.index-entries-index.is c.in-Some.is c.in_ok-broken.ensures
+    (omega arith) (omega arith) c.loop-index.invariant c.index-components-index.is c.index-entries-index.is c.in-Some.is c.in_ok-broken.ensures
     c.in_ok-at.ensures.path c.in_ok-at.ensures.reason
 
+pub broken_component-loop-index-preserved : goal.broken_component-loop-index-preserved
+broken_component-loop-index-preserved t c =
+    right_next c.loop-index.index c.args.components.now c.args.entries.now c.index-components-index.result c.index-entries-index.result c.in_ok-broken.field-0
+    (omega arith) (omega arith) c.index-components-index.is c.index-entries-index.is c.loop-index.invariant c.in_default.is c.in_ok-broken.ensures
+
 pub broken_component-returns : goal.broken_component-returns
-broken_component-returns t c = all_entries c.args.components.now c.args.entries.now c.loop-index.index c.loop-index-test.false c.loop-index.invariant
+broken_component-returns t c = all_entries c.loop-index.index c.args.components.now c.args.entries.now c.loop-index-test.false c.if-entries-components.false c.loop-index.invariant
 
 pub broken_element-returns-in-Some : goal.broken_element-returns-in-Some
 broken_element-returns-in-Some t c =
     finds_element c.args.constraint.now c.args.elements.now c.loop-index.index c.index-elements-index.result c.in_ok-broken.field-0 c.in-Some.broken c.in_ok-at.field-0
-    (omega arith) c.index-elements-index.is c.in-Some.is c.in_ok-broken.ensures
+    (omega arith) c.loop-index.invariant c.index-elements-index.is c.in-Some.is c.in_ok-broken.ensures
     c.in_ok-at.ensures.path c.in_ok-at.ensures.reason
+
+pub broken_element-loop-index-preserved : goal.broken_element-loop-index-preserved
+broken_element-loop-index-preserved t c =
+    meet_next c.args.constraint.now c.args.elements.now c.loop-index.index c.index-elements-index.result c.in_ok-broken.field-0
+    (omega arith) c.index-elements-index.is c.loop-index.invariant c.in_default.is c.in_ok-broken.ensures
 
 pub broken_element-returns : goal.broken_element-returns
 broken_element-returns t c = all_elements c.args.constraint.now c.args.elements.now c.loop-index.index c.loop-index-test.false c.loop-index.invariant

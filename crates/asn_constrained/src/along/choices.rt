@@ -26,9 +26,7 @@ fn asked_of_chosen<'c>(constraint: &'c Constraint, place: usize) -> Option<Optio
         → meets (constraint_of constraint.now) (alternative place d) ≡ true) }
 {
     match constraint {
-        Constraint::Alternatives(alternatives) => {
-            asked_at(alternatives.as_slice(), place)
-        }
+        Constraint::Alternatives(alternatives) => { asked_at(alternatives.as_slice(), place) }
         Constraint::Both(first, second) => {
             let of_first = asked_of_chosen(first, place)?;
             let of_second = asked_of_chosen(second, place)?;

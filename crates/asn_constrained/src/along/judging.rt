@@ -113,7 +113,11 @@ impl<'c> Build for Along<'c> {
     }
 
     #[inline(always)]
-    fn entries(_alloc: Global, room: &mut Option<&'c Constraint>, _count: usize) -> Option<Entries<'c>> {
+    fn entries(
+        _alloc: Global,
+        room: &mut Option<&'c Constraint>,
+        _count: usize,
+    ) -> Option<Entries<'c>> {
         Entries::begin(room)
     }
 
@@ -123,7 +127,11 @@ impl<'c> Build for Along<'c> {
     }
 
     #[inline(always)]
-    fn present(room: &mut Option<&'c Constraint>, entries: &mut Entries<'c>, _part: ()) -> Option<()> {
+    fn present(
+        room: &mut Option<&'c Constraint>,
+        entries: &mut Entries<'c>,
+        _part: (),
+    ) -> Option<()> {
         entries.pass_present(room)
     }
 

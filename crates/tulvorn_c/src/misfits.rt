@@ -25,7 +25,8 @@ use crate::shown::Shown;
 use serde_json::Value as Json;
 use std::alloc::{AllocError, Global};
 use tulvorn::{
-    Checked, JsonFault, TextFault, Value, WrongPart, broken_part, from_json, json_in, judge_at, misfit,
+    Checked, JsonFault, TextFault, Value, WrongPart, broken_part, from_json, json_in, judge_at,
+    misfit,
 };
 
 /// Puts into `words` the first part of the value that does not fit the type or breaks its constraint, and why; no octets

@@ -203,8 +203,14 @@ fn end_object(object: Object) -> Fault
     ensures { Asked (held_session (Some object)) ⊤ (EndsSession (Some object) None) result }
 {
     match object {
-        Object::PerSession { ty: _ty, session } => end_by::<Per>(Box::into_inner(session), Unit::Bit),
-        Object::OerSession { ty: _ty, session } => end_by::<Oer>(Box::into_inner(session), Unit::Octet),
+        Object::PerSession { ty: _ty, session } => end_by::<Per>(
+            Box::into_inner(session),
+            Unit::Bit,
+        ),
+        Object::OerSession { ty: _ty, session } => end_by::<Oer>(
+            Box::into_inner(session),
+            Unit::Octet,
+        ),
         _other => Fault::plain(MISUSE),
     }
 }

@@ -4,4 +4,4 @@ mod elements;
 mod entries;
 mod judging;
 
-pub use judging::{Along, check_along};
+pub(crate) use judging::check_along;

@@ -14,8 +14,8 @@ use asn_rules::DecodeFault;
 use asn_values::Value;
 use std::alloc::Global;
 
-/// Whether the octets are the complete encoding of a value that meets the constraint. No value is built where the
-/// constraint is free, or where it is judged along the plan.
+/// Whether the octets are the complete encoding of a value that meets the constraint. No value is built where
+/// the constraint is free, or where the value meets it and it is judged part by part.
 ///
 /// # Errors
 /// As `decode_by_plan`.

@@ -10,9 +10,3 @@ abbrev pub SaysOfText : List ℕ → ConstrainedFault → Type 0
 SaysOfText text (constrained.Module e) = (e ≡ fault.Memory → ⊥) → (m : ModuleTypes) → Accepted text m → ⊥
 SaysOfText text (constrained.Line line e) = (m : ModuleTypes) × Accepted text m
 SaysOfText text constrained.Memory = ⊤
-
--- the fault is none of the module
-abbrev pub IsOfLines : ConstrainedFault → Type 0
-IsOfLines (constrained.Module e) = ⊥
-IsOfLines (constrained.Line line e) = ⊤
-IsOfLines constrained.Memory = ⊤

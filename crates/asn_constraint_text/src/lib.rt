@@ -4,6 +4,7 @@
 mod copying;
 mod cursor;
 mod fault;
+mod leaves;
 mod lines;
 mod module;
 mod reading;

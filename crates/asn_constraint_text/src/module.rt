@@ -2,7 +2,8 @@
 ghost use Rattle.std.specs.Prelude.{◌≡◌, IfOk, IfErr, is_some};
 ghost use Rattle.asn_module.specs.Accepted.{Accepted, type_in};
 ghost use Rattle.asn_module.specs.ModuleView.{types_view};
-ghost use Rattle.asn_constraint_text.specs.Refused.{IsOfLines, SaysOfText};
+ghost use Rattle.asn_module.specs.declared.fault.ModuleFault.{ModuleFault};
+ghost use Rattle.asn_constraint_text.specs.Refused.{SaysOfText};
 
 use crate::cursor::Cursor;
 use crate::fault::{ConstrainedFault, ConstraintTextFault, WholeFault};
@@ -16,6 +17,9 @@ use asn_notation::read_notation;
 use asn_values::profile::MAX_LEVELS;
 use std::alloc::Global;
 use std::collections::HashMap;
+
+/// What is expected where a line has no name, or one of another line.
+const NAME: &str = "a name of the module, once";
 
 /// A module, and the constraints of its names that its text has.
 #[derive(Debug, Drop)]
@@ -32,6 +36,7 @@ pub struct ConstrainedModule {
 /// # Errors
 /// `Module` with what `asn_module::read` reports. Else `Line` at the first line with `--:` that is none of a name and a
 /// constraint of its type, or has a name a second time. `Memory` where an allocation failed.
+#[tactic(auto, using(crate::proofs::Lines::of_lines))]
 pub fn read_constrained(alloc: Global, text: &str) -> Result<ConstrainedModule, ConstrainedFault>
     // What is read is the module that the text is.
     ensures accepted { IfOk result (λ m. Accepted text.now (types_view m.module)) }
@@ -55,7 +60,7 @@ impl ConstrainedModule {
         text: &str,
     ) -> Result<ConstrainedModule, ConstrainedFault>
         ensures same { IfOk result (λ m. m.module ≡ «module») }
-        ensures refused { IfErr result IsOfLines }
+        ensures refused { IfErr result (λ e. (f : ModuleFault) → e ≡ ConstrainedFault.Module f → ⊥) }
     {
         if !has_constraints(text) {
             return Ok(ConstrainedModule {
@@ -115,7 +120,7 @@ fn read_lines(
     names: &mut Vec<Named>,
     text: &str,
 ) -> Result<(), ConstrainedFault>
-    ensures { IfErr result IsOfLines }
+    ensures { IfErr result (λ e. (f : ModuleFault) → e ≡ ConstrainedFault.Module f → ⊥) }
 {
     for (index, line) in text.lines().enumerate() {
         match read_line(alloc, module, indices, names, line) {
@@ -144,15 +149,32 @@ fn read_line(
         return Ok(());
     };
     let Some(name) = name_at(&mut cursor) else {
-        return Err(cursor.fault("a name of the module"));
+        return Err(cursor.fault(NAME));
     };
-    match (indices.get(name), module.type_named(name)) {
-        (Some(index), Some(ty)) if *index < names.len() && names[*index].own.is_none() => {
-            let _ = cursor.take_word();
-            names[*index].own = Some(constraint_after(alloc, ty.get(), &mut cursor)?);
-            Ok(())
-        }
-        _ => Err(cursor.fault("a name of the module, once")),
+    let Some(index) = indices.get(name) else {
+        return Err(cursor.fault(NAME));
+    };
+    let Some(ty) = module.type_named(name) else {
+        return Err(cursor.fault(NAME));
+    };
+    if has_own(names, *index) {
+        return Err(cursor.fault(NAME));
+    }
+    let _ = cursor.take_word();
+    let own = constraint_after(alloc, ty.get(), &mut cursor)?;
+    keep(names, *index, own);
+    Ok(())
+}
+
+/// Whether there is a constraint for the name at an index.
+fn has_own(names: &[Named], index: usize) -> bool {
+    index < names.len() && names[index].own.is_some()
+}
+
+/// Keeps the constraint of the name at an index.
+fn keep(names: &mut Vec<Named>, index: usize, own: Constraint) {
+    if index < names.len() {
+        names[index].own = Some(own);
     }
 }
 

@@ -164,10 +164,10 @@ fn entries_at(
     cursor.expect(b'{', "`{`")?;
     let mut entries = Vec::new(alloc);
     let mut is_first = true;
-    for field in root {
+    'root: for field in root {
         entries.push(entry_at(alloc, field, &mut is_first, cursor)?)?;
     }
-    for field in additions(ext) {
+    'additions: for field in additions(ext) {
         entries.push(entry_at(alloc, field, &mut is_first, cursor)?)?;
     }
     cursor.expect(b'}', "`}`")?;
@@ -225,11 +225,12 @@ fn chosen_at(
 {
     let index = part_index(root, additions(ext), 0, cursor, ALTERNATIVE)?;
     cursor.expect(b':', "`:`")?;
-    match (u32::try_from(index), part_at(root, ext, index)) {
-        (Ok(tag), Some(alternative)) => {
-            let value = value_at(alloc, &alternative.ty, cursor)?;
-            Ok(Value::Choice(tag, Box::new(alloc, value)?))
-        }
-        _ => Err(cursor.fault(ALTERNATIVE)),
-    }
+    let Ok(tag) = u32::try_from(index) else {
+        return Err(cursor.fault(ALTERNATIVE));
+    };
+    let Some(alternative) = part_at(root, ext, index) else {
+        return Err(cursor.fault(ALTERNATIVE));
+    };
+    let value = value_at(alloc, &alternative.ty, cursor)?;
+    Ok(Value::Choice(tag, Box::new(alloc, value)?))
 }

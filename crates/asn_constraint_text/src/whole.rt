@@ -152,13 +152,17 @@ fn elements_of(alloc: Global, constraint: Constraint) -> Result<Constraint, Allo
 
 /// The constraint of the components up to the last one that has one.
 fn components_of(mut all: Vec<Component>) -> Constraint {
-    'free: while let Some(last) = all.last() {
-        if !is_free(&last.constraint) {
-            return Constraint::Components(all);
+    let mut count = 0;
+    for (index, component) in all.iter().enumerate() {
+        if !is_free(&component.constraint) {
+            count = index + 1;
         }
-        let _ = all.pop();
     }
-    Constraint::Free
+    if count == 0 {
+        return Constraint::Free;
+    }
+    all.truncate(count);
+    Constraint::Components(all)
 }
 
 /// The constraint of the alternatives, if one of them has one.

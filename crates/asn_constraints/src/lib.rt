@@ -16,3 +16,4 @@ pub use constraint::{Component, Constraint, Interval, Lengths, Presence, TimeKin
 pub use judging::judge;
 pub use paths::path_text;
 pub use spelling::judge_spelling;
+pub use strings::is_length;

@@ -44,7 +44,7 @@ pub(crate) fn is_one_of(positions: &[u32], position: u32) -> bool
 }
 
 /// Whether the length lies between one of the pairs of bounds.
-pub(crate) fn is_length(lengths: &[Lengths], length: usize) -> bool
+pub fn is_length(lengths: &[Lengths], length: usize) -> bool
     ensures { result ≡ is_length (map lengths_of lengths.now) length }
 {
     for bounds in lengths {

@@ -73,7 +73,7 @@ fn text_of(alloc: Global, flattened: &Flattened) -> Result<String, AllocError> {
     let mut names = Vec::new(alloc);
     let mut texts = Vec::new(alloc);
     for (index, one) in flattened.report.iter().enumerate() {
-        let constraint = flattened.own_constraint(alloc, index)?;
+        let constraint = flattened.constraint_at(alloc, index)?;
         if let Constraint::Free = &constraint {
             continue;
         }

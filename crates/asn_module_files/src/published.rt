@@ -1,6 +1,4 @@
 //! What the type of a job has in addition to the type of the profile.
-ghost use Rattle.std.specs.Prelude.{◌≡◌, IfOk};
-
 use asn_constraint_text::{
     ConstrainedFault, ConstrainedModule, ConstraintTextFault, MOST_PARTS, WholeFault,
 };
@@ -78,7 +76,7 @@ impl Published {
                 marks: None,
             }),
             Err(WholeFault::TooLarge) => Err(PublishedFault::TooLarge {
-                most: MOST_PARTS,
+                most: u32::try_from(MOST_PARTS).unwrap_or(u32::MAX),
                 name: String::from_str(alloc, name)?,
             }),
             Err(WholeFault::Memory) => Err(PublishedFault::Memory),

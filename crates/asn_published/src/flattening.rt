@@ -25,7 +25,7 @@ use asn_published_types::numbers::numbers_of;
 use asn_published_types::pieces::push_pieces;
 use asn_published_types::report::{Status, TypeReport};
 use asn_published_types::steps::Marked;
-use asn_published_types::tree::{constraint_at, own_constraint_at};
+use asn_published_types::tree::constraint_at;
 use asn_published_write::sources::Sources;
 use asn_published_write::written::{Written, whole_level, write_all};
 use std::alloc::{AllocError, Global};
@@ -63,27 +63,25 @@ impl Flattened {
     /// # Errors
     /// `AllocError` where an allocation failed.
     pub fn constraint_of(&self, alloc: Global, name: &str) -> Result<Constraint, AllocError> {
-        let mut places = self.places.iter();
-        for one in &self.report {
-            let place = places.next();
-            if let (Some(place), true) = (place, *one.name.as_str() == *name) {
-                return constraint_at(alloc, self.marked.as_slice(), *place);
-            }
+        let found = self
+            .report
+            .iter()
+            .position(|one| *one.name.as_str() == *name);
+        let Some(at) = found else {
+            return Ok(Constraint::Free);
+        };
+        match self.places.get(at) {
+            Some(place) => constraint_at(alloc, self.marked.as_slice(), *place),
+            None => Ok(Constraint::Free),
         }
-        Ok(Constraint::Free)
     }
 
-    /// The constraint that the text of the module needs for the type at an index of the report: that of `constraint_of`
-    /// without those of the types whose names are in its text. With levels it is all of it, since the lower levels of a type
-    /// are no types of the report.
+    /// The same of the type at an index of the report.
     ///
     /// # Errors
     /// `AllocError` where an allocation failed.
-    pub fn own_constraint(&self, alloc: Global, index: usize) -> Result<Constraint, AllocError> {
+    pub fn constraint_at(&self, alloc: Global, index: usize) -> Result<Constraint, AllocError> {
         match self.places.get(index) {
-            Some(place) if self.levels == 0 => {
-                own_constraint_at(alloc, self.marked.as_slice(), *place)
-            }
             Some(place) => constraint_at(alloc, self.marked.as_slice(), *place),
             None => Ok(Constraint::Free),
         }

@@ -2,11 +2,26 @@
 //! rest.
 use crate::intervals::{EVERY, covers, joined, met, outside};
 use crate::joining::{both, either};
-use asn_constraints::{Component, Constraint, Interval, Lengths};
+use asn_constraints::{Constraint, Interval, Lengths};
+use asn_values::profile::{HIGHEST_INTEGER, LOWEST_INTEGER};
 use std::alloc::{AllocError, Global};
 
 /// How deep what is not a set may be.
 const MOST_DEPTH: u32 = 200;
+
+/// The integers of the profile, and the codes of the characters of its strings that have codes of one octet.
+const INTEGERS: Interval = Interval {
+    low: LOWEST_INTEGER,
+    high: HIGHEST_INTEGER,
+};
+
+const CODES: Interval = Interval { low: 0, high: 127 };
+
+/// The lengths of strings and lists.
+pub const LENGTHS: Interval = Interval {
+    low: 0,
+    high: u32::MAX as i128,
+};
 
 /// How many positions of items are looked at: more than an ENUMERATED has.
 const MOST_POSITIONS: u32 = 512;
@@ -43,8 +58,8 @@ impl Shown {
     /// Nothing.
     pub fn nothing() -> Shown {
         Shown {
-            numbers: EVERY,
-            lengths: EVERY,
+            numbers: INTEGERS,
+            lengths: LENGTHS,
             items: EVERY,
         }
     }
@@ -195,31 +210,24 @@ impl Allowed {
 
     /// The constraint on values of which encodings show so much.
     pub fn into_constraint(self, alloc: Global, shown: Shown) -> Result<Constraint, AllocError> {
-        let mut total = Constraint::Free;
-        if let Some(set) = self.numbers {
-            if !covers(set.as_slice(), shown.numbers) {
-                total = both(alloc, total, Constraint::Numbers(set))?;
-            }
-        }
-        if let Some(set) = self.lengths {
-            if !covers(set.as_slice(), shown.lengths) {
-                let lengths = lengths_of(alloc, set.as_slice())?;
-                total = both(alloc, total, Constraint::Lengths(lengths))?;
-            }
-        }
-        if let Some(set) = self.letters {
-            if !covers(set.as_slice(), EVERY) {
-                total = both(alloc, total, Constraint::Characters(set))?;
-            }
-        }
-        if let Some(set) = self.items {
-            if covers(set.as_slice(), shown.items) {
-                return both(alloc, total, self.others);
-            }
-            let positions = positions_of(alloc, set.as_slice())?;
-            total = both(alloc, total, Constraint::Items(positions))?;
-        }
-        both(alloc, total, self.others)
+        let Allowed {
+            numbers,
+            lengths,
+            letters,
+            items,
+            others,
+            depth: _,
+            is_marked: _,
+            is_missing: _,
+        } = self;
+        let numbers = numbers_among(alloc, numbers, shown.numbers)?;
+        let lengths = lengths_among(alloc, lengths, shown.lengths)?;
+        let letters = letters_among(alloc, letters)?;
+        let items = items_among(alloc, items, shown.items)?;
+        let counted = both(alloc, numbers, lengths)?;
+        let named = both(alloc, letters, items)?;
+        let sets = both(alloc, counted, named)?;
+        both(alloc, sets, others)
     }
 
     /// What is allowed of a list whose elements are allowed so.
@@ -280,6 +288,62 @@ fn outside_set(
     match set {
         None => Ok(None),
         Some(set) => Ok(Some(outside(alloc, set.as_slice())?)),
+    }
+}
+
+/// That a number is in a set, unless it has each that encodings show.
+fn numbers_among(
+    alloc: Global,
+    set: Option<Vec<Interval>>,
+    shown: Interval,
+) -> Result<Constraint, AllocError> {
+    match set {
+        Some(set) if !covers(set.as_slice(), shown) => {
+            let numbers = met(alloc, set.as_slice(), &[INTEGERS])?;
+            Ok(Constraint::Numbers(numbers))
+        }
+        _ => Ok(Constraint::Free),
+    }
+}
+
+/// That a length is in a set, unless it has each that encodings show.
+fn lengths_among(
+    alloc: Global,
+    set: Option<Vec<Interval>>,
+    shown: Interval,
+) -> Result<Constraint, AllocError> {
+    match set {
+        Some(set) if !covers(set.as_slice(), shown) => {
+            let lengths = lengths_of(alloc, set.as_slice())?;
+            Ok(Constraint::Lengths(lengths))
+        }
+        _ => Ok(Constraint::Free),
+    }
+}
+
+/// That characters have codes in a set, unless it has each.
+fn letters_among(alloc: Global, set: Option<Vec<Interval>>) -> Result<Constraint, AllocError> {
+    match set {
+        Some(set) if !covers(set.as_slice(), CODES) => {
+            let letters = met(alloc, set.as_slice(), &[CODES])?;
+            Ok(Constraint::Characters(letters))
+        }
+        _ => Ok(Constraint::Free),
+    }
+}
+
+/// That an item has a position in a set, unless it has each that encodings show.
+fn items_among(
+    alloc: Global,
+    set: Option<Vec<Interval>>,
+    shown: Interval,
+) -> Result<Constraint, AllocError> {
+    match set {
+        Some(set) if !covers(set.as_slice(), shown) => {
+            let positions = positions_of(alloc, set.as_slice())?;
+            Ok(Constraint::Items(positions))
+        }
+        _ => Ok(Constraint::Free),
     }
 }
 

@@ -28,8 +28,6 @@ pub struct Step {
     pub constraint: Constraint,
     /// Whether the constraint has that of the type that it names.
     pub is_whole: bool,
-    /// Whether the name of that type is written.
-    pub is_named: bool,
     pub holds: Holds,
     /// The type that it names, by its index among those that are written.
     pub to: Option<usize>,
@@ -135,7 +133,6 @@ impl Trail {
             remarks: Vec::new(alloc),
             constraint: Constraint::Free,
             is_whole: false,
-            is_named: false,
             holds: Holds::Nothing,
             to: None,
             is_bottom: false,
@@ -168,13 +165,6 @@ impl Trail {
     pub fn hold(&mut self, holds: Holds) {
         if let Some(step) = self.steps.last_mut() {
             step.holds = holds;
-        }
-    }
-
-    /// Takes that the name of the type is written that the last node names.
-    pub fn take_name(&mut self) {
-        if let Some(step) = self.steps.last_mut() {
-            step.is_named = true;
         }
     }
 

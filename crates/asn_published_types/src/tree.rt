@@ -22,22 +22,6 @@ impl Place {
     }
 }
 
-/// Which of the types that nodes name have their constraints in that of the type.
-#[derive(Clone, Copy, PartialEq, Eq)]
-enum Named {
-    /// All of them.
-    All,
-    /// Those whose names are not written.
-    Unwritten,
-}
-
-impl Named {
-    /// Whether the constraint of the type that the node names is taken.
-    fn has(self, step: &Step) -> bool {
-        self == Named::All || !step.is_named
-    }
-}
-
 /// The constraint of the type at an index among those that are written; `Free` where it has none.
 pub fn constraint_at(
     alloc: Global,
@@ -46,23 +30,7 @@ pub fn constraint_at(
 ) -> Result<Constraint, AllocError> {
     // (two calls for each level that a type can have)
     let levels = MOST_LEVELS.saturating_mul(2).saturating_add(2);
-    tree_at(alloc, types, Place { index, step: 0 }, Named::All, levels)
-}
-
-/// The same without the constraints of the types whose names are written in its text.
-pub fn own_constraint_at(
-    alloc: Global,
-    types: &[Marked],
-    index: usize,
-) -> Result<Constraint, AllocError> {
-    let levels = MOST_LEVELS.saturating_mul(2).saturating_add(2);
-    tree_at(
-        alloc,
-        types,
-        Place { index, step: 0 },
-        Named::Unwritten,
-        levels,
-    )
+    tree_at(alloc, types, Place { index, step: 0 }, levels)
 }
 
 /// The constraint of a node with that of what it holds and of the types that it names, which are no deeper than `levels`
@@ -72,7 +40,6 @@ fn tree_at(
     alloc: Global,
     types: &[Marked],
     place: Place,
-    named: Named,
     levels: usize,
 ) -> Result<Constraint, AllocError> {
     if levels == 0 {
@@ -89,19 +56,17 @@ fn tree_at(
         total = both(alloc, total, own)?;
         let inside = at.step.saturating_add(1);
         if step.end > inside {
-            if named.has(step) {
-                let names = constraint_of_names(alloc, types, step.to)?;
-                total = both(alloc, total, names)?;
-            }
+            let names = constraint_of_names(alloc, types, step.to)?;
+            total = both(alloc, total, names)?;
             let first = Place {
                 index: at.index,
                 step: inside,
             };
-            let held = held_at(alloc, types, first, step.end, step.holds, named, levels - 1)?;
+            let held = held_at(alloc, types, first, step.end, step.holds, levels - 1)?;
             return both(alloc, total, held);
         }
         match step.to {
-            Some(index) if !step.is_whole && named.has(step) => at = Place { index, step: 0 },
+            Some(index) if !step.is_whole => at = Place { index, step: 0 },
             _ => return Ok(total),
         }
     }
@@ -138,7 +103,6 @@ fn held_at(
     first: Place,
     end: usize,
     holds: Holds,
-    named: Named,
     levels: usize,
 ) -> Result<Constraint, AllocError> {
     if levels == 0 {
@@ -159,7 +123,7 @@ fn held_at(
             index: first.index,
             step: at,
         };
-        let constraint = tree_at(alloc, types, place, named, levels - 1)?;
+        let constraint = tree_at(alloc, types, place, levels - 1)?;
         is_free &= matches!(&constraint, Constraint::Free);
         constraints.push(constraint)?;
         at = step.end;

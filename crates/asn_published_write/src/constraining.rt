@@ -5,7 +5,7 @@ use crate::writer::Writer;
 use asn_constraints::{Constraint, Interval};
 use asn_published_text::nodes::Letters;
 use asn_published_text::refusal::Refusal;
-use asn_published_types::allowed::{Allowed, Shown};
+use asn_published_types::allowed::{Allowed, LENGTHS, Shown};
 use asn_published_types::bounds::{Numbers, lengths_between, numbers_between};
 use asn_published_types::intervals::{covers, met};
 use asn_published_types::report::Remark;
@@ -19,12 +19,6 @@ pub(crate) struct Left {
     pub seen: Seen,
     pub allowed: Allowed,
 }
-
-/// The lengths of every string and list.
-const EVERY_LENGTH: Interval = Interval {
-    low: 0,
-    high: u32::MAX as i128,
-};
 
 /// The numbers that a type has by what encodings show of it.
 pub(crate) fn numbers_shown(seen: &Seen, line: u32) -> Result<Interval, Refusal> {
@@ -47,9 +41,9 @@ pub(crate) fn lengths_shown(seen: &Seen, line: u32) -> Result<Interval, Refusal>
     Ok(match between {
         Some(lengths) if !seen.marked => Interval {
             low: lengths.low,
-            high: lengths.high.unwrap_or(EVERY_LENGTH.high),
+            high: lengths.high.unwrap_or(LENGTHS.high),
         },
-        _ => EVERY_LENGTH,
+        _ => LENGTHS,
     })
 }
 
@@ -62,7 +56,17 @@ pub(crate) fn with_letters(
     is_name: bool,
 ) -> Result<Allowed, AllocError> {
     let own = letters_of(alloc, kind)?;
-    let letters = match allowed.letters {
+    let Allowed {
+        numbers,
+        lengths,
+        letters,
+        items,
+        others,
+        depth,
+        is_marked,
+        is_missing,
+    } = allowed;
+    let letters = match letters {
         None if kind == Letters::Printable && !is_name => Some(own),
         None => None,
         Some(set) => {
@@ -74,7 +78,16 @@ pub(crate) fn with_letters(
             }
         }
     };
-    Ok(Allowed { letters, ..allowed })
+    Ok(Allowed {
+        numbers,
+        lengths,
+        letters,
+        items,
+        others,
+        depth,
+        is_marked,
+        is_missing,
+    })
 }
 
 impl<'t> Writer<'t> {

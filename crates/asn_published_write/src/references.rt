@@ -214,7 +214,6 @@ impl<'t> Writer<'t> {
             Some(name) => name.as_str(),
             None => "",
         };
-        self.trail.take_name();
         push_pieces(&mut self.out, &[" ", name])?;
         let level = known.level_of(to);
         if level == whole_level(known.options) {

@@ -1,8 +1,9 @@
 //! The answer to one message, in the form and the layout that is asked for. Standard error says why it is refused.
 use crate::budget::{Answered, answer_within};
 use crate::demands::Demands;
-use crate::marking::answer_published;
+use crate::marking::{answer_published, judge_version};
 use crate::writing::{put, put_octets, put_refusal, tell, text_in};
+use asn_constrained::ConstrainedType;
 use asn_convert::{Job, Order, RuleName, RunFault, answer_line};
 use asn_jobs::{CountFault, OctetForm, Place, Progress, octets_in};
 use asn_json_layout::Layout;
@@ -10,7 +11,6 @@ use asn_look::{
     Counts, MOST_ENTRIES, TakenBack, json_over, laid_text, newer_line, over_words, taken_back,
     why_refused, widest_of,
 };
-use asn_plan::Planned;
 use asn_request::asking::{Asking, Forms, Versions};
 use asn_rules::Counted;
 use asn_values::Checked;
@@ -20,8 +20,8 @@ use std::io::Write;
 /// What is made of messages.
 #[derive(Clone, Copy)]
 pub struct Asked<'t> {
-    /// The type of the messages, and its plan.
-    pub planned: &'t Planned,
+    /// The type of the messages, with its plan and its constraint.
+    pub constrained: &'t ConstrainedType,
     pub order: Order,
     pub rules: RuleName,
     pub forms: Forms,
@@ -42,18 +42,18 @@ pub struct Asked<'t> {
 }
 
 impl<'t> Asked<'t> {
-    /// What is made of the messages of a job, for the type of the plan; `None` where the module is to be printed.
+    /// What is made of the messages of a job, for this type; `None` where the module is to be printed.
     pub fn of(
         asking: &Asking<'_>,
         job: &Job,
-        planned: &'t Planned,
+        constrained: &'t ConstrainedType,
         demands: Demands<'t>,
     ) -> Option<Asked<'t>> {
         let Job::Lines { order, rules, .. } = job else {
             return None;
         };
         Some(Asked {
-            planned,
+            constrained,
             order: *order,
             rules: *rules,
             forms: asking.forms,
@@ -64,13 +64,13 @@ impl<'t> Asked<'t> {
             budget: asking.budget,
             demands,
             is_wider_taken: asking.is_wider_taken,
-            widest: widest_of(planned.get().get()),
+            widest: widest_of(constrained.ty().get()),
         })
     }
 
     /// The type of the messages.
     pub fn ty(&self) -> &'t Checked {
-        self.planned.get()
+        self.constrained.ty()
     }
 
     /// Whether JSON is laid out.
@@ -137,6 +137,11 @@ fn answer_line_of<W: Write>(
     }
     if !asked.demands.is_nothing() && asked.order != Order::Newer {
         return answer_published(rt, answers, place, line, asked);
+    }
+    if asked.demands.constraint.is_some() {
+        if let Some(is_good) = judge_version(rt, answers, place, line, asked)? {
+            return Ok(is_good);
+        }
     }
     let answered = if asked.is_as_it_is() {
         answer_to(rt, &mut answers.output, line, asked)?
@@ -206,11 +211,12 @@ pub fn answer_to<W: Write>(
     asked: Asked<'_>,
 ) -> Result<Answered, RunFault> {
     let Asked {
-        planned,
+        constrained,
         order,
         rules,
         ..
     } = asked;
+    let planned = constrained.planned();
     match asked.budget {
         Some(most) => answer_within(rt.alloc(), output, planned, most, order, rules, line),
         None => {

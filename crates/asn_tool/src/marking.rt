@@ -4,10 +4,14 @@ use crate::answering::{Answers, Asked, answer_in_memory, put_answer, tell_why};
 use crate::budget::Answered;
 use crate::marked::{answer_beside, deeper_text, refusal_beside, unlooked_words};
 use crate::writing::{put_refusal, tell, text_in};
-use asn_constraints::{Broken, judge_at};
+use asn_constrained::{ConstrainedFault, ConstrainedNewerFault};
+use asn_constraints::Broken;
 use asn_convert::{Order, RuleName, RunFault};
 use asn_jobs::Place;
-use asn_look::{broken_at_end, broken_words, value_of_digits};
+use asn_look::{broken_at_end, broken_words};
+use asn_oer::Oer;
+use asn_per::Per;
+use asn_plan::PlanRules;
 use asn_published::Looked;
 use asn_rules::Counted;
 use asn_values::Value;
@@ -99,21 +103,47 @@ fn answer_value<W: Write>(
 
 /// What is found of the value whose encoding is in these digits.
 fn finding_of(alloc: Global, digits: &[u8], asked: Asked<'_>) -> Result<Finding, RunFault> {
-    let Some(value) = value_of_digits(alloc, asked.ty(), asked.rules, digits)? else {
+    let Ok(octets) = hex::decode(alloc, digits) else {
         return Err(RunFault::Memory);
     };
-    let looked = looked_at(alloc, &value, asked)?;
-    if let Some(looked) = &looked {
-        if looked.is_deeper {
-            return Ok(Finding::Deeper(asked.demands.levels().unwrap_or(0)));
-        }
+    match asked.rules {
+        RuleName::Per => finding_by::<Per>(alloc, octets.as_slice(), asked),
+        RuleName::Oer => finding_by::<Oer>(alloc, octets.as_slice(), asked),
     }
-    if let Some(constraint) = asked.demands.constraint {
-        if let Some(broken) = judge_at(alloc, constraint, &value)? {
-            return Ok(Finding::Broken(broken));
-        }
+}
+
+/// What is found of the value whose encoding the octets are. A check without marks needs no value.
+fn finding_by<R: PlanRules>(
+    alloc: Global,
+    octets: &[u8],
+    asked: Asked<'_>,
+) -> Result<Finding, RunFault> {
+    if asked.demands.marks.is_none() && asked.order == Order::Check {
+        return match asked.constrained.check::<R>(alloc, octets) {
+            Ok(()) => Ok(Finding::Good),
+            Err(fault) => finding_of_fault(fault),
+        };
     }
-    match looked {
+    match asked.constrained.decode::<R>(alloc, octets) {
+        Ok(value) => finding_of_value(alloc, &value, asked),
+        Err(fault) => finding_of_fault(fault),
+    }
+}
+
+/// What is found of octets that are an encoding of the type of the profile.
+fn finding_of_fault(fault: ConstrainedFault) -> Result<Finding, RunFault> {
+    match fault {
+        ConstrainedFault::Broken { broken, .. } => Ok(Finding::Broken(broken)),
+        ConstrainedFault::Type(_) => Err(RunFault::Memory),
+    }
+}
+
+/// What is found of a value that meets the constraint.
+fn finding_of_value(alloc: Global, value: &Value, asked: Asked<'_>) -> Result<Finding, RunFault> {
+    match looked_at(alloc, value, asked)? {
+        Some(looked) if looked.is_deeper => {
+            Ok(Finding::Deeper(asked.demands.levels().unwrap_or(0)))
+        }
         Some(looked) if !asked.is_wider_taken => Ok(Finding::Looked(looked)),
         _ => Ok(Finding::Good),
     }
@@ -185,6 +215,50 @@ fn refuse_value<W: Write>(
         tell(rt, place, words)?;
     }
     Ok(false)
+}
+
+/// Judges a message of some version of a type with a constraint. One that breaks a constraint of spelling, which every
+/// version keeps, is refused: the answer is whether it is good. `None` if it is still to be answered. Standard error says
+/// which other constraint its value breaks.
+///
+/// # Errors
+/// `Write` if the writer reported an error, `Memory` if an allocation failed.
+pub fn judge_version<W: Write>(
+    rt: &HostRuntime,
+    answers: &mut Answers<W>,
+    place: Place<'_>,
+    line: &[u8],
+    asked: Asked<'_>,
+) -> Result<Option<bool>, RunFault> {
+    let octets = match hex::decode(rt.alloc(), line) {
+        Ok(octets) => octets,
+        Err(_) => return Ok(None),
+    };
+    let read = match asked.rules {
+        RuleName::Per => asked
+            .constrained
+            .read_newer::<Per>(rt.alloc(), octets.as_slice()),
+        RuleName::Oer => asked
+            .constrained
+            .read_newer::<Oer>(rt.alloc(), octets.as_slice()),
+    };
+    match read {
+        Err(ConstrainedNewerFault::Spelling(broken)) => {
+            let refusal = refusal_of(rt.alloc(), &broken, octets.len(), asked)?;
+            let is_good = refuse_value(rt, answers, place, refusal.as_str(), asked, BROKEN)?;
+            Ok(Some(is_good))
+        }
+        Ok(read) => {
+            if let Some(broken) = &read.broken {
+                let words = broken_words(rt.alloc(), asked.ty().get(), broken)?;
+                let words = words.as_str();
+                let told = format!(in rt.alloc(); "a newer version may allow this: {words}")?;
+                tell(rt, place, told.as_str())?;
+            }
+            Ok(None)
+        }
+        Err(ConstrainedNewerFault::Type(_)) => Ok(None),
+    }
 }
 
 /// Writes a refusal, which says that the message can be deeper where there are so many levels.

@@ -2,6 +2,7 @@
 use crate::answering::{Answers, Asked};
 use crate::demands::Demands;
 use crate::messages::answer_input;
+use asn_constrained::ConstrainedType;
 use asn_convert::{Job, Order, RunFault, Status, cut_input, read_all, run, run_on_lines};
 use asn_jobs::{Piped, Progress, ending};
 use asn_look::Counts;
@@ -9,7 +10,6 @@ use asn_module::Module;
 use asn_module_files::{
     Input, Published, Stop, input_given, input_of_files, module_of, tell_text, tells_of_module,
 };
-use asn_plan::Planned;
 use asn_published::Options;
 use asn_request::asking::Asking;
 use asn_rules::Counted;
@@ -95,7 +95,11 @@ fn run_asked<'a, R: BufRead>(
         return Ok(None);
     };
     match type_for(job, &module) {
-        Some(ty) => run_for(rt, job, ty, asking, demands, lines),
+        Some(ty) => {
+            let constraint = published.constraint.copy(rt.alloc())?;
+            let constrained = ConstrainedType::new(rt.alloc(), ty.copy()?, constraint)?;
+            run_for(rt, job, &constrained, asking, demands, lines)
+        }
         None => Ok(None),
     }
 }
@@ -112,17 +116,16 @@ fn is_plain(job: &Job, asking: &Asking<'_>) -> bool {
     asking.is_plain() && !is_encode
 }
 
-/// The same for this type, by a plan of it.
+/// The same for this type.
 fn run_for<'a, R: BufRead>(
     rt: &HostRuntime,
     job: &Job,
-    ty: &Checked,
+    constrained: &ConstrainedType,
     asking: &Asking<'a>,
     demands: Demands<'_>,
     lines: &mut R,
 ) -> Result<Option<u8>, Stop<'a>> {
-    let planned = Planned::new(rt.alloc(), ty.copy()?)?;
-    match Asked::of(asking, job, &planned, demands) {
+    match Asked::of(asking, job, constrained, demands) {
         Some(asked) => Ok(Some(answer_all(rt, asking, asked, lines)?)),
         None => Ok(None),
     }

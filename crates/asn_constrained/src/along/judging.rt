@@ -2,10 +2,11 @@
 ghost use Rattle.std.specs.Prelude.{◌≡◌, ◌≤◌, true, length, IsSome};
 ghost use Rattle.asn_values.specs.Datum.{Datum};
 ghost use Rattle.asn_values.specs.View.{shape_of, datum_of};
-ghost use Rattle.asn_rules.specs.Answer.{IsEncoding, max_octets};
+ghost use Rattle.asn_rules.specs.Answer.{max_octets};
 ghost use Rattle.asn_constraints.specs.Constraints.{meets};
 ghost use Rattle.asn_constraints.specs.View.{constraint_of};
 ghost use Rattle.asn_constrained.specs.Along.{MeetsDue, AreListed, AreRowed, IsChosen};
+ghost use Rattle.asn_constrained.specs.Under.{IsEncodingUnder};
 
 use crate::along::choices::choose;
 use crate::along::elements::Elements;
@@ -184,15 +185,15 @@ fn met(constraint: &Constraint, value: &Value) -> Option<()>
 
 /// Whether the octets are the complete encoding by the rules R of a value of the type that meets the constraint. No value is
 /// built. Where it is false, nothing is claimed: the constraint may be one that only a whole value shows.
-pub fn check_along<'c, R: PlanRules>(
+pub(crate) fn check_along<'c, R: PlanRules>(
     alloc: Global,
     planned: &Planned,
     constraint: &'c Constraint,
     octets: &[u8],
 ) -> bool
     ensures within { result ≡ true → length octets.now ≤ max_octets }
-    ensures encoding { result ≡ true → (d : Datum) × IsEncoding R.ruling (shape_of planned.now) d octets.now
-        × (meets (constraint_of constraint.now) d ≡ true) }
+    ensures encoding { result ≡ true → (d : Datum)
+        × IsEncodingUnder R.ruling (shape_of planned.now) (constraint_of constraint.now) d octets.now }
 {
     let mut due = Some(constraint);
     match planned.build::<R, Along<'c>>(alloc, octets, &mut due) {

@@ -7,8 +7,8 @@ invariant-elements_at-elements l = length l.cursor.rest.now ≤ length l.fn.curs
 abbrev pub decreases-elements_at-elements : goal.decreases-elements_at-elements
 decreases-elements_at-elements l = length l.cursor.rest.now
 
-abbrev pub invariant-entries_at-loop-field : goal.invariant-entries_at-loop-field
-invariant-entries_at-loop-field l = length l.cursor.rest.now ≤ length l.fn.cursor.rest.now
+abbrev pub invariant-entries_at-root : goal.invariant-entries_at-root
+invariant-entries_at-root l = length l.cursor.rest.now ≤ length l.fn.cursor.rest.now
 
-abbrev pub invariant-entries_at-loop-field-2 : goal.invariant-entries_at-loop-field-2
-invariant-entries_at-loop-field-2 l = length l.cursor.rest.now ≤ length l.fn.cursor.rest.now
+abbrev pub invariant-entries_at-additions : goal.invariant-entries_at-additions
+invariant-entries_at-additions l = length l.cursor.rest.now ≤ length l.fn.cursor.rest.now

@@ -1,5 +1,5 @@
 use Rattle.std.proofs.Common.{◌≤◌, length}
-use Rattle.asn_constraint_text.proofs.reading.lengths_at.Given as goal
+use Rattle.asn_constraint_text.proofs.leaves.lengths_at.Given as goal
 
 abbrev pub invariant-lengths : goal.invariant-lengths
 invariant-lengths l = length l.cursor.rest.now ≤ length l.fn.cursor.rest.now

@@ -1,5 +1,5 @@
 use Rattle.std.proofs.Common.{◌≤◌, length}
-use Rattle.asn_constraint_text.proofs.reading.items_at.Given as goal
+use Rattle.asn_constraint_text.proofs.leaves.items_at.Given as goal
 
 abbrev pub invariant-items : goal.invariant-items
 invariant-items l = length l.cursor.rest.now ≤ length l.fn.cursor.rest.now

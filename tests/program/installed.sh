@@ -1,5 +1,6 @@
 #!/usr/bin/env bash
 # What install.py makes of the program: the words that bash completes, and a manual page that names each command and option.
+# How it compiles, in parts, is tried on the small program asn_first.
 #
 # usage: tests/program/installed.sh PROGRAM
 set -euo pipefail
@@ -84,6 +85,27 @@ if [ "$("$folder/at/bin/asn_tool" --version)" = "$("$program" --version)" ]; the
     passed=$((passed + 1))
 else
     failed=$((failed + 1))
+fi
+
+# fails where the program that is compiled in parts answers a line otherwise
+answers() {
+    local said
+    said=$(echo "$1" | "$folder/first" | tr '\n' ' ')
+    if [ "$said" = "$2 " ]; then
+        passed=$((passed + 1))
+    else
+        failed=$((failed + 1))
+        printf 'asn_first answers %s by %s, and not by %s\n' "$1" "$said" "$2"
+    fi
+}
+
+if python3 "$top/builder/unproved.py" --parts "$top/crates/asn_first" "$top" "$folder/first" 2>"$folder/steps"; then
+    answers 6c 'id 5, ok TRUE, flag TRUE 6c'
+    answers 28 'id 5, ok TRUE 28'
+    answers ac '! refused'
+else
+    failed=$((failed + 1))
+    cat "$folder/steps"
 fi
 echo "$passed passed, $failed failed"
 [ "$failed" = 0 ]

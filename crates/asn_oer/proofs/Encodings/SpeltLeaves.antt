@@ -16,11 +16,11 @@ use Rattle.asn_rules.specs.IntegerSets.{magnitude_of}
 use Rattle.asn_oer.specs.Oer.{counted, counted_signed, unsigned_octets, unsigned_in, signed_size, signed_in, ranged, whole_number, variable_bits, bit_octets, sized_octets, item_number, tag}
 use Rattle.asn_oer.proofs.Law.Integers.{unsigned_cases, signed_cases}
 use Rattle.asn_oer.proofs.Law.TagForms.{few_tag_octets, tag_octets}
-use Rattle.asn_oer.proofs.Encodings.Spelt.{Short, short_more, octets_short, few_octets, short_spelled}
+use Rattle.asn_oer.proofs.Encodings.Spelt.{room, room_first, Short, short_more, octets_short, few_octets, short_spelled}
 
 -- a content of at most 2 ^ 29 octets with its length
 spelled_short : (n : ℕ) (c : List ℕ) → n ≤ 536870912 → Short n c → Short (2 * n + 2) (spelled c)
-spelled_short n c h p = short_spelled n 1 c (omega arith) (omega arith) p
+spelled_short n c h p = short_spelled n 1 c (omega (arith, room_first)) (omega arith) p
 
 -- ---- INTEGER
 

@@ -27,6 +27,7 @@ static int nothing(void) {
     CHECK(tulvorn_interface() == TULVORN_INTERFACE);
     CHECK(tulvorn_type(&none, TEXT("Msg"), &other, &fault) == TULVORN_MISUSE && fault.code == TULVORN_MISUSE);
     CHECK(tulvorn_share(&none, &other) == TULVORN_MISUSE);
+    CHECK(tulvorn_type_levels(&none, &word) == TULVORN_MISUSE && word == 7);
     CHECK(tulvorn_check(&none, TULVORN_PER, into, 4, &fault) == TULVORN_MISUSE);
     CHECK(tulvorn_decode(&none, TULVORN_PER, into, 4, &other, &fault) == TULVORN_MISUSE);
     CHECK(tulvorn_encode(&none, TULVORN_PER, &other, &fault) == TULVORN_MISUSE);
@@ -371,6 +372,10 @@ static int calls(long *refused) {
     CHECK(newer(&module) == 0 && wide_integers(&module) == 0 && budgets() == 0);
     /* a type outlives its module and its first handle */
     CHECK(tulvorn_share(&module, &other) == TULVORN_MISUSE && tulvorn_share(&msg, &other) == TULVORN_DONE);
+    uint32_t levels = 7;
+    CHECK(tulvorn_type_levels(&module, &levels) == TULVORN_MISUSE && levels == 7);
+    CHECK(tulvorn_type_levels(&msg, &levels) == TULVORN_DONE && levels == 2);
+    CHECK(tulvorn_type_levels(&all, &levels) == TULVORN_DONE && levels == 5);
     tulvorn_close(&module);
     tulvorn_close(&msg);
     CHECK(messages(&other) == 0 && parts(&all) == 0);

@@ -149,6 +149,11 @@ uint32_t tulvorn_type(const tulvorn_handle *module, const uint8_t *name, size_t 
    Answers MISUSE where `type` holds no type, NO_MEMORY. */
 uint32_t tulvorn_share(const tulvorn_handle *type, tulvorn_handle *other);
 
+/* How many levels of types inside one another the type has, a SEQUENCE OF counting two: 1 to 64. The other calls take
+   stack for each (README.md has how much), so a thread with little refuses a type of many. It takes stack itself, but
+   little. Answers MISUSE where `type` holds no type. */
+uint32_t tulvorn_type_levels(const tulvorn_handle *type, uint32_t *levels);
+
 /* ---- messages. Each answers MISUSE where its first handle holds no type, or no value, or the rules are none. */
 
 /* Whether the octets are the encoding of a value of the type.

@@ -265,6 +265,12 @@ class Type {
         detail::look(tulvorn_share(held_.get(), other.held_.fill()));
         return other;
     }
+    // How many levels of types inside one another the type has, a SEQUENCE OF counting two: 1 to 64.
+    uint32_t levels() const {
+        uint32_t levels = 0;
+        detail::look(tulvorn_type_levels(held_.get(), &levels));
+        return levels;
+    }
     // The fault where the octets are no encoding of a value of the type.
     std::optional<tulvorn_fault> fault_if(Rules rules, OctetsView octets) const {
         tulvorn_fault fault;

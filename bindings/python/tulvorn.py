@@ -81,6 +81,7 @@ FUNCTIONS = {
     "tulvorn_explain_module": "osh:u",
     "tulvorn_type": "hoshf:u",
     "tulvorn_share": "hh:u",
+    "tulvorn_type_levels": "hU:u",
     "tulvorn_check": "huosf:u",
     "tulvorn_decode": "huoshf:u",
     "tulvorn_check_within": "huosbf:u",
@@ -487,6 +488,13 @@ class Type(_Held):
         code = _library.tulvorn_share(self.handle, other.handle)
         _look(TulvornError, code, Fault(code))
         return other
+
+    def levels(self):
+        """How many levels of types inside one another the type has, a SEQUENCE OF counting two: 1 to 64."""
+        levels = ctypes.c_uint32()
+        code = _library.tulvorn_type_levels(self.handle, levels)
+        _look(TulvornError, code, Fault(code))
+        return levels.value
 
     def check(self, octets, rules="per"):
         """Raises DecodeError where the octets are no encoding of a value of the type: REFUSED, TRUNCATED, REST,

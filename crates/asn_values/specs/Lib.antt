@@ -4,6 +4,7 @@ pub mod Fits
 pub mod Older
 pub mod Received
 pub mod Measures
+pub mod Levels
 pub mod Profile
 pub mod Parts
 pub mod Defaults

@@ -13,6 +13,7 @@ mod fault_paths;
 mod fitting;
 pub mod internal;
 pub mod laws;
+mod levels;
 mod lookup;
 mod names;
 mod notation;

@@ -4,6 +4,7 @@ use Rattle.serde_json.specs.Data.{Data}
 use Rattle.serde_json.specs.Written.{compact_text}
 use Rattle.asn_values.specs.Datum.{Datum}
 use Rattle.asn_values.specs.Shape.{Shape}
+use Rattle.asn_values.specs.Measures.{depth}
 use Rattle.asn_values.specs.Fits.{Fits}
 use Rattle.asn_values.specs.Received.{FitsReceived}
 use Rattle.asn_values.specs.View.{datum_of}
@@ -102,6 +103,10 @@ FindsType name old new m fault =
 abbrev pub SharesType : Option Object → Option Object → Shape → Fault → Type 0
 SharesType old new t fault =
     ((fault ≡ done) × (held_type new ≡ Some t)) ⊎ ((fault ≡ no_memory) × (new ≡ old))
+
+-- how many levels the type has
+abbrev pub TellsLevels : ℕ → Shape → Fault → Type 0
+TellsLevels new t fault = (fault ≡ done) × (new ≡ depth t)
 
 -- ---- messages
 

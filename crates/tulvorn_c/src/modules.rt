@@ -13,6 +13,7 @@ ghost use Rattle.tulvorn_c.specs.Answers.{
   FindsName,
   FindsType,
   SharesType,
+  TellsLevels,
   IsModuleRead,
 };
 ghost use Rattle.tulvorn_c.specs.Held.{held_module, held_type};
@@ -221,6 +222,23 @@ pub extern "C" fn tulvorn_share(alloc: Global, ty: &Shown, other: &mut Handle) -
             }
             Err(_) => NO_MEMORY,
         },
+        _ => MISUSE,
+    }
+}
+
+/// How many levels the type has: see `tulvorn::Checked::levels`.
+#[unsafe(no_mangle)]
+pub extern "C" fn tulvorn_type_levels(ty: &Shown, levels: &mut u32) -> u32
+    ensures told { Asked (held_type ty.now.kept) (levels.new ≡ levels.old) (TellsLevels levels.new) (plain result) }
+{
+    let Some(it) = ty.object() else {
+        return MISUSE;
+    };
+    match it {
+        Object::Checked(ty) => {
+            *levels = ty.levels();
+            DONE
+        }
         _ => MISUSE,
     }
 }

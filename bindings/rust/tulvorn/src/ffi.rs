@@ -37,6 +37,7 @@ unsafe extern "C" {
     pub fn tulvorn_explain_module(text: *const u8, len: usize, words: *mut Handle) -> u32;
     pub fn tulvorn_type(module: *const Handle, name: *const u8, len: usize, ty: *mut Handle, fault: *mut Fault) -> u32;
     pub fn tulvorn_share(ty: *const Handle, other: *mut Handle) -> u32;
+    pub fn tulvorn_type_levels(ty: *const Handle, levels: *mut u32) -> u32;
     pub fn tulvorn_check(ty: *const Handle, rules: u32, octets: *const u8, len: usize, fault: *mut Fault) -> u32;
     pub fn tulvorn_decode(
         ty: *const Handle,

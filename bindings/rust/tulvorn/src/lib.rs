@@ -395,6 +395,14 @@ impl Type {
         Ok(Type(held))
     }
 
+    /// How many levels of types inside one another the type has, a SEQUENCE OF counting two: 1 to 64.
+    pub fn levels(&self) -> u32 {
+        let mut levels = 0;
+        // SAFETY: the handle holds a type, and the number is one of this function.
+        unsafe { ffi::tulvorn_type_levels(self.0.get(), &raw mut levels) };
+        levels
+    }
+
     /// Whether the octets are the encoding of a value of the type.
     ///
     /// # Errors

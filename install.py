@@ -6,8 +6,8 @@ usage: python3 install.py [--program FILE] FOLDER
 It leaves FOLDER/bin/asn_tool, FOLDER/share/man/man1/asn_tool.1, FOLDER/share/bash-completion/completions/asn_tool and
 FOLDER/share/zsh/site-functions/_asn_tool. The last three are made from what the program's own `--help` says.
 
-The program is compiled from the sources of the crates without a proof, which takes three minutes on an idle
-machine, and `asn_tool --version` says `unproved build`. Standard error has a line for each step, and one every ten
+The program is compiled from the sources of the crates without a proof, which takes some 85 seconds on four idle
+processors, and `asn_tool --version` says `unproved build`. Standard error has a line for each step, and one every ten
 seconds. With --program it is FILE: crates/asn_tool/out/asn_tool, say, where `rt run` or `rt ci` leaves the program that
 is proved.
 """
@@ -26,7 +26,7 @@ import room
 
 NAME = "asn_tool"
 VERSION = re.compile(r'\.version\("([^"]*)"\)')
-USUAL = 170  # seconds of a compilation on an idle machine
+USUAL = 85  # seconds of a compilation on four idle processors
 
 
 def build(program):
@@ -39,14 +39,14 @@ def build(program):
             it.write(VERSION.sub(r'.version("\1, unproved build")', text))
         made = f"{folder}/{NAME}"
         unproved = f"{TOP}/builder/unproved.py"
-        waited_for([sys.executable, unproved, "--steps", f"{folder}/crates/{NAME}", TOP, made])
+        waited_for([sys.executable, unproved, "--parts", f"{folder}/crates/{NAME}", TOP, made])
         shutil.copy2(made, program)
 
 
 def waited_for(words):
     """Runs a compilation, and shows on standard error how long it has taken so far."""
     started = time.monotonic()
-    print(f"compiling {NAME}, which takes some {USUAL} s on an idle machine", file=sys.stderr, flush=True)
+    print(f"compiling {NAME}, which takes some {USUAL} s on four idle processors", file=sys.stderr, flush=True)
     with subprocess.Popen(words, stdin=subprocess.DEVNULL) as ran:
         while ran.poll() is None:
             try:

@@ -138,11 +138,11 @@ class Edit:
     """An edit: its pairs of texts, the functions whose goals count, and whether it changes bodies alone."""
 
     def __init__(self, crate, stanza):
-        lines = re.sub(r"\n\+ ?", "\0", stanza.strip("\n")).split("\n")
-        self.crate, self.name, self.pairs, self.by, self.weak, self.fault = crate, lines[0].strip(), [], [], None, None
+        name, *lines = re.split(r"\n(?!\+)", stanza.strip("\n"))
+        self.crate, self.name, self.pairs, self.by, self.weak, self.fault = crate, name.strip(), [], [], None, None
         path = old = None
-        for line in lines[1:]:
-            key, _, text = line.replace("\0", "\n").partition(":")
+        for line in lines:
+            key, _, text = re.sub(r"\n\+ ?", "\n", line).partition(":")
             text = text.removeprefix(" ")
             if key == "file":
                 path = text

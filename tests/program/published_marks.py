@@ -1,9 +1,10 @@
 #!/usr/bin/env python3
-"""Checks messages of published types that are not the same: no plain `ok` where a part is not looked at.
+"""Checks messages of published types: no plain `ok` where a part is not looked at, or a value is none of the type.
 
 usage: tests/program/published_marks.py PROGRAM
 
-published_messages.txt has types with a remark, messages that the remark concerns, and messages that it does not.
+published_messages.txt has types with a remark or a constraint, messages that these concern, and messages that they do
+not.
 published_marks.txt has recursive types, what other orders write, and what --strict refuses.
 """
 from run import HERE, cases_of, expand, script, text_of
@@ -12,7 +13,8 @@ HEAD = b"M DEFINITIONS AUTOMATIC TAGS ::= BEGIN\n"
 
 
 def messages(test):
-    """Each message is `ok`, with what is not looked at of it and the status 4, or plain with --accept-wider."""
+    """Each message is `ok`, with what is not looked at of it and the status 4, or plain with --accept-wider. One that is
+    of no value of the type is refused."""
     for case in cases_of(expand(text_of(f"{HERE}/published_messages.txt"))):
         module = HEAD + case.said["<"].octets + b"END\n====\n"
         for line in case.said[">"].octets.decode().splitlines():
@@ -24,6 +26,12 @@ def messages(test):
                     given = module + octets.encode() + b"\n"
                     test.expect(words, given, (4 if mark else 0, f"{ok}{mark}\n".encode()))
                     test.expect([*words, "--accept-wider"], given, (0, f"{ok}\n".encode()))
+        for line in case.said["!"].octets.decode().splitlines():
+            for rules, octets in zip(("per", "oer"), line.split(" ")):
+                words = ["check", "--type", "T", "--rules", rules, *case.words]
+                ran = test.run(words, module + octets.encode() + b"\n")
+                is_refused = ran.status == 1 and ran.out.startswith(b"! ")
+                test.add(is_refused, f"{case.said['<'].octets} {octets}: {ran.status} {ran.out}")
 
 
 script(__doc__, messages, "published_marks.txt")

@@ -16,27 +16,30 @@ from run import reference, script, write
 
 REFERENCE = reference()
 STATUSES = ("same", "narrower", "wider", "owed", "per only", "refused")
-# a simple type: as it is published, as it is in the profile, its status, and a DEFAULT with what becomes of it
+# a simple type: as it is published, as it is in the profile, its status, and a DEFAULT with what becomes of it in the
+# profile
 SIMPLE = (
     ("BOOLEAN", "BOOLEAN", "same", "yes", "TRUE"),
     ("NULL", "NULL", "same", "NULL", None),
     ("INTEGER (0..7)", "INTEGER (0..7)", "same", "-- three -- three", "3"),
     ("INTEGER { a(3), b(5) } (a..b)", "INTEGER (3..5)", "same", "b", "5"),
     ("INTEGER (0..7, ...)", "INTEGER (0..7, ...)", "same", "3", None),
-    ("INTEGER (1 | 9)", "INTEGER (1..9)", "wider", "9", "9"),
+    ("INTEGER (1 | 9)", "INTEGER (1..9)", "same", "9", "9"),
     ("INTEGER", "INTEGER", "narrower", "-7", "-7"),
     ("OCTET STRING (SIZE (2))", "OCTET STRING (SIZE (2..2))", "same", "'ABCD'H", None),
     ("OCTET STRING (CONTAINING NULL)", "OCTET STRING", "wider", "'00'H", None),
     ("BIT STRING { f(0), g(1) } (SIZE (4))", "BIT STRING (SIZE (4..4))", "same", "{ f, g }", None),
-    ("BIT STRING { f(0) }", "BIT STRING", "owed", "{}", None),
-    ("PrintableString", "VisibleString", "wider", '"a, b }"', None),
-    ("UTF8String (SIZE (1..9))", "UTF8String", "wider", '"x"', None),
-    ("UTCTime", "VisibleString", "wider", '"700101000000Z"', None),
+    ("BIT STRING { f(0) }", "BIT STRING", "same", "{}", None),
+    ("PrintableString", "VisibleString", "same", '"a, b }"', None),
+    ("UTF8String (SIZE (1..9))", "UTF8String", "same", '"x"', None),
+    ("UTCTime", "VisibleString", "same", '"700101000000Z"', None),
     ("C.&id ({Set})", "INTEGER (0..255)", "wider", "7", "7"),
     ("C.&Type", "OCTET STRING", "wider", "NULL : NULL", None),
     ("SEQUENCE (SIZE (1..3)) OF BOOLEAN", "SEQUENCE (SIZE (1..3)) OF BOOLEAN", "same", "{ TRUE, FALSE }", None),
     ("CHOICE { x NULL, y BOOLEAN }", "CHOICE { x NULL, y BOOLEAN }", "same", "y : TRUE", None),
 )
+# a DEFAULT that is not read: of an open type
+UNREAD = "NULL : NULL"
 BARRED = ("BMPString", "SET OF BOOLEAN", "EXTERNAL", "DATE", "Unknown", "Nowhere.T")
 VALUES = """C ::= CLASS { &id INTEGER (0..255) UNIQUE, &Type } Set C ::= { ... }
 yes BOOLEAN ::= TRUE three INTEGER ::= 3
@@ -56,10 +59,11 @@ class Part:
         self.name, self.need = name, need
         self.text = f"{name} {text}" + (f" DEFAULT {default}" if need == "DEFAULT" else f" {need}" * bool(need))
         self.flat, self.status = f"{name} {flat}", status
-        # a DEFAULT that the profile does not have is OPTIONAL
+        # a DEFAULT that the profile does not have is OPTIONAL, as it is in a group that may be empty
+        self.apart = " OPTIONAL" if need else ""
         self.suffix = f" DEFAULT {default_flat}" if need == "DEFAULT" and default_flat else " OPTIONAL" if need else ""
-        self.root_status = worse(status, "wider") if need == "DEFAULT" and not default_flat else status
-        self.addition_status = worse(status, "wider") if need == "DEFAULT" else status
+        is_unread = need == "DEFAULT" and default == UNREAD
+        self.root_status = self.addition_status = worse(status, "wider") if is_unread else status
 
 
 class Made:
@@ -124,31 +128,27 @@ class Maker:
         return texts, parts
 
     def group(self, one, number):
-        """A group: its text, its line in the profile, and whether it has to be present.
-
-        It is owed if each component may be absent."""
+        """A group: its text, and its line in the profile."""
         other = self.included(one, set())
         parts = other.root if other else [self.part(one) for _ in range(self.chance.randint(1, 3))]
         said = f"COMPONENTS OF {other.reference(one.module)}" if other else ", ".join(it.text for it in parts)
         version = f"{number + 1}: " if self.chance.random() < 0.5 else ""
         for it in parts:
             one.status = worse(one.status, it.root_status)
-        if all(it.need for it in parts):
-            one.status = worse(one.status, "owed")
-        inner = ", ".join(it.flat + it.suffix for it in parts)
+        may_be_empty = all(it.need for it in parts)
+        inner = ", ".join(it.flat + (it.apart if may_be_empty else it.suffix) for it in parts)
         flat = f"ext{number} SEQUENCE {{ {inner} }} OPTIONAL"
-        return f"[[ {version}{said} ]]", flat, not all(it.need for it in parts)
+        return f"[[ {version}{said} ]]", flat
 
     def additions(self, one, used):
         """Additions, groups and COMPONENTS OF others among them: their texts, and their lines in the profile."""
-        texts, flats, groups, needed = [], [], 0, []
+        texts, flats, groups = [], [], 0
         for _ in range(self.chance.randint(0, 3)):
             if self.chance.random() < 0.5:
                 groups += 1
-                text, flat, is_needed = self.group(one, groups)
+                text, flat = self.group(one, groups)
                 texts.append(text)
                 flats.append(flat)
-                needed.append(is_needed)
                 continue
             other = self.included(one, used)
             parts = other.root if other else [self.part(one)]
@@ -156,10 +156,6 @@ class Maker:
             for it in parts:
                 one.status = worse(one.status, it.addition_status)
                 flats.append(it.flat + " OPTIONAL")
-                needed.append(not it.need)
-        # one that has to be there before another may be left out
-        if any(needed[:-1]):
-            one.status = worse(one.status, "owed")
         return texts, flats
 
     def type(self):

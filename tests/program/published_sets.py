@@ -7,8 +7,8 @@ Constraints of INTEGER and sizes of OCTET STRING are made at random from the gra
 "element set specification"). They have values, ranges with and without `<`, MIN and MAX, unions, intersections, EXCEPT,
 ALL EXCEPT, contained subtypes, parentheses and extension marks. Several follow one another, on the type or on a
 reference. Each text is made together with its set of numbers, without EXCEPT, which PER and OER do not see. The type of
-the profile has the least and the greatest of these numbers and the last mark. It is wider if numbers between are
-missing or something is not seen. It is refused if no numbers are left, or if a mark follows all numbers.
+the profile has the least and the greatest of these numbers and the last mark. It is not wider, since a constraint has the
+numbers that are missing between. It is refused if no numbers are left, or if a mark follows all numbers.
 """
 import random
 
@@ -133,7 +133,7 @@ class Type:
 
 
 def made(chance, count):
-    """The text of a module, and of each type what it has to become, and whether it has to be wider."""
+    """The text of a module, and of each type what it has to become."""
     text, wanted, named = ["M DEFINITIONS AUTOMATIC TAGS ::= BEGIN\n"], {}, []
     for index in range(count):
         is_size = index % 3 == 2
@@ -143,9 +143,9 @@ def made(chance, count):
         name = f"T{index}"
         base, word = ("OCTET STRING", "SIZE") if is_size else ("INTEGER", "")
         text.append(f"{name} ::= {base} {it.constraints(word, chance)}\n")
-        wanted[name] = (it.wanted(base, least, MOST), bool(it.unseen or it.has_gap()))
+        wanted[name] = it.wanted(base, least, MOST)
         # others may contain its values
-        if not is_size and wanted[name][0] and not it.has_gap() and not it.unseen and chance.random() < 0.02:
+        if not is_size and wanted[name] and not it.has_gap() and not it.unseen and chance.random() < 0.02:
             named.append((name, it.numbers))
     return "".join([*text, "END\n"]), wanted
 
@@ -164,11 +164,11 @@ def compare(test, seed=1, many=TYPES):
     wider = {name for name, remark in remarks if remark.startswith("wider: ")}
     # where ranges meet others there may be more than are kept
     many_ranges = {name for name, remark in remarks if remark.endswith("more than 256 ranges")}
-    for name, (type_wanted, is_wider) in wanted.items():
+    for name, type_wanted in wanted.items():
         if name in many_ranges:
             continue
-        well = found.get(name) == type_wanted and (type_wanted is None or is_wider == (name in wider))
-        what = f"{found.get(name)}, {name in wider}, wanted {type_wanted}, {is_wider}"
+        well = found.get(name) == type_wanted and (type_wanted is None or name not in wider)
+        what = f"{found.get(name)}, {name in wider}, wanted {type_wanted}"
         test.add(well, f"seed {seed}: {lines[name]}: {what}")
 
 

@@ -31,13 +31,12 @@ def say(text):
         print(text, flush=True)
 
 
-# what the checks of a thread used, the one that is proving a crate
+# what the checks of a thread used, the one that is proving a crate: seconds of a processor and most memory
 USED = threading.local()
 
 
 class Counted(subprocess.Popen):
-    """A command whose seconds of a processor and most memory are added to what its thread used, with those of all that it
-    began and waited for."""
+    """A command of which a thread counts what it used, with all that it began and waited for."""
 
     def wait(self, timeout=None):
         if timeout is None and self.returncode is None:
@@ -48,33 +47,20 @@ class Counted(subprocess.Popen):
         return super().wait(timeout)
 
 
-def tell_used(used):
-    """Says what each crate took: seconds of a processor, memory, and seconds by the clock."""
-    for name, (seconds, most, clock) in sorted(used.items(), key=lambda it: -it[1][0]):
-        say(f"{name}: {seconds:.0f} s of a processor, {most / 1e6:.1f} GB, {clock:.0f} s by the clock")
-    if used:
-        say(f"{len(used)} crates: {sum(it[0] for it in used.values()) / 60:.1f} minutes of a processor")
-
-
 def is_in_form(crate, every):
-    """Whether `rt ci` would begin to prove the crate; what it would refuse is told."""
+    """Whether `rt ci` would begin to prove the crate; what it would refuse is shown."""
     try:
         rtlib.stop_on_links(crate.folder)
         rtlib.stop_on_unread(crate.folder, every)
         rtlib.stop_on_text(crate, "verdict")
         rt.stop_on_words(crate)
     except SystemExit:
-        say(f"{crate.name}: not in form, as told above")
+        say(f"{crate.name}: not in form, as shown above")
         return False
     if rtlib.fmt(crate.folder, "--check", sys.stdout):
         say(f"{crate.name}: run rt fmt in {crate.folder}")
         return False
     return True
-
-
-def are_in_form(crates, every):
-    # (each is looked at, so that all that is wrong is told)
-    return all([is_in_form(it, every) for it in crates])
 
 
 def look_at_form():
@@ -85,9 +71,10 @@ def look_at_form():
     except SystemExit:
         say("0 passed, 1 failed")
         return 1
-    well = are_in_form(crates, crates)
-    say(f"the form of {len(crates)} crates: {'well' if well else 'WRONG, as told above'}")
-    return 0 if well else 1
+    # (each is looked at, so that all that is wrong is shown)
+    is_well = all([is_in_form(it, crates) for it in crates])
+    say(f"the form of {len(crates)} crates: {'well' if is_well else 'WRONG, as shown above'}")
+    return 0 if is_well else 1
 
 
 def proved(crate):
@@ -125,20 +112,19 @@ def main(names):
     if names == ["--form"]:
         return look_at_form()
     if any(it.startswith("-") for it in names):
-        print(__doc__, file=sys.stderr)
-        return 2
+        sys.exit(__doc__)
     subprocess.Popen = Counted
     # the stamps of crates are read by several threads
     rtlib.guarded()
     share_work()
     every = crates = sorted(rtlib.crates_below(os.getcwd()), key=lambda it: len(it.below()))
-    lacking = [it for it in names if it not in [crate.name for crate in crates]]
+    lacking = {*names} - {it.name for it in crates}
     if lacking:
-        say(f"crates.txt names no {lacking[0]}")
+        say(f"crates.txt names no {' '.join(sorted(lacking))}")
         return 2
     wanted = {below.name for it in crates if it.name in names for below in [it, *it.below()]}
     crates = [it for it in crates if not names or it.name in wanted]
-    if not are_in_form(crates, every):
+    if not all([is_in_form(it, every) for it in crates]):
         return 1
     held = rtlib.lock(crates)
     tasks, used = {}, {}
@@ -146,9 +132,11 @@ def main(names):
         waits = [(it.name, "proof") for it in crate.below()]
         call = lambda given, jobs, crate=crate: prove(crate, given, jobs, used)
         tasks[crate.name, "proof"] = (waits, crate.count(rb"\n"), rt.need(crate), call)
-    given = rt.in_lanes(tasks)
-    failed = [crate.name for crate in crates if not given[crate.name, "proof"]]
-    tell_used(used)
+    failed = [name for (name, _), is_proved in rt.in_lanes(tasks).items() if not is_proved]
+    for name, (seconds, most, clock) in sorted(used.items(), key=lambda it: -it[1][0]):
+        say(f"{name}: {seconds:.0f} s of a processor, {most / 1e6:.1f} GB, {clock:.0f} s by the clock")
+    if used:
+        say(f"{len(used)} crates: {sum(it[0] for it in used.values()) / 60:.1f} minutes of a processor")
     say(f"{len(crates) - len(failed)} passed, {len(failed)} failed")
     for it in held:
         os.close(it)

@@ -28,8 +28,7 @@ def searched(file):
 def main(words):
     os.chdir(os.path.join(os.path.dirname(os.path.abspath(__file__)), "../.."))
     if not 1 <= len(words) <= 2 or not words[-1].isdecimal() == (len(words) == 2):
-        print(__doc__, file=sys.stderr)
-        return 2
+        sys.exit(__doc__)
     count = int(words[1]) if len(words) == 2 else 20
     found = {}
     for file in glob.glob(f"crates/{words[0]}/out/incremental/*/records/*Proof.decls.oantt"):
@@ -43,8 +42,7 @@ def main(words):
         print(f"{title}, in millions of steps:")
         for name, steps in sorted(of.items(), key=lambda it: -it[1])[:count]:
             print(f"{steps / 1e6:8.1f} {name.replace('.Proof.', ': ')}")
-    return 0
 
 
 if __name__ == "__main__":
-    sys.exit(main(sys.argv[1:]))
+    main(sys.argv[1:])

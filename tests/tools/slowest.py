@@ -24,29 +24,17 @@ def seconds_of(pid):
     return sum(int(it) for it in fields[11:15]) / TICKS
 
 
-def rattle_below(pid):
-    """The process of the check itself, which a guard has started."""
-    below = [pid]
-    while below:
-        pid = below.pop()
-        with open(f"/proc/{pid}/comm", encoding="utf-8") as it:
-            if it.read().strip() == "rattle":
-                return pid
-        with open(f"/proc/{pid}/task/{pid}/children", encoding="utf-8") as it:
-            below += [int(word) for word in it.read().split()]
-    return None
-
-
 def times_of(crate):
     """(seconds, function) of each function of the crate, and the seconds of the whole check."""
     crate.out = open(os.devnull, "w")
     words = [*rtlib.guarded(), rtlib.RATTLE, "check", *crate.words(["--jobs", "1", "--progress"], keeps=False)]
-    found, before, check = [], 0.0, None
-    with subprocess.Popen(words, cwd=crate.folder, stdin=subprocess.DEVNULL, stdout=subprocess.PIPE, stderr=subprocess.STDOUT, text=True) as ran:
+    found, before = [], 0.0
+    how = {"stdin": subprocess.DEVNULL, "stdout": subprocess.PIPE, "stderr": subprocess.STDOUT}
+    with subprocess.Popen(words, cwd=crate.folder, text=True, **how) as ran:
         for line in ran.stdout:
-            check = check or rattle_below(ran.pid)
-            if line.startswith("checked ") and check:
-                now = seconds_of(check)
+            if line.startswith("checked "):
+                # (the guard has become the check)
+                now = seconds_of(ran.pid)
                 found.append((now - before, line.split(",")[0].removeprefix("checked ")))
                 before = now
     return found, before, ran.returncode
@@ -57,14 +45,12 @@ def main(words):
     names = [it for it in words if it != "-n"]
     crates = [it for it in rtlib.crates_below(os.getcwd()) if it.name in names]
     if not crates or len(crates) != len(names):
-        print(__doc__, file=sys.stderr)
-        return 2
+        sys.exit(__doc__)
     for crate in crates:
         found, whole, status = times_of(crate)
         slowest = ", ".join(f"`{name.partition('::')[2]}` {took:.0f}" for took, name in sorted(found, reverse=True)[:count])
         print(f"| `{crate.name}` | {len(found)} | {whole:.0f} | {slowest} |{'' if not status else ' NOT PROVED'}", flush=True)
-    return 0
 
 
 if __name__ == "__main__":
-    sys.exit(main(sys.argv[1:]))
+    main(sys.argv[1:])

@@ -22,37 +22,32 @@ def seconds_of_a_piece():
     return time.thread_time() - begun
 
 
-class Ring:
-    """Numbers in so many octets, a power of two: each is the index of the next, and one way leads through all of them."""
-
-    def __init__(self, octets):
-        count = octets // 4
-        self.next, self.at = array.array("I", (((it * 1664525 + 1013904223) % count) for it in range(count))), 0
-
-    def seconds_of_a_step(self, steps=20_000):
-        begun, at = time.thread_time(), self.at
-        for _ in range(steps):
-            at = self.next[at]
-        self.at = at
-        return (time.thread_time() - begun) / steps
+def seconds_of_steps(octets):
+    """The seconds of a step in so many octets, a power of two, again and again. One way leads through all of them."""
+    count, at = octets // 4, 0
+    following = array.array("I", ((it * 1664525 + 1013904223) % count for it in range(count)))
+    while True:
+        begun = time.thread_time()
+        for _ in range(20_000):
+            at = following[at]
+        yield (time.thread_time() - begun) / 20_000
 
 
 def main(words):
     if len(words) != 1 or not words[0].isdecimal():
-        print(__doc__, file=sys.stderr)
-        return 2
-    took, longer, near, far, end = [], [], Ring(1 << 16), Ring(1 << 22), time.time() + int(words[0])
+        sys.exit(__doc__)
+    took, longer, end = [], [], time.time() + int(words[0])
+    near, far = seconds_of_steps(1 << 16), seconds_of_steps(1 << 22)
     processors = sorted(os.sched_getaffinity(0))
     while not took or time.time() < end:
         for it in processors:
             os.sched_setaffinity(0, {it})
             took.append(statistics.median(seconds_of_a_piece() for _ in range(5)))
-            longer.append(far.seconds_of_a_step() - near.seconds_of_a_step())
+            longer.append(next(far) - next(near))
         time.sleep(max(0, min(20, end - time.time())))
     best = sorted(took)[len(took) // 20]
     print(f"{statistics.mean(took) / best:.2f} times as long as at best; {statistics.median(longer) * 1e9:.0f} ns longer a step")
-    return 0
 
 
 if __name__ == "__main__":
-    sys.exit(main(sys.argv[1:]))
+    main(sys.argv[1:])

@@ -1,47 +1,54 @@
--- What a value of a published type has to be beside a value of the type of the profile: rules that no encoding shows.
-use Rattle.std.specs.Prelude.{◌==◌, ◌&&◌, ◌||◌, ℕ, zero, suc, ℤ, Bool, true, false, not, List, [], ◌∷◌, length, Option, Some, None, nat_le, nat_lt}
+-- Constraints that no encoding shows, and the values that meet them (X.680, "constraint").
+use Rattle.std.specs.Prelude.{◌==◌, ◌&&◌, ◌||◌, ℕ, zero, suc, ℤ, pos, Bool, true, false, not, List, [], ◌∷◌, length, Option, Some, None, nat_le, nat_lt}
 use Rattle.std.specs.Int.RustNames.{int_le}
 use Rattle.std.specs.List.{list_all}
-use Rattle.asn_values.specs.Datum.{component_list, element_list, Datum, number, item, bit_list, octet_list, characters, unicode, components, elements, alternative}
+use Rattle.asn_values.specs.Datum.{component_list, element_list, Datum, number, item, bit_list, octet_list, characters, unicode, components, elements, alternative, unknown_item, unknown_alternative}
 use Rattle.asn_values.specs.Equality.{datum_eq}
+use Rattle.asn_constraints.specs.Times.{TimeKind, is_time}
 
--- whether a component has to be there
+-- whether a component has to be there: either way, PRESENT, ABSENT
 pub data Presence : Type 0 where
-  any here gone : Presence
+  any must_be must_not_be : Presence
 
 mutual
   pub data Constraint : Type 0 where
-    -- no rule
-    free : Constraint
+    -- each value meets it, no value meets it
+    free barred : Constraint
     both either : Constraint → Constraint → Constraint
-    -- an INTEGER of one of these intervals
-    among : List (ℤ × ℤ) → Constraint
+    -- an INTEGER in one of these intervals
+    numbers : List (ℤ × ℤ) → Constraint
     -- an ENUMERATED at one of these positions
     items : List ℕ → Constraint
     -- a string or list, of UTF8String its characters, whose length is one of these
     lengths : List (ℕ × Option ℕ) → Constraint
+    -- a restricted character string whose codes are in these intervals
+    alphabet : List (ℤ × ℤ) → Constraint
     -- named bits: no last zeros above this length
     trimmed : ℕ → Constraint
+    -- a canonical value of a time type
+    time : TimeKind → Constraint
     -- not this value, which is the DEFAULT
-    but : Datum → Constraint
+    except : Datum → Constraint
     -- the components of a SEQUENCE, in order
-    parts : Parts → Constraint
+    on_components : OnComponents → Constraint
     -- the elements of a SEQUENCE OF
-    each : Constraint → Constraint
+    on_elements : Constraint → Constraint
     -- the alternatives of a CHOICE, in order
-    chosen : Ways → Constraint
+    on_alternatives : OnAlternatives → Constraint
     -- of the components of a SEQUENCE one is there
-    some_there : Constraint
+    some_present : Constraint
+    -- an item or an alternative of a newer version, which the type has not
+    unknown : Constraint
 
-  pub data Parts : Type 0 where
-    no_parts : Parts
-    part : Presence → Constraint → Parts → Parts
+  pub data OnComponents : Type 0 where
+    other_components_free : OnComponents
+    on_component : Presence → Constraint → OnComponents → OnComponents
 
-  pub data Ways : Type 0 where
-    no_ways : Ways
-    way : Constraint → Ways → Ways
+  pub data OnAlternatives : Type 0 where
+    other_alternatives_barred other_alternatives_free : OnAlternatives
+    on_alternative : Constraint → OnAlternatives → OnAlternatives
 
--- ---- numbers and lengths
+-- ---- numbers, lengths and characters
 
 abbrev pub is_among : List (ℤ × ℤ) → ℤ → Bool
 is_among [] z = false
@@ -67,7 +74,7 @@ abbrev pub scalars : List ℕ → ℕ
 scalars [] = 0
 scalars (o ∷ os) = elim (starts_character o) [ true ↦ suc (scalars os) | false ↦ scalars os ]
 
--- how many items a string or a list has
+-- how many bits, octets, characters or elements a string or a list has
 abbrev pub length_of : Datum → Option ℕ
 length_of (bit_list bs) = Some (length bs)
 length_of (octet_list os) = Some (length os)
@@ -80,6 +87,9 @@ abbrev pub has_length : List (ℕ × Option ℕ) → Option ℕ → Bool
 has_length is None = false
 has_length is (Some n) = is_length is n
 
+abbrev pub are_among : List (ℤ × ℤ) → List ℕ → Bool
+are_among is cs = list_all (λ c. is_among is (pos c)) cs
+
 -- the last bit is 1, or there are as few bits as the size lets there be
 abbrev pub ends_in_one : List Bool → Bool
 ends_in_one [] = false
@@ -91,50 +101,59 @@ is_trimmed low bs = nat_le (length bs) low || ends_in_one bs
 
 -- ---- components
 
-abbrev pub may_be_there : Presence → Bool
-may_be_there gone = false
-may_be_there _ = true
+abbrev pub may_be_present : Presence → Bool
+may_be_present must_not_be = false
+may_be_present _ = true
 
-abbrev pub may_be_gone : Presence → Bool
-may_be_gone here = false
-may_be_gone _ = true
+abbrev pub may_be_absent : Presence → Bool
+may_be_absent must_be = false
+may_be_absent _ = true
 
 -- whether an entry is right, given the test of its value
 abbrev pub entry_meets : Presence → (Datum → Bool) → Option Datum → Bool
-entry_meets p test None = may_be_gone p
-entry_meets p test (Some d) = may_be_there p && test d
+entry_meets p test None = may_be_absent p
+entry_meets p test (Some d) = may_be_present p && test d
 
-abbrev pub one_there : List (Option Datum) → Bool
-one_there [] = false
-one_there (None ∷ es) = one_there es
-one_there (Some d ∷ es) = true
+abbrev pub one_present : List (Option Datum) → Bool
+one_present [] = false
+one_present (None ∷ es) = one_present es
+one_present (Some d ∷ es) = true
 
--- ---- whether a value meets a rule
+abbrev pub is_unknown : Datum → Bool
+is_unknown (unknown_item z) = true
+is_unknown (unknown_alternative t) = true
+is_unknown _ = false
+
+-- ---- whether a value meets a constraint
 
 abbrev mutual
   pub meets : Constraint → Datum → Bool
   meets free d = true
-  meets (both r s) d = meets r d && meets s d
-  meets (either r s) d = meets r d || meets s d
-  meets (among is) (number z) = is_among is z
+  meets (both c e) d = meets c d && meets e d
+  meets (either c e) d = meets c d || meets e d
+  meets (numbers is) (number z) = is_among is z
   meets (items ps) (item p) = is_one_of ps p
   meets (lengths is) d = has_length is (length_of d)
+  meets (alphabet is) (characters cs) = are_among is cs
   meets (trimmed low) (bit_list bs) = is_trimmed low bs
-  meets (but e) d = not (datum_eq e d)
-  meets (parts ps) (components cs) = meets_parts ps (component_list cs)
-  meets (each r) (elements es) = list_all (λ d. meets r d) (element_list es)
-  meets (chosen rs) (alternative i d) = meets_at rs i d
-  meets some_there (components cs) = one_there (component_list cs)
+  meets (time k) (characters cs) = is_time k cs
+  meets (except e) d = not (datum_eq e d)
+  meets (on_components cs) (components es) = meet_each cs (component_list es)
+  meets (on_elements c) (elements es) = list_all (λ d. meets c d) (element_list es)
+  meets (on_alternatives cs) (alternative i d) = meets_at cs i d
+  meets some_present (components es) = one_present (component_list es)
+  meets unknown d = is_unknown d
   meets _ d = false
 
-  -- there is an entry for each part, and it is right; more entries may follow
-  pub meets_parts : Parts → List (Option Datum) → Bool
-  meets_parts no_parts es = true
-  meets_parts (part p r ps) [] = false
-  meets_parts (part p r ps) (e ∷ es) = entry_meets p (λ d. meets r d) e && meets_parts ps es
+  -- there is an entry for each constraint, and it is right; more entries may follow
+  pub meet_each : OnComponents → List (Option Datum) → Bool
+  meet_each other_components_free es = true
+  meet_each (on_component p c cs) [] = false
+  meet_each (on_component p c cs) (e ∷ es) = entry_meets p (λ d. meets c d) e && meet_each cs es
 
-  -- the rule of the alternative at an index
-  pub meets_at : Ways → ℕ → Datum → Bool
-  meets_at no_ways i d = false
-  meets_at (way r rs) zero d = meets r d
-  meets_at (way r rs) (suc i) d = meets_at rs i d
+  -- the value of the alternative at an index
+  pub meets_at : OnAlternatives → ℕ → Datum → Bool
+  meets_at other_alternatives_barred i d = false
+  meets_at other_alternatives_free i d = true
+  meets_at (on_alternative c cs) zero d = meets c d
+  meets_at (on_alternative c cs) (suc i) d = meets_at cs i d

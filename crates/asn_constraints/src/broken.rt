@@ -1,121 +1,202 @@
-//! Where a value breaks a rule.
-ghost use Rattle.std.specs.Prelude.{◌≡◌, IfOk, map, option_map};
-ghost use Rattle.std.specs.List.{list_all};
-ghost use Rattle.std.specs.Option.{is_none};
-ghost use Rattle.asn_values.specs.View.{datum_of, entries_seen};
-ghost use Rattle.asn_constraints.specs.Constraints.{meets, meets_parts, meets_at};
-ghost use Rattle.asn_constraints.specs.View.{constraint_of, part_of, parts_seen, ways_seen, meets_part};
+//! Where a value breaks a constraint.
+ghost use Rattle.std.specs.Prelude.{◌≡◌, ◌<◌, length, IsTrue, IsFalse, IfOk, IfSome, Some, option_map, reverse, is_none, [], ◌∷◌, false};
+ghost use Rattle.asn_values.specs.Datum.{alternative};
+ghost use Rattle.asn_values.specs.View.{datum_of};
+ghost use Rattle.asn_constraints.specs.Constraints.{meets, barred, on_components, on_elements, on_alternatives};
+ghost use Rattle.asn_constraints.specs.Broken.{BreaksAt, alternative_at, reason_of, has_parts};
+ghost use Rattle.asn_constraints.specs.Finding.{Finds, FindsEntry};
+ghost use Rattle.asn_constraints.specs.View.{constraint_of, on_one, components_seen, alternatives_seen, sequence_seen, list_seen};
 
+use crate::constraint::{Component, Constraint, Presence};
 use crate::judging::judge;
-use crate::constraint::{Part, Presence, Constraint};
 use asn_values::Value;
 use std::alloc::{AllocError, Global};
+use thiserror::Error;
 
-/// What a value does not meet.
-#[derive(Clone, Copy, Debug, PartialEq, Eq)]
-pub enum Fault {
-    /// It is no value of a type that has such a rule.
+/// Why a value does not meet a constraint, in words that follow on "refused:".
+#[derive(Clone, Copy, Debug, PartialEq, Eq, Error)]
+pub enum Reason {
+    /// The value has no such parts as the constraint is about.
+    #[error("a value of another kind")]
     Kind,
-    /// a number outside of the intervals
+    /// An INTEGER lies in none of the intervals.
+    #[error("a number in a gap of the range")]
     Number,
-    /// an item of an ENUMERATED that is barred
+    /// An item of an ENUMERATED is not one of those allowed.
+    #[error("an item that is not allowed")]
     Item,
-    /// a length outside of the SIZE
+    /// A length lies outside of the SIZE.
+    #[error("a length outside of the SIZE")]
     Length,
-    /// last zeros of named bits
+    /// A character lies outside of the permitted alphabet.
+    #[error("a character outside of the alphabet")]
+    Character,
+    /// Named bits end in zeros.
+    #[error("last zeros of named bits")]
     LastZeros,
-    /// a DEFAULT that is written out
+    /// A time is not written in its canonical form.
+    #[error("no canonical time")]
+    Time,
+    /// A DEFAULT is written out.
+    #[error("default written out")]
     Default,
-    /// a component that has to be there
+    /// A component has to be present.
+    #[error("component missing")]
     Missing,
-    /// a component that may not be there, or an alternative that may not be chosen
+    /// A component has to be absent.
+    #[error("component that must be absent")]
+    Present,
+    /// An alternative is not allowed.
+    #[error("alternative that must be absent")]
+    Alternative,
+    /// No value is allowed there.
+    #[error("a value where none is allowed")]
     Barred,
-    /// a group without components
-    Empty,
-    /// a value that meets neither rule of a union
+    /// A group has no components.
+    #[error("a group without components")]
+    NonePresent,
+    /// A value meets no constraint of a union.
+    #[error("none of the allowed combinations")]
     Neither,
 }
 
-/// What a value does not meet, and where.
+/// Why a value does not meet a constraint, and where.
 #[derive(Debug, Drop)]
 pub struct Broken {
-    pub fault: Fault,
-    /// the way to that place from the inside out: the index of a component, of an element, or of an alternative
-    pub way_out: Vec<usize>,
+    pub reason: Reason,
+    /// The path to that place from the outside in: the index of a component, of an element, or of an alternative.
+    pub path: Vec<usize>,
 }
 
-/// The first place at which the value breaks the rule, from the outside in and from left to right; `None` where it meets
-/// the rule. The answer of a union is the place of its value.
+/// The first place at which the value breaks the constraint, from the outside in and in the order of the parts; `None`
+/// exactly if the value meets it. A union of which neither side is met is broken at its own value.
 ///
 /// # Errors
 /// An allocation failed.
-#[cycle(broken)]
-pub fn first_broken(alloc: Global, rule: &Constraint, value: &Value) -> Result<Option<Broken>, AllocError>
-    ensures { IfOk result (λ b. is_none b ≡ meets (constraint_of rule.now) (datum_of value.now)) }
+pub fn judge_at(
+    alloc: Global,
+    constraint: &Constraint,
+    value: &Value,
+) -> Result<Option<Broken>, AllocError>
+    ensures exactly { IfOk result (λ found.
+        is_none found ≡ meets (constraint_of constraint.now) (datum_of value.now)) }
+    ensures there { IfOk result (λ found. IfSome found (λ b.
+        BreaksAt (constraint_of constraint.now) (datum_of value.now) b.path.items b.reason)) }
 {
-    match rule {
+    match first_broken(alloc, constraint, value)? {
+        None => Ok(None),
+        Some(broken) => Ok(Some(turned(broken))),
+    }
+}
+
+/// The same with its path turned.
+fn turned(broken: Broken) -> Broken
+    ensures reason { result.reason ≡ broken.reason }
+    ensures path { result.path.items ≡ reverse broken.path.items }
+{
+    let mut turned = broken;
+    turned.path.reverse();
+    turned
+}
+
+/// The first place, its path from the inside out.
+#[cycle(broken)]
+fn first_broken(
+    alloc: Global,
+    constraint: &Constraint,
+    value: &Value,
+) -> Result<Option<Broken>, AllocError>
+    ensures { IfOk result (λ found. Finds (constraint_of constraint.now) (datum_of value.now) found) }
+{
+    match constraint {
         Constraint::Free => Ok(None),
         Constraint::Both(first, second) => match first_broken(alloc, first, value)? {
             Some(broken) => Ok(Some(broken)),
             None => first_broken(alloc, second, value),
         },
-        Constraint::Either(..) => Ok(here(alloc, judge(rule, value), Fault::Neither)),
-        Constraint::Numbers(_) => Ok(here(alloc, judge(rule, value), Fault::Number)),
-        Constraint::Items(_) => Ok(here(alloc, judge(rule, value), Fault::Item)),
-        Constraint::Lengths(_) => Ok(here(alloc, judge(rule, value), Fault::Length)),
-        Constraint::Trimmed(_) => Ok(here(alloc, judge(rule, value), Fault::LastZeros)),
-        Constraint::Except(_) => Ok(here(alloc, judge(rule, value), Fault::Default)),
-        Constraint::SomePresent => Ok(here(alloc, judge(rule, value), Fault::Empty)),
-        Constraint::Components(parts) => match value {
-            Value::Seq(entries) => broken_part(alloc, parts, entries),
-            _ => Ok(here(alloc, false, Fault::Kind)),
+        Constraint::Components(components) => match value {
+            Value::Seq(entries) => broken_component(alloc, components, entries),
+            _ => Ok(Some(without_parts(alloc, constraint, value))),
         },
         Constraint::Elements(inner) => match value {
             Value::List(elements) => broken_element(alloc, inner, elements),
-            _ => Ok(here(alloc, false, Fault::Kind)),
+            _ => Ok(Some(without_parts(alloc, constraint, value))),
         },
-        Constraint::Alternatives(ways) => match value {
-            Value::Choice(tag, chosen) => broken_way(alloc, ways, *tag as usize, chosen),
-            _ => Ok(here(alloc, false, Fault::Kind)),
+        Constraint::Alternatives(alternatives) => match value {
+            Value::Choice(tag, chosen) => {
+                broken_alternative(alloc, alternatives, *tag as usize, chosen)
+            }
+            _ => Ok(Some(without_parts(alloc, constraint, value))),
         },
+        Constraint::Barred => Ok(itself(alloc, constraint, value, Reason::Barred)),
+        Constraint::Either(..) => Ok(itself(alloc, constraint, value, Reason::Neither)),
+        Constraint::Numbers(_) => Ok(itself(alloc, constraint, value, Reason::Number)),
+        Constraint::Items(_) => Ok(itself(alloc, constraint, value, Reason::Item)),
+        Constraint::Lengths(_) => Ok(itself(alloc, constraint, value, Reason::Length)),
+        Constraint::Characters(_) => Ok(itself(alloc, constraint, value, Reason::Character)),
+        Constraint::Trimmed(_) => Ok(itself(alloc, constraint, value, Reason::LastZeros)),
+        Constraint::Time(_) => Ok(itself(alloc, constraint, value, Reason::Time)),
+        Constraint::Except(_) => Ok(itself(alloc, constraint, value, Reason::Default)),
+        Constraint::SomePresent => Ok(itself(alloc, constraint, value, Reason::NonePresent)),
     }
 }
 
-/// The place of the value itself, unless it meets its rule.
-fn here(alloc: Global, is_met: bool, fault: Fault) -> Option<Broken>
-    ensures { is_none result ≡ is_met }
+/// The place of the value itself, unless it meets the constraint.
+fn itself(alloc: Global, constraint: &Constraint, value: &Value, reason: Reason) -> Option<Broken>
+    requires { reason_of (constraint_of constraint.now) ≡ Some reason }
+    ensures { Finds (constraint_of constraint.now) (datum_of value.now) result }
 {
-    if is_met {
+    if judge(constraint, value) {
         None
     } else {
-        Some(Broken {
-            fault,
-            way_out: Vec::new(alloc),
-        })
+        Some(here(alloc, reason))
+    }
+}
+
+/// The place of a value that has no such parts.
+fn without_parts(alloc: Global, constraint: &Constraint, value: &Value) -> Broken
+    requires { has_parts (constraint_of constraint.now) (datum_of value.now) ≡ false }
+    ensures { Finds (constraint_of constraint.now) (datum_of value.now) (Some result) }
+{
+    here(alloc, Reason::Kind)
+}
+
+/// The place of the value itself.
+fn here(alloc: Global, reason: Reason) -> Broken
+    ensures reason { result.reason ≡ reason }
+    ensures path { result.path.items ≡ [] }
+{
+    Broken {
+        reason,
+        path: Vec::new(alloc),
     }
 }
 
 /// The place, one step further in: at the component, element or alternative with this index.
-fn at(index: usize, broken: Broken) -> Result<Broken, AllocError> {
+fn at(index: usize, broken: Broken) -> Result<Broken, AllocError>
+    ensures reason { IfOk result (λ b. b.reason ≡ broken.reason) }
+    ensures path { IfOk result (λ b. reverse b.path.items ≡ index ∷ reverse broken.path.items) }
+{
     let mut outer = broken;
-    outer.way_out.push(index)?;
+    outer.path.push(index)?;
     Ok(outer)
 }
 
 /// The first place in the entries of a SEQUENCE.
 #[cycle(broken)]
-fn broken_part(
+fn broken_component(
     alloc: Global,
-    parts: &[Part],
+    components: &[Component],
     entries: &[Option<Value>],
 ) -> Result<Option<Broken>, AllocError>
-    ensures { IfOk result (λ b. is_none b ≡ meets_parts (parts_seen parts.now) (entries_seen entries.now)) }
+    ensures { IfOk result (λ found.
+        Finds (on_components (components_seen components.now)) (sequence_seen entries.now) found) }
 {
-    if entries.len() < parts.len() {
-        return Ok(here(alloc, false, Fault::Kind));
+    if entries.len() < components.len() {
+        return Ok(Some(here(alloc, Reason::Kind)));
     }
-    for (index, part) in parts.iter().enumerate() {
-        if let Some(broken) = broken_entry(alloc, part, &entries[index])? {
+    for (index, component) in components.iter().enumerate() {
+        if let Some(broken) = broken_entry(alloc, component, &entries[index])? {
             return Ok(Some(at(index, broken)?));
         }
     }
@@ -126,22 +207,24 @@ fn broken_part(
 #[cycle(broken)]
 fn broken_entry(
     alloc: Global,
-    part: &Part,
+    component: &Component,
     entry: &Option<Value>,
 ) -> Result<Option<Broken>, AllocError>
-    ensures { IfOk result (λ b. is_none b ≡ meets_part (part_of part.now) (option_map datum_of entry.now)) }
+    ensures { IfOk result (λ found. FindsEntry (on_one component.now) (option_map datum_of entry.now) found) }
 {
     match entry {
-        None => Ok(here(
-            alloc,
-            !matches!(part.presence, Presence::Present),
-            Fault::Missing,
-        )),
-        Some(value) => {
-            if matches!(part.presence, Presence::Absent) {
-                Ok(here(alloc, false, Fault::Barred))
+        None => {
+            if matches!(component.presence, Presence::Present) {
+                Ok(Some(here(alloc, Reason::Missing)))
             } else {
-                first_broken(alloc, &part.rule, value)
+                Ok(None)
+            }
+        }
+        Some(value) => {
+            if matches!(component.presence, Presence::Absent) {
+                Ok(Some(here(alloc, Reason::Present)))
+            } else {
+                first_broken(alloc, &component.constraint, value)
             }
         }
     }
@@ -151,13 +234,14 @@ fn broken_entry(
 #[cycle(broken)]
 fn broken_element(
     alloc: Global,
-    rule: &Constraint,
+    constraint: &Constraint,
     elements: &[Value],
 ) -> Result<Option<Broken>, AllocError>
-    ensures { IfOk result (λ b. is_none b ≡ list_all (λ d. meets (constraint_of rule.now) d) (map datum_of elements.now)) }
+    ensures { IfOk result (λ found.
+        Finds (on_elements (constraint_of constraint.now)) (list_seen elements.now) found) }
 {
     for (index, element) in elements.iter().enumerate() {
-        if let Some(broken) = first_broken(alloc, rule, element)? {
+        if let Some(broken) = first_broken(alloc, constraint, element)? {
             return Ok(Some(at(index, broken)?));
         }
     }
@@ -166,19 +250,31 @@ fn broken_element(
 
 /// The first place in the alternative with this index.
 #[cycle(broken)]
-fn broken_way(
+fn broken_alternative(
     alloc: Global,
-    ways: &[Constraint],
+    alternatives: &[Constraint],
     index: usize,
     chosen: &Value,
 ) -> Result<Option<Broken>, AllocError>
-    ensures { IfOk result (λ b. is_none b ≡ meets_at (ways_seen ways.now) index (datum_of chosen.now)) }
+    ensures { IfOk result (λ found.
+        Finds (on_alternatives (alternatives_seen alternatives.now)) (alternative index (datum_of chosen.now)) found) }
 {
-    if ways.len() <= index {
-        return Ok(here(alloc, false, Fault::Barred));
+    if is_barred(alternatives, index) {
+        return Ok(Some(at(index, here(alloc, Reason::Alternative))?));
     }
-    match first_broken(alloc, &ways[index], chosen)? {
-        Some(broken) => Ok(Some(at(index, broken)?)),
+    match first_broken(alloc, &alternatives[index], chosen)? {
         None => Ok(None),
+        Some(broken) => Ok(Some(at(index, broken)?)),
     }
+}
+
+/// Whether no value of the alternative with this index is allowed.
+fn is_barred(alternatives: &[Constraint], index: usize) -> bool
+    ensures barred { IsTrue result → alternative_at (alternatives_seen alternatives.now) index ≡ barred }
+    ensures listed { IsFalse result → index < length alternatives.now }
+{
+    if alternatives.len() <= index {
+        return true;
+    }
+    matches!(alternatives[index], Constraint::Barred)
 }

@@ -1,21 +1,22 @@
-//! Whether a value meets a rule.
+//! Whether a value meets a constraint.
 ghost use Rattle.std.specs.Prelude.{◌≡◌, map, option_map};
 ghost use Rattle.std.specs.List.{list_all};
 ghost use Rattle.asn_values.specs.View.{datum_of, entries_seen};
-ghost use Rattle.asn_constraints.specs.Constraints.{meets, meets_parts, meets_at, one_there};
-ghost use Rattle.asn_constraints.specs.View.{constraint_of, part_of, parts_seen, ways_seen, meets_part};
+ghost use Rattle.asn_constraints.specs.Constraints.{meets, meet_each, meets_at, one_present};
+ghost use Rattle.asn_constraints.specs.View.{constraint_of, on_one, components_seen, alternatives_seen, meets_one};
 
-use crate::constraint::{Part, Presence, Constraint};
-use crate::strings;
+use crate::constraint::{Component, Constraint, Presence};
+use crate::{strings, times};
 use asn_values::{Value, same};
 
-/// Whether the value meets the rule. Allocates nothing; calls itself as deep as the rule is.
+/// Whether the value meets the constraint. Allocates nothing; calls itself as deep as the constraint is.
 #[cycle(judge)]
-pub fn judge(rule: &Constraint, value: &Value) -> bool
-    ensures { result ≡ meets (constraint_of rule.now) (datum_of value.now) }
+pub fn judge(constraint: &Constraint, value: &Value) -> bool
+    ensures { result ≡ meets (constraint_of constraint.now) (datum_of value.now) }
 {
-    match rule {
+    match constraint {
         Constraint::Free => true,
+        Constraint::Barred => false,
         Constraint::Both(first, second) => judge(first, value) && judge(second, value),
         Constraint::Either(first, second) => judge(first, value) || judge(second, value),
         Constraint::Numbers(intervals) => {
@@ -27,81 +28,89 @@ pub fn judge(rule: &Constraint, value: &Value) -> bool
         Constraint::Lengths(lengths) => {
             strings::length_of(value).is_some_and(|length| strings::is_length(lengths, length))
         }
+        Constraint::Characters(intervals) => {
+            matches!(value, Value::Text(codes) if strings::are_among(intervals, codes))
+        }
         Constraint::Trimmed(low) => {
             matches!(value, Value::Bits(bits) if strings::is_trimmed(*low, bits))
         }
+        Constraint::Time(kind) => {
+            matches!(value, Value::Text(codes) if times::is_time(*kind, codes))
+        }
         Constraint::Except(default) => !same(default, value),
-        Constraint::Components(parts) => match value {
-            Value::Seq(entries) => parts_meet(parts, entries),
+        Constraint::Components(components) => match value {
+            Value::Seq(entries) => entries_meet(components, entries),
             _ => false,
         },
         Constraint::Elements(inner) => match value {
             Value::List(elements) => elements_meet(inner, elements),
             _ => false,
         },
-        Constraint::Alternatives(ways) => match value {
-            Value::Choice(tag, chosen) => way_meets(ways, *tag as usize, chosen),
+        Constraint::Alternatives(alternatives) => match value {
+            Value::Choice(tag, chosen) => alternative_meets(alternatives, *tag as usize, chosen),
             _ => false,
         },
         Constraint::SomePresent => match value {
-            Value::Seq(entries) => is_some_there(entries),
+            Value::Seq(entries) => is_one_present(entries),
             _ => false,
         },
     }
 }
 
-/// Whether there is an entry for each of the parts, and it meets its own.
+/// Whether there is an entry for each of the components, and it meets its own constraint.
 #[cycle(judge)]
-fn parts_meet(parts: &[Part], entries: &[Option<Value>]) -> bool
-    ensures { result ≡ meets_parts (parts_seen parts.now) (entries_seen entries.now) }
+fn entries_meet(components: &[Component], entries: &[Option<Value>]) -> bool
+    ensures { result ≡ meet_each (components_seen components.now) (entries_seen entries.now) }
 {
-    if entries.len() < parts.len() {
+    if entries.len() < components.len() {
         return false;
     }
-    for (index, part) in parts.iter().enumerate() {
-        if !part_meets(part, &entries[index]) {
+    for (index, component) in components.iter().enumerate() {
+        if !entry_meets(component, &entries[index]) {
             return false;
         }
     }
     true
 }
 
-/// Whether the entry may be absent if it is, and else may be there and meets the rule.
+/// Whether the entry may be absent if it is, and else may be there and meets the constraint.
 #[inline(always)]
 #[cycle(judge)]
-fn part_meets(part: &Part, entry: &Option<Value>) -> bool
-    ensures { result ≡ meets_part (part_of part.now) (option_map datum_of entry.now) }
+fn entry_meets(component: &Component, entry: &Option<Value>) -> bool
+    ensures { result ≡ meets_one (on_one component.now) (option_map datum_of entry.now) }
 {
     match entry {
-        None => !matches!(part.presence, Presence::Present),
-        Some(value) => !matches!(part.presence, Presence::Absent) && judge(&part.rule, value),
+        None => !matches!(component.presence, Presence::Present),
+        Some(value) => {
+            !matches!(component.presence, Presence::Absent) && judge(&component.constraint, value)
+        }
     }
 }
 
-/// Whether each element meets the rule.
+/// Whether each element meets the constraint.
 #[cycle(judge)]
-fn elements_meet(rule: &Constraint, elements: &[Value]) -> bool
-    ensures { result ≡ list_all (λ d. meets (constraint_of rule.now) d) (map datum_of elements.now) }
+fn elements_meet(constraint: &Constraint, elements: &[Value]) -> bool
+    ensures { result ≡ list_all (λ d. meets (constraint_of constraint.now) d) (map datum_of elements.now) }
 {
     for element in elements {
-        if !judge(rule, element) {
+        if !judge(constraint, element) {
             return false;
         }
     }
     true
 }
 
-/// Whether there is a rule for the alternative with this index, and the value meets it.
+/// Whether there is a constraint for the alternative with this index, and the value meets it.
 #[cycle(judge)]
-fn way_meets(ways: &[Constraint], index: usize, chosen: &Value) -> bool
-    ensures { result ≡ meets_at (ways_seen ways.now) index (datum_of chosen.now) }
+fn alternative_meets(alternatives: &[Constraint], index: usize, chosen: &Value) -> bool
+    ensures { result ≡ meets_at (alternatives_seen alternatives.now) index (datum_of chosen.now) }
 {
-    index < ways.len() && judge(&ways[index], chosen)
+    index < alternatives.len() && judge(&alternatives[index], chosen)
 }
 
 /// Whether some entry is a value.
-fn is_some_there(entries: &[Option<Value>]) -> bool
-    ensures { result ≡ one_there (entries_seen entries.now) }
+pub(crate) fn is_one_present(entries: &[Option<Value>]) -> bool
+    ensures { result ≡ one_present (entries_seen entries.now) }
 {
     for entry in entries {
         if entry.is_some() {

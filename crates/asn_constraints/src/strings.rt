@@ -1,7 +1,7 @@
-//! Intervals and lengths, and what is counted in a value.
-ghost use Rattle.std.specs.Prelude.{◌≡◌, map, string_bytes};
+//! Intervals, lengths and characters, and what is counted in a value.
+ghost use Rattle.std.specs.Prelude.{◌≡◌, map};
 ghost use Rattle.asn_values.specs.View.{datum_of};
-ghost use Rattle.asn_constraints.specs.Constraints.{is_among, is_one_of, is_length, is_trimmed, scalars, length_of};
+ghost use Rattle.asn_constraints.specs.Constraints.{is_among, is_one_of, is_length, is_trimmed, scalars, length_of, are_among};
 ghost use Rattle.asn_constraints.specs.View.{interval_of, lengths_of};
 
 use crate::constraint::{Interval, Lengths};
@@ -19,6 +19,18 @@ pub(crate) fn is_among(intervals: &[Interval], number: i128) -> bool
     false
 }
 
+/// Whether each code lies in one of the intervals.
+pub(crate) fn are_among(intervals: &[Interval], codes: &[u8]) -> bool
+    ensures { result ≡ are_among (map interval_of intervals.now) codes.now }
+{
+    for code in codes {
+        if !is_among(intervals, *code as i128) {
+            return false;
+        }
+    }
+    true
+}
+
 /// Whether the position is one of these.
 pub(crate) fn is_one_of(positions: &[u32], position: u32) -> bool
     ensures { result ≡ is_one_of positions.now position }
@@ -32,7 +44,7 @@ pub(crate) fn is_one_of(positions: &[u32], position: u32) -> bool
 }
 
 /// Whether the length lies between one of the pairs of bounds.
-pub(crate) fn is_length(lengths: &[Lengths], length: usize) -> bool
+pub fn is_length(lengths: &[Lengths], length: usize) -> bool
     ensures { result ≡ is_length (map lengths_of lengths.now) length }
 {
     for bounds in lengths {

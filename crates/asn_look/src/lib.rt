@@ -2,6 +2,7 @@
 //! refused, what it takes, and what is counted of many; the types of a module, and values to begin from.
 #![tactic(auto)]
 
+mod broken_parts;
 mod budget;
 mod counting;
 mod examples;
@@ -19,6 +20,7 @@ mod typed;
 mod valued;
 mod wanted;
 
+pub use broken_parts::{broken_at_end, broken_words};
 pub use budget::{over_in_line, over_text};
 pub use counting::Counts;
 pub use examples::{example_line, example_within};

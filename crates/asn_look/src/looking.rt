@@ -1,12 +1,16 @@
 //! What is shown of a module: its types, values of a type to begin from, and messages field by field.
+use crate::broken_parts::broken_words;
 use crate::examples::example_within;
 use crate::fault::ShowFault;
 use crate::field_lines::{Shown, show_messages};
+use asn_constraints::{Constraint, judge_at};
+use asn_examples::value_within;
 use asn_fields::outline;
 use asn_module::Module;
 use asn_request::asking::Asking;
 use asn_request::look::{Look, Looking};
 use asn_values::Checked;
+use std::alloc::AllocError;
 use std::io::BufRead;
 
 /// The most parts of an example, and entries of the value of a line of JSON, unless `--budget` says otherwise.
@@ -15,8 +19,8 @@ pub const MOST_ENTRIES: u32 = 1_000_000;
 /// The most fields of a message, unless `--budget` says otherwise.
 const MOST_FIELDS: u32 = 100_000;
 
-/// Shows what is asked for of a module, and gives the exit status; `None` where it has no type of the name, and nothing is
-/// shown.
+/// Shows what is asked for of a module, and gives the exit status; `None` if it has no type of the name, and nothing is
+/// shown. The constraint is that on values of the type that is named, if it has one.
 ///
 /// # Errors
 /// Where reading, writing or memory failed.
@@ -24,6 +28,7 @@ pub fn show_of<'a, R: BufRead>(
     rt: &HostRuntime,
     look: &Look,
     module: &Module,
+    constraint: Option<&Constraint>,
     asking: &Asking<'a>,
     lines: &mut R,
 ) -> Result<Option<u8>, ShowFault<'a>> {
@@ -32,7 +37,10 @@ pub fn show_of<'a, R: BufRead>(
     };
     let name = name.as_str();
     match module.type_named(name) {
-        Some(ty) => Ok(Some(show_type(rt, look, name, ty, asking, lines)?)),
+        Some(ty) => {
+            let status = show_type(rt, look, name, ty, constraint, asking, lines)?;
+            Ok(Some(status))
+        }
         None => Ok(None),
     }
 }
@@ -43,6 +51,7 @@ fn show_type<'a, R: BufRead>(
     look: &Look,
     name: &str,
     ty: &Checked,
+    constraint: Option<&Constraint>,
     asking: &Asking<'a>,
     lines: &mut R,
 ) -> Result<u8, ShowFault<'a>> {
@@ -51,6 +60,7 @@ fn show_type<'a, R: BufRead>(
             let shown = Shown {
                 ty,
                 name,
+                constraint,
                 rules: look.rules,
                 forms: asking.forms,
                 is_page: look.is_page,
@@ -63,7 +73,10 @@ fn show_type<'a, R: BufRead>(
             written(rt, outline(rt.alloc(), name, ty)?.as_str())?;
             Ok(0)
         }
-        Looking::Example => show_examples(rt, look, ty, asking.budget.unwrap_or(MOST_ENTRIES)),
+        Looking::Example => {
+            let most = asking.budget.unwrap_or(MOST_ENTRIES);
+            show_examples(rt, look, ty, constraint, most)
+        }
     }
 }
 
@@ -85,15 +98,16 @@ fn show_examples<'a>(
     rt: &HostRuntime,
     look: &Look,
     ty: &Checked,
+    constraint: Option<&Constraint>,
     most: u32,
 ) -> Result<u8, ShowFault<'a>> {
     let Look { seed, count, .. } = *look;
     if seed.is_none() && count.is_none() {
-        return show_example(rt, ty, None, most);
+        return show_example(rt, ty, constraint, None, most);
     }
     let first = u64::from(seed.unwrap_or(0));
     for later in 0..u64::from(count.unwrap_or(1)) {
-        let status = show_example(rt, ty, Some(first.saturating_add(later)), most)?;
+        let status = show_example(rt, ty, constraint, Some(first.saturating_add(later)), most)?;
         if status > 0 {
             return Ok(status);
         }
@@ -101,16 +115,19 @@ fn show_examples<'a>(
     Ok(0)
 }
 
-/// Writes the value of a seed, or the least one, and gives the exit status.
+/// Writes the value of a seed, or the least one, and gives the exit status. Standard error says what of the value breaks the
+/// constraint.
 fn show_example<'a>(
     rt: &HostRuntime,
     ty: &Checked,
+    constraint: Option<&Constraint>,
     seed: Option<u64>,
     most: u32,
 ) -> Result<u8, ShowFault<'a>> {
     match example_within(rt.alloc(), ty, seed, u64::from(most))? {
         Some(line) => {
             written(rt, line.as_str())?;
+            tell_broken(rt, ty, constraint, seed, most)?;
             Ok(0)
         }
         None => {
@@ -120,6 +137,27 @@ fn show_example<'a>(
             Ok(1)
         }
     }
+}
+
+/// Says on standard error what of the value of a seed, or of the least one, breaks the constraint.
+fn tell_broken(
+    rt: &HostRuntime,
+    ty: &Checked,
+    constraint: Option<&Constraint>,
+    seed: Option<u64>,
+    most: u32,
+) -> Result<(), AllocError> {
+    let Some(constraint) = constraint else {
+        return Ok(());
+    };
+    let Some(value) = value_within(rt.alloc(), ty, seed, u64::from(most))? else {
+        return Ok(());
+    };
+    if let Some(broken) = judge_at(rt.alloc(), constraint, &value)? {
+        let words = broken_words(rt.alloc(), ty.get(), &broken)?;
+        let _ = eprintln!(rt; "change the value before you encode it: {words}");
+    }
+    Ok(())
 }
 
 /// Writes to standard output.

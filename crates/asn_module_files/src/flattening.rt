@@ -2,6 +2,8 @@
 use crate::sources::MOST;
 use crate::stop::Stop;
 use crate::texts::{texts_of, views_of};
+use asn_constraint_text::{constraint_text, with_constraints};
+use asn_constraints::Constraint;
 use asn_published::{
     Flattened, Options, Status, TypeReport, flatten_type_within, flatten_within, missing_json,
     missing_text, report_json, report_text, summary_of,
@@ -24,7 +26,8 @@ pub fn flatten_files<'a>(
         None => flattened_of(rt, files, options)?,
     };
     let told = told_in(rt.alloc(), files, &flattened, form)?;
-    write_both(rt, flattened.text.as_str(), told.as_str())?;
+    let text = text_of(rt.alloc(), &flattened)?;
+    write_both(rt, text.as_str(), told.as_str())?;
     Ok(flatten_ending(flattened.report.as_slice()))
 }
 
@@ -63,6 +66,27 @@ fn flattened_of<'a>(
         Ok(flattened) => Ok(flattened),
         Err(fault) => Err(Stop::of(files, fault)),
     }
+}
+
+/// The text of a module, with a line for the constraint of each type that has one.
+fn text_of(alloc: Global, flattened: &Flattened) -> Result<String, AllocError> {
+    let mut names = Vec::new(alloc);
+    let mut texts = Vec::new(alloc);
+    for (index, one) in flattened.report.iter().enumerate() {
+        let constraint = flattened.constraint_at(alloc, index)?;
+        if let Constraint::Free = &constraint {
+            continue;
+        }
+        if let Some(ty) = flattened.module.type_named(one.name.as_str()) {
+            names.push(one.name.as_str())?;
+            texts.push(constraint_text(alloc, ty.get(), &constraint)?)?;
+        }
+    }
+    let mut lines = Vec::new(alloc);
+    for (name, text) in names.iter().zip(&texts) {
+        lines.push((*name, text.as_str()))?;
+    }
+    with_constraints(alloc, flattened.text.as_str(), lines.as_slice())
 }
 
 /// Writes the one text to standard output, and the other to standard error.

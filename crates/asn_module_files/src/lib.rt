@@ -3,6 +3,7 @@
 #![tactic(auto)]
 
 mod flattening;
+mod published;
 mod refused;
 mod sources;
 mod stop;
@@ -11,6 +12,7 @@ mod terminal;
 mod texts;
 
 pub use flattening::flatten_files;
+pub use published::Published;
 pub use refused::text_told;
 pub use sources::{Instead, MOST, input_with, instead_of, module_of};
 pub use stop::Stop;

@@ -7,11 +7,12 @@ ghost use Rattle.asn_jobs.specs.Lines.{job_lines, lines_of, module_text};
 ghost use Rattle.asn_request.specs.Request.{texts_of};
 ghost use Rattle.asn_module_files.specs.Sources.{IsInput, IsInputOf, IsOwn, IsOwnInput, IsRead, IsReadText, IsReadWithin, IsNotLarge, mark};
 
+use crate::published::Published;
 use asn_jobs::{Job, cut_input};
 use asn_module::{BoundFault, Module, ModuleFault, read_within};
 use asn_published::{
-    Flattened, Marks, Options, PublishedFault, Status, TypeReport, flatten_type_within,
-    flatten_within, missing_text, refused_text, report_text, text_of_octets, way_text,
+    Flattened, Options, PublishedFault, Status, TypeReport, flatten_type_within, flatten_within,
+    missing_text, refused_text, report_text, text_of_octets, way_text,
 };
 use std::alloc::{AllocError, Global};
 
@@ -29,8 +30,8 @@ const STDIN: &str = "<stdin>";
 pub struct Instead {
     pub octets: Option<Vec<u8>>,
     pub remarks: String,
-    /// What is not looked at of the values of the type of the job, if there is something.
-    pub marks: Option<Marks>,
+    /// What the published type of the job has in addition to the type of the profile.
+    pub published: Published,
     /// Whether no type of the module is refused.
     pub is_whole: bool,
 }
@@ -60,8 +61,10 @@ pub fn instead_of(
     let Ok(text) = std::str::from_utf8(text) else {
         return passed_over(alloc, text, rest, options, job);
     };
-    if is_own(alloc, text)? {
-        return Ok(same(alloc)?);
+    if let Some(module) = own_of(alloc, text)? {
+        let mut instead = same(alloc)?;
+        instead.published = Published::of_own(alloc, text, module, job)?;
+        return Ok(instead);
     }
     published(alloc, text, rest, options, job)
 }
@@ -100,7 +103,7 @@ fn published(
         Err(fault) => Ok(Instead {
             octets: None,
             remarks: fault_line(alloc, fault)?,
-            marks: None,
+            published: Published::free(),
             is_whole: false,
         }),
     }
@@ -131,20 +134,9 @@ fn same(alloc: Global) -> Result<Instead, AllocError>
     Ok(Instead {
         octets: None,
         remarks: String::new(alloc),
-        marks: None,
+        published: Published::free(),
         is_whole: true,
     })
-}
-
-/// Whether the text is a module of the profile, which is no larger than `MOST`.
-fn is_own(alloc: Global, text: &str) -> Result<bool, PublishedFault>
-    ensures no { IfOk result (λ is. is ≡ false → IsOwn text.now → ⊥) }
-    ensures yes { IfOk result (λ is. is ≡ true → IsReadWithin text.now) }
-{
-    match own_of(alloc, text)? {
-        Some(_) => Ok(true),
-        None => Ok(false),
-    }
 }
 
 /// The module of the profile that the text is, if it is one, which is no larger than `MOST`.
@@ -218,7 +210,11 @@ pub fn input_with(
         → IsSomeAnd i.octets (λ o. IsOwnInput text rest.now o.items) × (string_bytes i.remarks ≡ [])) }
 {
     match own_among(alloc, texts)? {
-        Some(own) => Ok(own_input(alloc, own.text, &own.meant, rest)?),
+        Some(own) => {
+            let mut input = own_input(alloc, own.text, &own.meant, rest)?;
+            input.published = Published::of_own(alloc, own.text, own.meant, job)?;
+            Ok(input)
+        }
         None => published_input(alloc, files, texts, rest, options, job),
     }
 }
@@ -280,7 +276,7 @@ fn flattened_input(
         return Ok(Instead {
             octets: None,
             remarks,
-            marks: None,
+            published: Published::free(),
             is_whole,
         });
     }
@@ -288,17 +284,9 @@ fn flattened_input(
     Ok(Instead {
         octets,
         remarks,
-        marks: marks_for(flattened, job),
+        published: Published::of_flattened(alloc, flattened, job)?,
         is_whole,
     })
-}
-
-/// The marks of the type of a job.
-fn marks_for(flattened: Flattened, job: &Job) -> Option<Marks> {
-    match job {
-        Job::Module => None,
-        Job::Lines { type_name, .. } => flattened.into_marks(type_name.as_str()),
-    }
 }
 
 /// Whether a text can stand in front of the line ==== as it is: it ends a line, and has no such line.
@@ -321,7 +309,7 @@ fn own_input(alloc: Global, text: &str, own: &Module, rest: &[u8]) -> Result<Ins
     Ok(Instead {
         octets: Some(octets),
         remarks: String::new(alloc),
-        marks: None,
+        published: Published::free(),
         is_whole: true,
     })
 }

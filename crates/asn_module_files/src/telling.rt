@@ -1,11 +1,12 @@
 //! The input of a job, and what is told on standard error of its module.
+use crate::published::Published;
 use crate::refused::{advice_told, line_told, text_told};
 use crate::sources::{Instead, input_with, instead_of};
 use crate::stop::Stop;
 use crate::terminal::printable;
 use crate::texts::{texts_of, views_of};
 use asn_jobs::Job;
-use asn_published::{Marks, Options, PublishedFault};
+use asn_published::{Options, PublishedFault};
 use asn_request::asking::Asking;
 use std::alloc::AllocError;
 use std::io::IsTerminal;
@@ -15,12 +16,12 @@ pub fn tells_of_module(rt: &HostRuntime, asking: &Asking<'_>) -> bool {
     asking.is_explained || rt.stderr().is_terminal()
 }
 
-/// The octets that a job reads instead of standard input, what is not looked at of the values of its type, if there is
-/// something, and whether no type of its module is refused.
+/// The octets that a job reads instead of standard input, what its published type has in addition to the type of the profile,
+/// and whether no type of its module is refused.
 #[derive(Drop)]
 pub struct Input {
     pub octets: Vec<u8>,
-    pub marks: Option<Marks>,
+    pub published: Published,
     pub is_whole: bool,
 }
 
@@ -39,13 +40,13 @@ pub fn input_given(
     let Instead {
         octets,
         remarks,
-        marks,
+        published,
         is_whole,
     } = instead_of(rt.alloc(), given.as_slice(), options, job)?;
     tell_remarks(rt, remarks.as_str(), is_told)?;
     Ok(Input {
         octets: octets.unwrap_or(given),
-        marks,
+        published,
         is_whole,
     })
 }
@@ -71,7 +72,7 @@ pub fn input_of_files<'a>(
             Instead {
                 octets,
                 remarks,
-                marks,
+                published,
                 is_whole,
             },
         ) => {
@@ -79,7 +80,7 @@ pub fn input_of_files<'a>(
             match octets {
                 Some(octets) => Ok(Some(Input {
                     octets,
-                    marks,
+                    published,
                     is_whole,
                 })),
                 None => Ok(None),

@@ -13,6 +13,7 @@ use crate::naming::{level_mark_of, names_of};
 use crate::reaching::order_for;
 use crate::refusing::{refuse, refuse_large};
 use crate::reports::{Reported, reports_of};
+use asn_constraints::Constraint;
 use asn_module::{MOST_SIZE, Module, read_within};
 use asn_published_read::texts::read_texts;
 use asn_published_report::missing::{MissingImport, missing_imports};
@@ -24,6 +25,7 @@ use asn_published_types::numbers::numbers_of;
 use asn_published_types::pieces::push_pieces;
 use asn_published_types::report::{Status, TypeReport};
 use asn_published_types::steps::Marked;
+use asn_published_types::tree::constraint_at;
 use asn_published_write::sources::Sources;
 use asn_published_write::written::{Written, whole_level, write_all};
 use std::alloc::{AllocError, Global};
@@ -53,6 +55,33 @@ impl Flattened {
             (type_named self.now.report.items name.now) }
     {
         status_named(self.report.as_slice(), name)
+    }
+
+    /// Which values of the type of a name the published type has, as far as no encoding shows it; `Free` where it has each,
+    /// or there is no such type.
+    ///
+    /// # Errors
+    /// `AllocError` where an allocation failed.
+    pub fn constraint_of(&self, alloc: Global, name: &str) -> Result<Constraint, AllocError> {
+        let mut places = self.places.iter();
+        for one in &self.report {
+            let place = places.next();
+            if let (Some(place), true) = (place, *one.name.as_str() == *name) {
+                return constraint_at(alloc, self.marked.as_slice(), *place);
+            }
+        }
+        Ok(Constraint::Free)
+    }
+
+    /// The same of the type at an index of the report.
+    ///
+    /// # Errors
+    /// `AllocError` where an allocation failed.
+    pub fn constraint_at(&self, alloc: Global, index: usize) -> Result<Constraint, AllocError> {
+        match self.places.get(index) {
+            Some(place) => constraint_at(alloc, self.marked.as_slice(), *place),
+            None => Ok(Constraint::Free),
+        }
     }
 
     /// The marks of the type of a name; `None` where nothing of its values is to be said, or there is no such type.

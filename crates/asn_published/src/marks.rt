@@ -36,7 +36,7 @@ impl Marks {
     /// The marks of the type at an index among these; `None` where it has none.
     pub(crate) fn of(types: Vec<Marked>, start: usize, levels: u32) -> Option<Marks> {
         match types.get(start) {
-            Some(one) if !one.steps.is_empty() => {}
+            Some(one) if one.is_marked() => {}
             _ => return None,
         }
         Some(Marks {

@@ -268,7 +268,12 @@ pub struct Values<'a, 't> {
 impl<'a, 't> Values<'a, 't> {
     /// The number of a named one, where `{` of the named ones is at `braces` of the module; `None` where none has
     /// the name. A fault where there are too many of them.
-    fn named(&self, module: usize, braces: usize, name: &str) -> Result<Option<i128>, Why> {
+    pub(crate) fn named(
+        &self,
+        module: usize,
+        braces: usize,
+        name: &str,
+    ) -> Result<Option<i128>, Why> {
         let Some(tokens) = self.world.tokens_of(module) else {
             return Err(Why::Value);
         };

@@ -1,6 +1,19 @@
-//! The nodes of a type as it is written, in the order of its text, with what is not looked at there.
+//! The nodes of a type as it is written, in the order of its text, each with its constraint and with what is not looked at
+//! there.
+use crate::joining::both;
 use crate::report::Remark;
+use asn_constraints::Constraint;
 use std::alloc::{AllocError, Global};
+use std::mem;
+
+/// What a node holds.
+#[derive(Clone, Copy, PartialEq, Eq)]
+pub enum Holds {
+    Nothing,
+    Components,
+    Element,
+    Alternatives,
+}
 
 /// A node of a type that is written.
 #[derive(Drop)]
@@ -11,15 +24,22 @@ pub struct Step {
     pub end: usize,
     /// What is to be said of its values.
     pub remarks: Vec<Remark>,
+    /// Which of its values the published type has, as far as no encoding shows it.
+    pub constraint: Constraint,
+    /// Whether the constraint has that of the type that it names.
+    pub is_whole: bool,
+    pub holds: Holds,
     /// The type that it names, by its index among those that are written.
     pub to: Option<usize>,
     /// Whether recursion ends there.
     pub is_bottom: bool,
     /// Whether nothing is to be said of its values, nor of what they hold.
     pub is_clean: bool,
+    /// Whether neither its values nor what they hold have a constraint.
+    pub is_free: bool,
 }
 
-/// A type that is written: no nodes, where nothing is to be said of its values.
+/// A type that is written: no nodes, where its values have no constraint, and nothing is to be said of them.
 #[derive(Drop)]
 pub struct Marked {
     pub steps: Vec<Step>,
@@ -35,10 +55,36 @@ fn is_of_values(remark: Remark) -> bool {
     )
 }
 
+impl Marked {
+    /// Whether something is to be said of its values.
+    pub fn is_marked(&self) -> bool {
+        match self.steps.first() {
+            Some(step) => !step.is_clean,
+            None => false,
+        }
+    }
+
+    /// Whether its values have a constraint.
+    pub fn is_constrained(&self) -> bool {
+        match self.steps.first() {
+            Some(step) => !step.is_free,
+            None => false,
+        }
+    }
+}
+
 /// Whether a type among those that are written has nodes of which something is to be said.
 fn is_marked(types: &[Marked], index: usize) -> bool {
     match types.get(index) {
-        Some(one) => !one.steps.is_empty(),
+        Some(one) => one.is_marked(),
+        None => false,
+    }
+}
+
+/// Whether a type among those that are written has values with a constraint.
+fn is_constrained(types: &[Marked], index: usize) -> bool {
+    match types.get(index) {
+        Some(one) => one.is_constrained(),
         None => false,
     }
 }
@@ -85,9 +131,13 @@ impl Trail {
             depth,
             end: 0,
             remarks: Vec::new(alloc),
+            constraint: Constraint::Free,
+            is_whole: false,
+            holds: Holds::Nothing,
             to: None,
             is_bottom: false,
             is_clean: true,
+            is_free: true,
         })?;
         Ok(())
     }
@@ -108,6 +158,40 @@ impl Trail {
     pub fn end_recursion(&mut self) {
         if let Some(step) = self.steps.last_mut() {
             step.is_bottom = true;
+        }
+    }
+
+    /// Takes what the last node holds.
+    pub fn hold(&mut self, holds: Holds) {
+        if let Some(step) = self.steps.last_mut() {
+            step.holds = holds;
+        }
+    }
+
+    /// Takes that the constraint of the last node has that of the type that it names.
+    pub fn take_whole(&mut self) {
+        if let Some(step) = self.steps.last_mut() {
+            step.is_whole = true;
+        }
+    }
+
+    /// Takes a constraint on the values of a node that was written.
+    pub fn constrain(
+        &mut self,
+        alloc: Global,
+        node: usize,
+        constraint: Constraint,
+    ) -> Result<(), AllocError> {
+        let Some(at) = self.place_of(node) else {
+            return Ok(());
+        };
+        match self.steps.get_mut(at) {
+            Some(step) => {
+                let before = mem::replace(&mut step.constraint, Constraint::Free);
+                step.constraint = both(alloc, before, constraint)?;
+                Ok(())
+            }
+            None => Ok(()),
         }
     }
 
@@ -148,48 +232,68 @@ impl Trail {
             }
         }
         close(&mut steps, types);
-        let is_clean = match steps.first() {
-            Some(step) => step.is_clean,
+        let is_needless = match steps.first() {
+            Some(step) => step.is_clean && step.is_free,
             None => true,
         };
         Marked {
-            steps: if is_clean { Vec::new(alloc) } else { steps },
+            steps: if is_needless { Vec::new(alloc) } else { steps },
             has_bottom,
         }
     }
 }
 
-/// Gives each node its end, and whether nothing is to be said of it and of what it holds.
+/// What is known of a node once the nodes after it are known.
+#[derive(Clone, Copy)]
+struct Ending {
+    end: usize,
+    is_clean: bool,
+    is_free: bool,
+}
+
+/// Gives each node its end, and whether it has no remark and no constraint, with what it holds.
 fn close(steps: &mut Vec<Step>, types: &[Marked]) {
     let mut index = steps.len();
     for _ in 0..steps.len() {
         index = index.saturating_sub(1);
-        let (end, is_clean) = ending_of(steps.as_slice(), index, types);
+        let ending = ending_of(steps.as_slice(), index, types);
         if let Some(step) = steps.get_mut(index) {
-            step.end = end;
-            step.is_clean = is_clean;
+            step.end = ending.end;
+            step.is_clean = ending.is_clean;
+            step.is_free = ending.is_free;
         }
     }
 }
 
-/// The end of a node, and whether nothing is to be said of it, where those of the nodes after it are known.
-fn ending_of(steps: &[Step], index: usize, types: &[Marked]) -> (usize, bool) {
+/// What is known of a node, where those after it are known.
+fn ending_of(steps: &[Step], index: usize, types: &[Marked]) -> Ending {
     let Some(step) = steps.get(index) else {
-        return (index, true);
+        return Ending {
+            end: index,
+            is_clean: true,
+            is_free: true,
+        };
     };
     let mut is_clean = step.remarks.is_empty() && !step.is_bottom;
+    let mut is_free = matches!(&step.constraint, Constraint::Free);
     if let Some(to) = step.to {
         is_clean &= !is_marked(types, to);
+        is_free &= step.is_whole || !is_constrained(types, to);
     }
     let mut at = index.saturating_add(1);
     for _ in index..steps.len() {
         match steps.get(at) {
             Some(inner) if inner.depth > step.depth => {
                 is_clean &= inner.is_clean;
+                is_free &= inner.is_free;
                 at = inner.end;
             }
             _ => break,
         }
     }
-    (at, is_clean)
+    Ending {
+        end: at,
+        is_clean,
+        is_free,
+    }
 }

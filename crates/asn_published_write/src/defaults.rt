@@ -1,6 +1,7 @@
 //! DEFAULTs that the profile takes.
 use crate::known::Known;
 use crate::writer::Writer;
+use asn_published_text::nodes::Node;
 use asn_published_text::refusal::Refusal;
 use asn_published_types::bounds::{Numbers, is_integer, numbers_between};
 use asn_published_types::info::Base;
@@ -16,6 +17,12 @@ fn is_one_of_more(number: i128, low: Option<i128>, high: Option<i128>) -> bool {
     low <= number && number <= high && low < high
 }
 
+/// The node of the type that holds a component, in whose text its DEFAULT is.
+fn holder_of<'t>(known: &Known<'_, 't>, index: usize) -> Option<Node<'t>> {
+    let component = known.forest.node(index)?;
+    known.forest.node(component.parent)
+}
+
 impl<'t> Writer<'t> {
     /// The DEFAULT from `start` to before `end` as the profile has it, of a component whose type was written last;
     /// `None` where the profile does not take it.
@@ -27,7 +34,7 @@ impl<'t> Writer<'t> {
         start: usize,
         end: usize,
     ) -> Result<Option<String>, Refusal> {
-        let Some(node) = known.forest.node(index) else {
+        let Some(node) = holder_of(known, index) else {
             return Ok(None);
         };
         let Some(tokens) = known.values.world.tokens_of(node.module) else {

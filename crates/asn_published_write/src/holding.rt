@@ -2,14 +2,28 @@
 use crate::known::Known;
 use crate::writer::{Task, Writer};
 use crate::writing::is_extensible;
+use asn_constraints::Constraint;
 use asn_published_text::extents::after_tags;
 use asn_published_text::nodes::{Holder, Member, MemberKind, Need, Node, Shape};
 use asn_published_text::refusal::{Refusal, Why, refused};
 use asn_published_types::layout::{Layout, Placed, TagOrder, layout_of, sort_by_tags};
 use asn_published_types::limits::{MOST_ADDITIONS, MOST_COMPONENTS};
 use asn_published_types::report::Remark;
+use asn_published_types::steps::Holds;
 use asn_published_types::tags::is_automatic;
 use std::alloc::Global;
+
+/// A SEQUENCE, SET, CHOICE or group that is written.
+#[derive(Clone, Copy)]
+struct Members {
+    index: usize,
+    holder: Holder,
+    is_marked: bool,
+    /// It is a group that may have no component.
+    may_be_empty: bool,
+    /// How many levels down its members are.
+    depth: usize,
+}
 
 impl<'t> Writer<'t> {
     /// Writes the beginning of SEQUENCE or CHOICE, and asks for its members.
@@ -31,22 +45,33 @@ impl<'t> Writer<'t> {
         else {
             return Ok(());
         };
-        if node.constraints < node.end {
-            self.remark(alloc, known, index, Remark::Dropped)?;
-        }
+        self.take_allowed(alloc, known, index)?;
         let layout = self.layout_of_node(alloc, known, node, holder, (from, to))?;
         let layout = self.in_order(alloc, known, index, node, holder, tagged, layout)?;
         let is_group = is_group(known, node);
-        if is_group && layout.may_be_empty(known.forest) {
-            self.remark(alloc, known, index, Remark::EmptyGroup)?;
+        let may_be_empty = is_group && layout.may_be_empty(known.forest);
+        if may_be_empty {
+            // (without components it is absent)
+            self.trail.constrain(alloc, index, Constraint::SomePresent)?;
         }
+        self.trail.hold(if holder == Holder::Choice {
+            Holds::Alternatives
+        } else {
+            Holds::Components
+        });
         let is_marked = marked || (is_extensible(known, node) && !is_group);
         // a CHOICE of more than one alternative has an index
         let is_single = holder != Holder::Choice || layout.root.len() == 1;
         self.held.without_bits.push(!is_marked && is_single)?;
+        let written = Members {
+            index,
+            holder,
+            is_marked,
+            may_be_empty,
+            depth: depth.saturating_add(1),
+        };
         let mut tasks = Vec::new(alloc);
-        let below = depth.saturating_add(1);
-        self.push_members(alloc, known, &mut tasks, holder, &layout, is_marked, below)?;
+        self.push_members(alloc, known, &mut tasks, written, &layout)?;
         self.ask_for(tasks.as_slice())
     }
 
@@ -115,97 +140,53 @@ impl<'t> Writer<'t> {
         alloc: Global,
         known: &Known<'_, 't>,
         tasks: &mut Vec<Task<'t>>,
-        holder: Holder,
+        written: Members,
         layout: &Layout,
-        marked: bool,
-        depth: usize,
     ) -> Result<(), Refusal> {
-        let is_choice = holder == Holder::Choice;
+        let is_choice = written.holder == Holder::Choice;
         tasks.push(Task::Text(if is_choice {
             " CHOICE {"
         } else {
             " SEQUENCE {"
         }))?;
-        push_root(known, tasks, layout.root.as_slice(), depth)?;
-        if marked {
+        push_root(known, tasks, layout.root.as_slice(), written)?;
+        if written.is_marked {
             let is_first = layout.root.is_empty();
             tasks.push(Task::Text(if is_first { " ..." } else { ", ..." }))?;
-            let need = if is_choice { "" } else { " OPTIONAL" };
-            self.push_additions(
-                alloc,
+            push_additions(
                 known,
                 tasks,
-                need,
                 layout.additions.as_slice(),
-                depth,
+                is_choice,
+                written.depth,
             )?;
+        }
+        if !is_choice {
+            self.take_left_out(alloc, known, tasks, written.index, layout)?;
         }
         Ok(tasks.extend_from_slice(&[Task::Text(" }"), Task::Members])?)
     }
+}
 
-    /// What is to be written of additions, in order, with `need` after each.
-    fn push_additions(
-        &mut self,
-        alloc: Global,
-        known: &Known<'_, 't>,
-        tasks: &mut Vec<Task<'t>>,
-        need: &'static str,
-        additions: &[Placed],
-        depth: usize,
-    ) -> Result<(), Refusal> {
-        let mut left = additions.len();
-        for placed in additions {
-            left = left.saturating_sub(1);
-            if let Some(member) = known.forest.member(placed.member) {
-                push_member(tasks, &member, ",", depth)?;
-                tasks.push(Task::Text(need))?;
-                let is_before_another = !need.is_empty() && left > 0;
-                let remark = remark_on_addition(alloc, known, &member, is_before_another)?;
-                if let Some(remark) = remark {
-                    self.note(alloc, known, member.node, remark)?;
-                    tasks.push(Task::Mark(member.node, remark))?;
-                }
+/// What is to be written of additions, in order: those of a SEQUENCE are OPTIONAL.
+fn push_additions<'t>(
+    known: &Known<'_, 't>,
+    tasks: &mut Vec<Task<'t>>,
+    additions: &[Placed],
+    is_choice: bool,
+    depth: usize,
+) -> Result<(), Refusal> {
+    for placed in additions {
+        if let Some(member) = known.forest.member(placed.member) {
+            push_member(tasks, &member, ",", depth)?;
+            match member.need {
+                _ if is_choice => {}
+                Need::Default { .. } => tasks.push(Task::Apart(member.node, member.need))?,
+                _ => tasks.push(Task::Text(" OPTIONAL"))?,
             }
         }
-        Ok(())
     }
-}
-
-/// What is to be said of an extension addition: its DEFAULT is not written, or one that is not OPTIONAL stands before another,
-/// which may be there without it.
-fn remark_on_addition<'t>(
-    alloc: Global,
-    known: &Known<'_, 't>,
-    member: &Member<'t>,
-    is_before_another: bool,
-) -> Result<Option<Remark>, Refusal> {
-    if let Need::Default { .. } = member.need {
-        return Ok(Some(Remark::Default));
-    }
-    if is_before_another && has_to_be_there(alloc, known, member)? {
-        return Ok(Some(Remark::LeftOut));
-    }
-    Ok(None)
-}
-
-/// Whether an addition has to be there in the versions that have it: it is not OPTIONAL, or is a group in which a component
-/// has to be there.
-fn has_to_be_there<'t>(
-    alloc: Global,
-    known: &Known<'_, 't>,
-    member: &Member<'t>,
-) -> Result<bool, Refusal> {
-    let MemberKind::Group(_) = member.kind else {
-        return Ok(matches!(member.need, Need::Must));
-    };
-    let Some(node) = known.forest.node(member.node) else {
-        return Ok(false);
-    };
-    let Shape::Members { from, to, .. } = node.shape else {
-        return Ok(false);
-    };
-    let layout = layout_of(alloc, known.tagging(), (from, to), known.line_of(&node))?;
-    Ok(!layout.may_be_empty(known.forest))
+    Ok(())
 }
 
 /// What is to be written of the members of a root, in order.
@@ -213,13 +194,18 @@ fn push_root<'t>(
     known: &Known<'_, 't>,
     tasks: &mut Vec<Task<'t>>,
     root: &[Placed],
-    depth: usize,
+    written: Members,
 ) -> Result<(), Refusal> {
     let mut comma = "";
     for placed in root {
         if let Some(member) = known.forest.member(placed.member) {
-            push_member(tasks, &member, comma, depth)?;
-            tasks.push(Task::Need(member.node, member.need))?;
+            push_member(tasks, &member, comma, written.depth)?;
+            tasks.push(if written.may_be_empty {
+                // (a group is there where a component is, which is not its DEFAULT)
+                Task::Apart(member.node, member.need)
+            } else {
+                Task::Need(member.node, member.need)
+            })?;
         }
         comma = ",";
     }

@@ -7,6 +7,7 @@ use asn_published_types::info::State;
 use asn_published_types::numbers::{Scope, Values};
 use asn_published_types::order::Order;
 use asn_published_types::pieces::push_pieces;
+use asn_published_types::subtypes::Subtypes;
 use asn_published_types::tags::Tagging;
 use std::alloc::{AllocError, Global};
 
@@ -149,6 +150,14 @@ impl<'a, 't> Known<'a, 't> {
             forest: self.forest,
             firsts: self.types.firsts,
             numbers: self.values.numbers,
+        }
+    }
+
+    /// What the constraints of types are read with.
+    pub fn subtypes(&self) -> Subtypes<'a, 't> {
+        Subtypes {
+            values: self.values,
+            tagging: self.tagging(),
         }
     }
 

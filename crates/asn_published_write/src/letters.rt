@@ -1,6 +1,9 @@
 //! Which characters a constraint leaves (X.691, "permitted alphabet").
+use asn_constraints::Interval;
 use asn_published_text::nodes::Letters;
+use asn_published_types::intervals::{between, joined};
 use asn_published_types::ranges::Ranges;
+use std::alloc::{AllocError, Global};
 
 /// Whether a kind of string has the character with this code.
 fn has_letter(kind: Letters, code: i128) -> bool {
@@ -15,6 +18,19 @@ fn has_letter(kind: Letters, code: i128) -> bool {
                 || [32, 39, 40, 41, 43, 44, 45, 46, 47, 58, 61, 63].contains(&code)
         }
     }
+}
+
+/// The codes of the characters of a kind of string.
+pub(crate) fn letters_of(alloc: Global, kind: Letters) -> Result<Vec<Interval>, AllocError> {
+    let mut letters = Vec::new(alloc);
+    for code in 0..128u8 {
+        let code = i128::from(code);
+        if has_letter(kind, code) {
+            let more = between(alloc, code, code)?;
+            letters = joined(alloc, letters.as_slice(), more.as_slice())?;
+        }
+    }
+    Ok(letters)
 }
 
 /// Whether a character of a kind of string, with this code, is left.

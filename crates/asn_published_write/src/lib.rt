@@ -2,9 +2,11 @@
 #![tactic(auto)]
 
 mod checking;
+mod constraining;
 mod defaults;
 mod holding;
 mod known;
+mod left_out;
 mod letters;
 mod levels;
 mod references;

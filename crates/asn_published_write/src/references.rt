@@ -1,14 +1,18 @@
 //! Writes lists, and names of types with further constraints.
+use crate::constraining::{Left, lengths_shown};
 use crate::known::Known;
 use crate::writer::{Task, Writer};
 use crate::written::whole_level;
 use asn_published_text::nodes::{Member, Node, Shape};
 use asn_published_text::refusal::{Refusal, Why, refused};
+use asn_published_types::allowed::Shown;
 use asn_published_types::info::{Base, Info, State};
 use asn_published_types::layout::{alternative_named, members_behind};
 use asn_published_types::pieces::push_pieces;
+use asn_published_types::ranges::Ranges;
 use asn_published_types::report::{Remark, Status};
-use asn_published_types::seen::{Mode, Seen, intersection};
+use asn_published_types::seen::{Mode, intersection};
+use asn_published_types::steps::Holds;
 use std::alloc::Global;
 
 /// How many selections of an alternative a type may have.
@@ -34,12 +38,12 @@ impl<'t> Writer<'t> {
         };
         let scope = known.scope_of(node, None);
         let seen = known.values.sizes_seen(alloc, scope, size, size_end)?;
-        self.remark_dropped(alloc, known, index, &seen)?;
+        let left = self.left_of(alloc, known, index, seen)?;
         self.put_list(
             alloc,
             known,
             index,
-            seen,
+            left,
             element,
             known.line_of(node),
             depth,
@@ -52,7 +56,7 @@ impl<'t> Writer<'t> {
         alloc: Global,
         known: &Known<'_, 't>,
         index: usize,
-        seen: Seen,
+        left: Left,
         element: usize,
         line: u32,
         depth: usize,
@@ -60,11 +64,30 @@ impl<'t> Writer<'t> {
         self.out.push_str(" SEQUENCE")?;
         let end = Task::List {
             element,
-            marked: seen.marked,
-            is_empty: self.put_size(alloc, known, index, &seen, line)?,
+            marked: left.seen.marked,
+            is_empty: self.put_size(alloc, known, index, &left, line)?,
         };
-        self.held.sizes.push(seen.sizes)?;
+        self.trail.hold(Holds::Element);
+        let sizes = self.constrain_list(alloc, index, left, line)?;
+        self.held.sizes.push(sizes)?;
         self.ask_for_element(element, end, depth)
+    }
+
+    /// Takes what is left of the values of a list, and gives the lengths.
+    fn constrain_list(
+        &mut self,
+        alloc: Global,
+        index: usize,
+        left: Left,
+        line: u32,
+    ) -> Result<Option<Ranges>, Refusal> {
+        let Left { seen, allowed } = left;
+        let shown = Shown {
+            lengths: lengths_shown(&seen, line)?,
+            ..Shown::nothing()
+        };
+        self.constrain(alloc, index, allowed, shown)?;
+        Ok(seen.sizes)
     }
 
     /// Asks for the element of a list, and for what ends the list. A list counts two levels.
@@ -103,8 +126,11 @@ impl<'t> Writer<'t> {
         if node.constraints >= node.end {
             return self.put_name(alloc, known, to);
         }
-        if self.last.base == Base::Other {
-            self.remark(alloc, known, index, Remark::Dropped)?;
+        if matches!(
+            self.last.base,
+            Base::Other | Base::Boolean | Base::Enumerated
+        ) {
+            self.take_allowed(alloc, known, index)?;
             return self.put_name(alloc, known, to);
         }
         self.write_constrained(alloc, known, index, node, to, depth)
@@ -210,10 +236,6 @@ impl<'t> Writer<'t> {
         let line = known.line_of(node);
         let base = self.last.base;
         let named = self.last.named;
-        if base == Base::Boolean || base == Base::Enumerated {
-            self.remark(alloc, known, index, Remark::Dropped)?;
-            return self.put_name(alloc, known, to);
-        }
         let mode = if base == Base::Integer {
             Mode::Numbers
         } else {
@@ -221,18 +243,18 @@ impl<'t> Writer<'t> {
         };
         let scope = known.scope_of(node, named).after(&self.last.left);
         let own = self.seen_of(alloc, known, index, node, mode, scope)?;
-        if base == Base::List && self.last.marked && own.sizes.is_some() {
+        if base == Base::List && self.last.marked && own.seen.sizes.is_some() {
             return self.write_list_again(alloc, known, index, own, to, line, depth);
         }
         if base == Base::List {
             self.put_name(alloc, known, to)?;
             return self.put_further_size(alloc, known, index, own, line);
         }
-        let seen = seen_with(alloc, &self.last, own, line)?;
+        let both = left_with(alloc, &self.last, own, line)?;
         if base == Base::Integer {
-            self.put_integer(alloc, known, index, seen, named, line)
+            self.put_integer(alloc, known, index, both, named, line)
         } else {
-            self.put_string(alloc, known, index, base, seen, line)
+            self.put_string(alloc, known, index, base, both, line)
         }
     }
 
@@ -244,7 +266,7 @@ impl<'t> Writer<'t> {
         alloc: Global,
         known: &Known<'_, 't>,
         index: usize,
-        own: Seen,
+        own: Left,
         to: usize,
         line: u32,
         depth: usize,
@@ -253,7 +275,7 @@ impl<'t> Writer<'t> {
             Some(element) if !known.is_in_cycle(to) => element,
             _ => return Err(refused(line, Why::Size)),
         };
-        let both = seen_with(alloc, &self.last, own, line)?;
+        let both = left_with(alloc, &self.last, own, line)?;
         // the nodes of the element are counted as it is written
         let counted = self.last.nodes.saturating_sub(1);
         self.counts.nodes = self.counts.nodes.saturating_sub(counted);
@@ -266,16 +288,16 @@ impl<'t> Writer<'t> {
         alloc: Global,
         known: &Known<'_, 't>,
         index: usize,
-        own: Seen,
+        own: Left,
         line: u32,
     ) -> Result<(), Refusal> {
-        if own.sizes.is_none() {
-            return Ok(());
+        let has_size = own.seen.sizes.is_some();
+        let both = left_with(alloc, &self.last, own, line)?;
+        if has_size {
+            self.last.no_bits = self.put_size(alloc, known, index, &both, line)?;
+            self.last.marked = both.seen.marked;
         }
-        let both = seen_with(alloc, &self.last, own, line)?;
-        self.last.no_bits = self.put_size(alloc, known, index, &both, line)?;
-        self.last.left = both.sizes;
-        self.last.marked = both.marked;
+        self.last.left = self.constrain_list(alloc, index, both, line)?;
         Ok(())
     }
 }
@@ -331,8 +353,12 @@ fn element_of(known: &Known<'_, '_>, to: usize) -> Option<usize> {
 }
 
 /// What the constraints of a type leave, and further ones.
-fn seen_with(alloc: Global, info: &Info, own: Seen, line: u32) -> Result<Seen, Refusal> {
-    intersection(alloc, info.seen(alloc)?, own, line)
+fn left_with(alloc: Global, info: &Info, own: Left, line: u32) -> Result<Left, Refusal> {
+    let Left { seen, allowed } = own;
+    Ok(Left {
+        seen: intersection(alloc, info.seen(alloc)?, seen, line)?,
+        allowed,
+    })
 }
 
 /// What is known of a type that passes a limit: what refers to it passes that too.

@@ -1,7 +1,7 @@
 //! What becomes of one type: its text, what is known of it, and what is said of it.
 use crate::known::{Known, path_of};
 use crate::sources::Sources;
-use crate::writer::{Counts, Writer};
+use crate::writer::{Counts, Spent, Writer};
 use asn_published_text::refusal::{Refusal, Why};
 use asn_published_types::info::State;
 use asn_published_types::report::{Note, Remark, Status};
@@ -40,15 +40,15 @@ pub(crate) struct Outcome<'t> {
     refusal: Option<(u32, Why)>,
 }
 
-/// Writes a type, of which `first` is the first node, after `written` nodes of other types.
+/// Writes a type, of which `first` is the first node, after so much of other types.
 pub(crate) fn outcome_of<'t>(
     alloc: Global,
     known: &Known<'_, 't>,
     first: usize,
     is_refused: bool,
-    written: usize,
+    spent: Spent,
 ) -> Result<Outcome<'t>, AllocError> {
-    let mut writer = Writer::new(alloc, written);
+    let mut writer = Writer::new(alloc, spent);
     writer.counts.node = first;
     let refusal = match write_one(alloc, known, first, is_refused, &mut writer) {
         Ok(()) => None,
@@ -66,8 +66,8 @@ pub(crate) struct Settled {
     pub status: Status,
     pub notes: Vec<Note>,
     pub uses: Vec<usize>,
-    /// How many nodes were written, of the types before it too.
-    pub written: usize,
+    /// What was counted of it and of the types before it.
+    pub spent: Spent,
     /// Its nodes, with what is not looked at there.
     pub trail: Trail,
 }
@@ -85,8 +85,16 @@ fn ready(writer: Writer<'_>, index: usize) -> Settled {
         status: writer.told.status,
         notes: writer.told.notes,
         uses: writer.told.uses,
-        written: writer.counts.written,
+        spent: spent_of(writer.counts),
         trail: writer.trail,
+    }
+}
+
+/// What was counted of a type and of those before it.
+fn spent_of(counts: Counts) -> Spent {
+    Spent {
+        nodes: counts.written,
+        work: counts.work,
     }
 }
 
@@ -111,7 +119,7 @@ fn refused(writer: Writer<'_>, note: Note) -> Result<Settled, AllocError> {
         status: Status::Refused,
         notes: writer.told.notes,
         uses: writer.told.uses,
-        written: writer.counts.written,
+        spent: spent_of(writer.counts),
         trail: writer.trail,
     })
 }

@@ -1,14 +1,18 @@
 //! Writes INTEGER and strings, with what their constraints leave.
+use crate::constraining::{Left, lengths_shown, numbers_shown, with_letters};
 use crate::known::Known;
 use crate::letters::{are_all_left, keeps_codes, name_of};
 use crate::widths::{is_one_number, is_zero};
 use crate::writer::Writer;
+use asn_constraints::Constraint;
 use asn_published_text::nodes::{Letters, Node, Shape};
 use asn_published_text::refusal::{Refusal, Why, refused};
+use asn_published_types::allowed::{Allowed, Shown};
 use asn_published_types::bounds::{
     Numbers, lengths_between, numbers_between, write_range, write_size,
 };
 use asn_published_types::info::{Base, Info};
+use asn_published_types::intervals::between;
 use asn_published_types::numbers::Scope;
 use asn_published_types::pieces::push_pieces;
 use asn_published_types::ranges::{Ranges, is_whole};
@@ -46,12 +50,27 @@ impl<'t> Writer<'t> {
         node: &Node<'t>,
         mode: Mode,
         scope: Scope,
-    ) -> Result<Seen, Refusal> {
+    ) -> Result<Left, Refusal> {
         let seen = known
             .values
             .constraints_seen(alloc, scope, mode, node.constraints, node.end)?;
-        self.remark_dropped(alloc, known, index, &seen)?;
-        Ok(seen)
+        self.left_of(alloc, known, index, seen)
+    }
+
+    /// What the constraints of a node leave of which encodings show so much.
+    pub fn left_of(
+        &mut self,
+        alloc: Global,
+        known: &Known<'_, 't>,
+        index: usize,
+        seen: Seen,
+    ) -> Result<Left, Refusal> {
+        let allowed = known
+            .subtypes()
+            .allowed_at(alloc, index, &mut self.counts.work)?;
+        let left = Left { seen, allowed };
+        self.remark_dropped(alloc, known, index, &left)?;
+        Ok(left)
     }
 
     /// Writes INTEGER.
@@ -68,8 +87,8 @@ impl<'t> Writer<'t> {
             None => None,
         };
         let scope = known.scope_of(node, named);
-        let seen = self.seen_of(alloc, known, index, node, Mode::Numbers, scope)?;
-        self.put_integer(alloc, known, index, seen, named, known.line_of(node))
+        let left = self.seen_of(alloc, known, index, node, Mode::Numbers, scope)?;
+        self.put_integer(alloc, known, index, left, named, known.line_of(node))
     }
 
     /// Writes INTEGER with what is left of its numbers.
@@ -78,11 +97,18 @@ impl<'t> Writer<'t> {
         alloc: Global,
         known: &Known<'_, 't>,
         index: usize,
-        seen: Seen,
+        left: Left,
         named: Option<(usize, usize)>,
         line: u32,
     ) -> Result<(), Refusal> {
-        self.put_numbers(alloc, known, index, &seen, line)?;
+        let Left { seen, allowed } = left;
+        self.put_numbers(alloc, &seen, line)?;
+        self.remark_gap(alloc, known, index, &seen.numbers, &allowed)?;
+        let shown = Shown {
+            numbers: numbers_shown(&seen, line)?,
+            ..Shown::nothing()
+        };
+        self.constrain(alloc, index, allowed, shown)?;
         if !is_bounded(&seen, line)? {
             self.remark(alloc, known, index, Remark::Unbounded)?;
         }
@@ -92,22 +118,14 @@ impl<'t> Writer<'t> {
     }
 
     /// Writes INTEGER with its range.
-    fn put_numbers(
-        &mut self,
-        alloc: Global,
-        known: &Known<'_, 't>,
-        index: usize,
-        seen: &Seen,
-        line: u32,
-    ) -> Result<(), Refusal> {
+    fn put_numbers(&mut self, alloc: Global, seen: &Seen, line: u32) -> Result<(), Refusal> {
         match numbers_between(&seen.numbers, seen.marked, line)? {
-            Numbers::All => self.out.push_str(" INTEGER")?,
+            Numbers::All => Ok(self.out.push_str(" INTEGER")?),
             Numbers::Between(low, high) => {
                 self.out.push_str(" INTEGER")?;
-                write_range(alloc, &mut self.out, low, high, seen.marked)?;
+                Ok(write_range(alloc, &mut self.out, low, high, seen.marked)?)
             }
         }
-        self.remark_gap(alloc, known, index, &seen.numbers)
     }
 
     /// Writes a string with a size.
@@ -119,13 +137,13 @@ impl<'t> Writer<'t> {
         node: &Node<'t>,
     ) -> Result<(), Refusal> {
         let scope = known.scope_of(node, None);
-        let seen = self.seen_of(alloc, known, index, node, Mode::Others, scope)?;
+        let left = self.seen_of(alloc, known, index, node, Mode::Others, scope)?;
         let base = match node.shape {
             Shape::Bits { named } => Base::Bits { named },
             Shape::Text(letters) => Base::Text(letters),
             _ => Base::Octets,
         };
-        self.put_string(alloc, known, index, base, seen, known.line_of(node))
+        self.put_string(alloc, known, index, base, left, known.line_of(node))
     }
 
     /// Writes a string of a kind with what is left of its lengths.
@@ -135,14 +153,66 @@ impl<'t> Writer<'t> {
         known: &Known<'_, 't>,
         index: usize,
         base: Base,
-        seen: Seen,
+        left: Left,
         line: u32,
     ) -> Result<(), Refusal> {
-        let is_fixed = is_fixed(&seen, line)?;
-        self.put_kind(alloc, known, index, base, &seen, is_fixed, line)?;
-        let no_bits = self.put_size(alloc, known, index, &seen, line)?;
+        let mut left = left;
+        if base == (Base::Bits { named: true }) {
+            left = self.trim(alloc, known, index, left, line)?;
+        }
+        self.put_kind(alloc, known, index, base, &left, line)?;
+        let no_bits = self.put_size(alloc, known, index, &left, line)?;
+        let Left { seen, allowed } = left;
+        let allowed = match base {
+            Base::Text(kind) => with_letters(alloc, allowed, kind, is_name(known, index))?,
+            _ => allowed,
+        };
+        let shown = Shown {
+            lengths: lengths_shown(&seen, line)?,
+            ..Shown::nothing()
+        };
+        self.constrain(alloc, index, allowed, shown)?;
         self.last = string_info(base, seen, no_bits);
         Ok(())
+    }
+
+    /// Takes that named bits have no last zeros above the least length, where they have no fixed one (X.691, "bitstring
+    /// type"), and what is left: no fewer bits, which an extension marker would let come.
+    fn trim(
+        &mut self,
+        alloc: Global,
+        known: &Known<'_, 't>,
+        index: usize,
+        left: Left,
+        line: u32,
+    ) -> Result<Left, Refusal> {
+        let Left { seen, allowed: _ } = left;
+        // (another size has other last zeros)
+        self.trail.take_whole();
+        let mut allowed = known
+            .subtypes()
+            .allowed_with_names(alloc, index, &mut self.counts.work)?;
+        if is_fixed(&seen, line)? {
+            return Ok(Left { seen, allowed });
+        }
+        let low = match lengths_between(&seen.sizes, seen.marked, line)? {
+            Some(lengths) => lengths.low,
+            None => 0,
+        };
+        if !is_whole(&seen.sizes) {
+            self.remark(alloc, known, index, Remark::TrimmedBits)?;
+            return Ok(Left { seen, allowed });
+        }
+        let trimmed = Constraint::Trimmed(u32::try_from(low).unwrap_or(0));
+        self.trail.constrain(alloc, index, trimmed)?;
+        if seen.marked {
+            let lengths = Allowed {
+                lengths: Some(between(alloc, low, i128::MAX)?),
+                ..Allowed::all()
+            };
+            allowed = allowed.and(alloc, lengths)?;
+        }
+        Ok(Left { seen, allowed })
     }
 
     /// Writes what is left of the size of a string or a list, and returns whether that is 0 alone.
@@ -151,94 +221,86 @@ impl<'t> Writer<'t> {
         alloc: Global,
         known: &Known<'_, 't>,
         index: usize,
-        seen: &Seen,
+        left: &Left,
         line: u32,
     ) -> Result<bool, Refusal> {
+        let seen = &left.seen;
         if let Some(lengths) = lengths_between(&seen.sizes, seen.marked, line)? {
-            if lengths.cut {
+            if lengths.cut && left.allowed.is_missing {
                 self.remark(alloc, known, index, Remark::SizeToMax)?;
             }
             write_size(alloc, &mut self.out, lengths, seen.marked)?;
         }
-        self.remark_gap(alloc, known, index, &seen.sizes)?;
+        self.remark_gap(alloc, known, index, &seen.sizes, &left.allowed)?;
         is_zero(seen, line)
     }
 
-    /// Writes the kind of a string: named bits have a fixed size, or are asked for as they are.
+    /// Writes the kind of a string.
     fn put_kind(
         &mut self,
         alloc: Global,
         known: &Known<'_, 't>,
         index: usize,
         base: Base,
-        seen: &Seen,
-        is_fixed: bool,
+        left: &Left,
         line: u32,
     ) -> Result<(), Refusal> {
         match base {
-            Base::Bits { named } => {
-                if named && !is_fixed {
-                    self.remark_bits(alloc, known, index, line)?;
-                }
-                Ok(self.out.push_str(" BIT STRING")?)
-            }
+            Base::Bits { .. } => Ok(self.out.push_str(" BIT STRING")?),
             Base::Text(kind) => {
-                self.remark_letters(alloc, known, index, kind, seen, line)?;
+                self.remark_letters(alloc, known, index, kind, left, line)?;
                 Ok(push_pieces(&mut self.out, &[" ", name_of(kind)])?)
             }
             _ => Ok(self.out.push_str(" OCTET STRING")?),
         }
     }
 
-    /// A refusal of named bits without a fixed size, or a remark where they are asked for.
-    fn remark_bits(
-        &mut self,
-        alloc: Global,
-        known: &Known<'_, 't>,
-        index: usize,
-        line: u32,
-    ) -> Result<(), Refusal> {
-        if !known.options.plain_bits {
-            return Err(refused(line, Why::NamedBits));
-        }
-        self.remark(alloc, known, index, Remark::TrimmedBits)
-    }
-
-    /// A remark where there are gaps between ranges.
+    /// A remark where there are gaps between ranges, and not all of what is left is looked at.
     fn remark_gap(
         &mut self,
         alloc: Global,
         known: &Known<'_, 't>,
         index: usize,
         left: &Option<Ranges>,
+        allowed: &Allowed,
     ) -> Result<(), Refusal> {
-        if is_whole(left) {
+        if !allowed.is_missing || is_whole(left) {
             return Ok(());
         }
         self.remark(alloc, known, index, Remark::Gap)
     }
 
-    /// A refusal where the characters that are left have codes of their own, and a remark where they are not all.
+    /// A refusal where the characters that are left have codes of their own, and a remark where they are not all, and not
+    /// all of what is left is looked at.
     fn remark_letters(
         &mut self,
         alloc: Global,
         known: &Known<'_, 't>,
         index: usize,
         kind: Letters,
-        seen: &Seen,
+        left: &Left,
         line: u32,
     ) -> Result<(), Refusal> {
-        let mut are_all = kind != Letters::Printable && !seen.others;
+        let seen = &left.seen;
+        let mut are_all = !seen.others;
         if let Some(letters) = &seen.letters {
             if seen.marked || !keeps_codes(kind, letters) {
                 return Err(refused(line, Why::Alphabet));
             }
             are_all &= are_all_left(kind, letters);
         }
-        if !are_all {
+        if !are_all && left.allowed.is_missing {
             self.remark(alloc, known, index, Remark::Characters)?;
         }
         Ok(())
+    }
+}
+
+/// Whether a node is the name of a type, whose characters it has.
+fn is_name(known: &Known<'_, '_>, index: usize) -> bool {
+    match known.forest.node(index) {
+        Some(node) => matches!(node.shape, Shape::Reference { .. }),
+        None => false,
     }
 }
 

@@ -2,6 +2,7 @@
 ghost use Rattle.std.specs.Prelude.{IfOk};
 ghost use Rattle.asn_published_write.specs.Limits.{IsWithin};
 
+use crate::constraining::Left;
 use crate::known::{Known, path_of};
 use asn_published_text::nodes::Need;
 use asn_published_text::refusal::Refusal;
@@ -10,8 +11,8 @@ use asn_published_types::limits::{MOST_LEVELS, MOST_NODES, most_of_all, within};
 use asn_published_types::pieces::push_pieces;
 use asn_published_types::ranges::Ranges;
 use asn_published_types::report::{Note, Remark, Status};
-use asn_published_types::seen::Seen;
 use asn_published_types::steps::Trail;
+use asn_published_types::subtypes::Work;
 use std::alloc::Global;
 use std::fmt::Write;
 
@@ -27,6 +28,8 @@ pub(crate) enum Task<'t> {
     Group(u32),
     /// The need of a component of the root, whose type was written last.
     Need(usize, Need),
+    /// The need of one that is OPTIONAL also where it has a DEFAULT.
+    Apart(usize, Need),
     /// A remark on the values of a node whose type was written last.
     Mark(usize, Remark),
     /// The end of a list, by the node of its element: whether its size has a mark, and whether it is 0.
@@ -47,6 +50,13 @@ pub(crate) struct Passed {
     by_nodes: bool,
 }
 
+/// What was counted of the types before one: the nodes that were written, and how much of constraints is still read.
+#[derive(Clone, Copy)]
+pub(crate) struct Spent {
+    pub nodes: usize,
+    pub work: Work,
+}
+
 /// What was counted of a type that is being written.
 #[derive(Clone, Copy)]
 pub(crate) struct Counts {
@@ -56,6 +66,8 @@ pub(crate) struct Counts {
     pub passed: Option<Passed>,
     /// How many nodes were written, of the types before it too.
     pub written: usize,
+    /// How much of constraints is still read, of the types behind it too.
+    pub work: Work,
     pub selections: u32,
     /// The node that is written, at which a fault is reported.
     pub node: usize,
@@ -94,8 +106,8 @@ pub(crate) struct Writer<'t> {
 }
 
 impl<'t> Writer<'t> {
-    /// Nothing of the type is written yet; `written` nodes of other types are.
-    pub fn new(alloc: Global, written: usize) -> Self {
+    /// Nothing of the type is written yet; of other types so much is.
+    pub fn new(alloc: Global, spent: Spent) -> Self {
         Writer {
             out: String::new(alloc),
             stack: Vec::new(alloc),
@@ -109,7 +121,8 @@ impl<'t> Writer<'t> {
                 nodes: 0,
                 depth: 0,
                 passed: None,
-                written,
+                written: spent.nodes,
+                work: spent.work,
                 selections: 0,
                 node: 0,
             },
@@ -254,6 +267,10 @@ impl<'t> Writer<'t> {
                 self.take_member_bits(need);
                 self.write_need(alloc, known, index, need)
             }
+            Task::Apart(index, need) => {
+                self.take_member_bits(need);
+                self.write_need_apart(alloc, known, index, need)
+            }
             Task::List {
                 element,
                 marked,
@@ -266,15 +283,15 @@ impl<'t> Writer<'t> {
         }
     }
 
-    /// A remark where the constraints drop something.
+    /// A remark where the constraints have something that neither encodings show nor is looked at.
     pub fn remark_dropped(
         &mut self,
         alloc: Global,
         known: &Known<'_, 't>,
         index: usize,
-        seen: &Seen,
+        left: &Left,
     ) -> Result<(), Refusal> {
-        if seen.dropped {
+        if left.seen.dropped && left.allowed.is_missing {
             self.remark(alloc, known, index, Remark::Dropped)?;
         }
         Ok(())
@@ -288,16 +305,30 @@ impl<'t> Writer<'t> {
         index: usize,
         need: Need,
     ) -> Result<(), Refusal> {
-        let (start, end) = match need {
-            Need::Must => return Ok(()),
-            Need::Optional => return Ok(self.out.push_str(" OPTIONAL")?),
-            Need::Default { start, end } => (start, end),
+        let Need::Default { start, end } = need else {
+            return self.write_need_apart(alloc, known, index, need);
         };
         match self.default_text(alloc, known, index, start, end)? {
             Some(text) => Ok(write!(self.out, " DEFAULT {text}")?),
-            None => {
+            None => self.write_need_apart(alloc, known, index, need),
+        }
+    }
+
+    /// Writes whether the component may be absent, whose type was written last: one with a DEFAULT is OPTIONAL, and has any
+    /// value but that.
+    fn write_need_apart(
+        &mut self,
+        alloc: Global,
+        known: &Known<'_, 't>,
+        index: usize,
+        need: Need,
+    ) -> Result<(), Refusal> {
+        match need {
+            Need::Must => Ok(()),
+            Need::Optional => Ok(self.out.push_str(" OPTIONAL")?),
+            Need::Default { start, end } => {
                 self.out.push_str(" OPTIONAL")?;
-                self.remark(alloc, known, index, Remark::Default)
+                self.take_default(alloc, known, index, start, end)
             }
         }
     }

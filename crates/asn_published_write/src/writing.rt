@@ -1,12 +1,14 @@
 //! Writes one node: a simple type, the items of an ENUMERATED, or the beginning of a type that holds others.
 use crate::known::Known;
 use crate::writer::Writer;
+use asn_constraints::Constraint;
 use asn_published_text::nodes::{Node, Shape};
 use asn_published_text::refusal::{Refusal, Why, refused};
 use asn_published_types::info::{Base, Info};
 use asn_published_types::items::{Item, Items, items_of};
 use asn_published_types::pieces::push_pieces;
 use asn_published_types::report::Remark;
+use asn_published_types::value_notation::kind_of_time;
 use std::alloc::Global;
 use std::fmt::Write;
 
@@ -50,19 +52,14 @@ impl<'t> Writer<'t> {
     ) -> Result<(), Refusal> {
         let line = known.line_of(node);
         match node.shape {
-            Shape::Boolean => {
-                self.write_plain(alloc, known, index, node, "BOOLEAN", Base::Boolean)
-            }
+            Shape::Boolean => self.write_plain(alloc, known, index, "BOOLEAN", Base::Boolean),
             Shape::Null => {
-                self.write_plain(alloc, known, index, node, "NULL", Base::Other)?;
+                self.write_plain(alloc, known, index, "NULL", Base::Other)?;
                 self.last.no_bits = true;
                 Ok(())
             }
-            Shape::Utf8 => self.write_plain(alloc, known, index, node, "UTF8String", Base::Other),
-            Shape::Time => {
-                self.remark(alloc, known, index, Remark::Time)?;
-                self.write_plain(alloc, known, index, node, "VisibleString", Base::Other)
-            }
+            Shape::Utf8 => self.write_plain(alloc, known, index, "UTF8String", Base::Other),
+            Shape::Time => self.write_time(alloc, known, index, node),
             Shape::Open => self.write_octets(alloc, known, index, Remark::OpenType),
             Shape::Content(what) => self.write_content(alloc, known, index, node, what),
             Shape::Integer { named } => self.write_integer(alloc, known, index, node, named),
@@ -81,16 +78,26 @@ impl<'t> Writer<'t> {
         alloc: Global,
         known: &Known<'_, 't>,
         index: usize,
-        node: &Node<'t>,
         name: &str,
         base: Base,
     ) -> Result<(), Refusal> {
-        if node.constraints < node.end {
-            self.remark(alloc, known, index, Remark::Dropped)?;
-        }
+        self.take_allowed(alloc, known, index)?;
         push_pieces(&mut self.out, &[" ", name])?;
         self.last = Info::of(base);
         Ok(())
+    }
+
+    /// Writes UTCTime or GeneralizedTime as a VisibleString (X.680, "useful types").
+    fn write_time(
+        &mut self,
+        alloc: Global,
+        known: &Known<'_, 't>,
+        index: usize,
+        node: &Node<'t>,
+    ) -> Result<(), Refusal> {
+        let kind = kind_of_time(known.values.world.tokens_of(node.module), node);
+        self.trail.constrain(alloc, index, Constraint::Time(kind))?;
+        self.write_plain(alloc, known, index, "VisibleString", Base::Other)
     }
 
     /// Writes an OCTET STRING that stands for something else.
@@ -137,9 +144,7 @@ impl<'t> Writer<'t> {
         node: &Node<'t>,
         braces: usize,
     ) -> Result<(), Refusal> {
-        if node.constraints < node.end {
-            self.remark(alloc, known, index, Remark::Dropped)?;
-        }
+        self.take_allowed(alloc, known, index)?;
         let scope = known.scope_of(node, None);
         let items = items_of(alloc, known.values, scope, braces)?;
         if items.renumbered {

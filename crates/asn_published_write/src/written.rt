@@ -4,12 +4,14 @@ use crate::levels::{cycle_end, level_line, name_of};
 use crate::settling::{Settled, assignment_of, outcome_of, settle_type};
 use crate::sources::Sources;
 use crate::totals::Totals;
+use crate::writer::Spent;
 use asn_published_text::options::Options;
 use asn_published_text::refusal::Why;
 use asn_published_types::info::State;
 use asn_published_types::numbers::Values;
 use asn_published_types::report::{Note, Remark, Status, TypeReport};
 use asn_published_types::steps::Marked;
+use asn_published_types::subtypes::Work;
 use std::alloc::{AllocError, Global};
 use std::mem;
 
@@ -69,8 +71,8 @@ struct Writing {
     beside: Vec<State>,
     /// Of each type why it is refused with fewer levels, where it is by its own fault.
     refusals: Vec<Option<Note>>,
-    /// How many nodes are written.
-    nodes: usize,
+    /// What was counted of the types that are written.
+    spent: Spent,
     totals: Totals,
 }
 
@@ -150,10 +152,10 @@ impl Writing {
         };
         let known = known_of(&*sources, options, &*self, entry, level, is_whole);
         let (file, own_line) = (known.own.file, known.own.line);
-        let outcome = outcome_of(alloc, &known, *first, is_refused, self.nodes)?;
+        let outcome = outcome_of(alloc, &known, *first, is_refused, self.spent)?;
         let place = self.written.marked.len();
         let settled = settle_type(alloc, sources, file, own_line, outcome, place)?;
-        self.nodes = settled.written;
+        self.spent = settled.spent;
         let name = name_of(alloc, sources, entry, level, is_whole)?;
         let Settled {
             state,
@@ -161,7 +163,7 @@ impl Writing {
             status,
             notes,
             uses,
-            written: _,
+            spent: _,
             trail,
         } = self.totals.taken(alloc, name, own_line, settled)?;
         let marked = trail.finish(alloc, self.written.marked.as_slice());
@@ -361,7 +363,10 @@ fn write_with(
         below: Vec::new(alloc),
         beside: Vec::new(alloc),
         refusals: Vec::new(alloc),
-        nodes: 0,
+        spent: Spent {
+            nodes: 0,
+            work: Work::of(sources.forest.nodes.len()),
+        },
         totals,
     };
     for _ in 0..count {
@@ -384,7 +389,7 @@ fn write_with(
         below: _,
         beside: _,
         refusals: _,
-        nodes: _,
+        spent: _,
         totals,
     } = writing;
     Ok((written, totals))

@@ -1,7 +1,9 @@
 //! The answer to one message, in the form and the layout that is asked for. Standard error says why it is refused.
 use crate::budget::{Answered, answer_within};
-use crate::marking::answer_marked;
+use crate::demands::Demands;
+use crate::marking::{answer_published, judge_version};
 use crate::writing::{put, put_octets, put_refusal, tell, text_in};
+use asn_constrained::ConstrainedType;
 use asn_convert::{Job, Order, RuleName, RunFault, answer_line};
 use asn_jobs::{CountFault, OctetForm, Place, Progress, octets_in};
 use asn_json_layout::Layout;
@@ -9,8 +11,6 @@ use asn_look::{
     Counts, MOST_ENTRIES, TakenBack, json_over, laid_text, newer_line, over_words, taken_back,
     why_refused, widest_of,
 };
-use asn_plan::Planned;
-use asn_published::Marks;
 use asn_request::asking::{Asking, Forms, Versions};
 use asn_rules::Counted;
 use asn_values::Checked;
@@ -20,8 +20,8 @@ use std::io::Write;
 /// What is made of messages.
 #[derive(Clone, Copy)]
 pub struct Asked<'t> {
-    /// The type of the messages, and its plan.
-    pub planned: &'t Planned,
+    /// The type of the messages, with its plan and its constraint.
+    pub constrained: &'t ConstrainedType,
     pub order: Order,
     pub rules: RuleName,
     pub forms: Forms,
@@ -33,8 +33,8 @@ pub struct Asked<'t> {
     pub is_counted: bool,
     /// The most that a value may take, if there is a bound.
     pub budget: Option<u32>,
-    /// What is not looked at of values, where the answers say so.
-    pub marks: Option<&'t Marks>,
+    /// What the published type has in addition to this type.
+    pub demands: Demands<'t>,
     /// Whether a message is answered plainly though a part of it is not looked at.
     pub is_wider_taken: bool,
     /// That of `asn_look::widest_of` for the type.
@@ -42,18 +42,18 @@ pub struct Asked<'t> {
 }
 
 impl<'t> Asked<'t> {
-    /// What is made of the messages of a job, for the type of the plan; `None` where the module is to be printed.
+    /// What is made of the messages of a job, for this type; `None` where the module is to be printed.
     pub fn of(
         asking: &Asking<'_>,
         job: &Job,
-        planned: &'t Planned,
-        marks: Option<&'t Marks>,
+        constrained: &'t ConstrainedType,
+        demands: Demands<'t>,
     ) -> Option<Asked<'t>> {
         let Job::Lines { order, rules, .. } = job else {
             return None;
         };
         Some(Asked {
-            planned,
+            constrained,
             order: *order,
             rules: *rules,
             forms: asking.forms,
@@ -62,15 +62,15 @@ impl<'t> Asked<'t> {
             is_explained: asking.is_explained,
             is_counted: asking.is_counted,
             budget: asking.budget,
-            marks,
+            demands,
             is_wider_taken: asking.is_wider_taken,
-            widest: widest_of(planned.get().get()),
+            widest: widest_of(constrained.ty().get()),
         })
     }
 
     /// The type of the messages.
     pub fn ty(&self) -> &'t Checked {
-        self.planned.get()
+        self.constrained.ty()
     }
 
     /// Whether JSON is laid out.
@@ -135,9 +135,12 @@ fn answer_line_of<W: Write>(
     if let Some(entries) = over_by_json(rt, line, asked)? {
         return refuse_json(rt, answers, place, entries, asked);
     }
-    if let Some(marks) = asked.marks {
-        if asked.order != Order::Newer {
-            return answer_marked(rt, answers, place, line, asked, marks);
+    if !asked.demands.is_nothing() && asked.order != Order::Newer {
+        return answer_published(rt, answers, place, line, asked);
+    }
+    if asked.demands.constraint.is_some() {
+        if let Some(is_good) = judge_version(rt, answers, place, line, asked)? {
+            return Ok(is_good);
         }
     }
     let answered = if asked.is_as_it_is() {
@@ -208,11 +211,12 @@ pub fn answer_to<W: Write>(
     asked: Asked<'_>,
 ) -> Result<Answered, RunFault> {
     let Asked {
-        planned,
+        constrained,
         order,
         rules,
         ..
     } = asked;
+    let planned = constrained.planned();
     match asked.budget {
         Some(most) => answer_within(rt.alloc(), output, planned, most, order, rules, line),
         None => {

@@ -3,7 +3,7 @@ use crate::running::run_on;
 use asn_convert::{Job, Order, cut_input, read_all};
 use asn_look::{ShowFault, show_of};
 use asn_module_files::{
-    Input, Stop, input_given, input_of_files, module_of, tell_text, tells_of_module,
+    Input, Published, Stop, input_given, input_of_files, module_of, tell_text, tells_of_module,
 };
 use asn_published::Options;
 use asn_request::asking::Asking;
@@ -57,8 +57,8 @@ fn show_given<'a>(
     let given = read_all(rt.alloc(), &mut Counted::new(rt.reader()))?;
     let Input {
         octets,
+        published,
         is_whole,
-        ..
     } = input_given(rt, given, options, job, is_told)?;
     let (text, lines) = cut_input(octets.as_slice());
     if is_told {
@@ -68,7 +68,7 @@ fn show_given<'a>(
         tell_of(rt, look, job, text, options, is_all)?;
     }
     let mut lines = lines;
-    let status = show_or_refuse(rt, look, job, text, asking, &mut lines)?;
+    let status = show_or_refuse(rt, look, job, text, &published, asking, &mut lines)?;
     Ok(listed(look, status, is_whole))
 }
 
@@ -85,8 +85,8 @@ fn show_with_files<'a>(
     let Some(
         Input {
             octets,
+            published,
             is_whole,
-            ..
         },
     ) = input_of_files(rt, files, options, job, is_told)?
     else {
@@ -99,7 +99,7 @@ fn show_with_files<'a>(
     let Ok(mut lines) = BufReader::new(rt.alloc(), rt.reader()) else {
         return Err(Stop::Memory);
     };
-    let status = show_or_refuse(rt, look, job, text, asking, &mut lines)?;
+    let status = show_or_refuse(rt, look, job, text, &published, asking, &mut lines)?;
     Ok(listed(look, status, is_whole))
 }
 
@@ -138,13 +138,14 @@ fn show_or_refuse<'a, R: BufRead>(
     look: &Look,
     job: &Job,
     text: &[u8],
+    published: &Published,
     asking: &Asking<'a>,
     lines: &mut R,
 ) -> Result<u8, Stop<'a>> {
     let Some(module) = module_of(rt.alloc(), text)? else {
         return run_on(rt, job, text);
     };
-    match show_of(rt, look, &module, asking, lines) {
+    match show_of(rt, look, &module, published.constraint(), asking, lines) {
         Ok(Some(status)) => Ok(status),
         Ok(None) => run_on(rt, job, text),
         Err(fault) => Err(stop_of(fault)),

@@ -4,6 +4,7 @@
 
 mod answering;
 mod budget;
+mod demands;
 mod looking;
 mod marked;
 mod marking;

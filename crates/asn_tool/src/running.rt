@@ -1,15 +1,16 @@
 //! Jobs on standard input and output.
 use crate::answering::{Answers, Asked};
+use crate::demands::Demands;
 use crate::messages::answer_input;
+use asn_constrained::ConstrainedType;
 use asn_convert::{Job, Order, RunFault, Status, cut_input, read_all, run, run_on_lines};
 use asn_jobs::{Piped, Progress, ending};
 use asn_look::Counts;
 use asn_module::Module;
 use asn_module_files::{
-    Input, Stop, input_given, input_of_files, module_of, tell_text, tells_of_module,
+    Input, Published, Stop, input_given, input_of_files, module_of, tell_text, tells_of_module,
 };
-use asn_plan::Planned;
-use asn_published::{Marks, Options};
+use asn_published::Options;
 use asn_request::asking::Asking;
 use asn_rules::Counted;
 use asn_values::Checked;
@@ -47,14 +48,12 @@ fn run_given<'a>(
     asking: &Asking<'a>,
 ) -> Result<u8, Stop<'a>> {
     let given = read_all(rt.alloc(), &mut Counted::new(rt.reader()))?;
-    let Input { octets, marks, .. } = input_given(
-        rt,
-        given,
-        options,
-        job,
-        tells_of_module(rt, asking),
-    )?;
-    run_text(rt, job, octets.as_slice(), options, asking, &marks)
+    let Input {
+        octets,
+        published,
+        ..
+    } = input_given(rt, given, options, job, tells_of_module(rt, asking))?;
+    run_text(rt, job, octets.as_slice(), options, asking, &published)
 }
 
 /// Does the job on these octets, the text of the module and the lines after the mark.
@@ -64,7 +63,7 @@ fn run_text<'a>(
     octets: &[u8],
     options: Options,
     asking: &Asking<'a>,
-    marks: &Option<Marks>,
+    published: &Published,
 ) -> Result<u8, Stop<'a>> {
     let (text, lines) = cut_input(octets);
     if tells_of_module(rt, asking) {
@@ -72,7 +71,7 @@ fn run_text<'a>(
         tell_text(rt, text, options, job, is_all)?;
     }
     let mut lines = lines;
-    match run_asked(rt, job, text, asking, marks, &mut lines)? {
+    match run_asked(rt, job, text, asking, published, &mut lines)? {
         Some(status) => Ok(status),
         None => run_on(rt, job, octets),
     }
@@ -85,27 +84,23 @@ fn run_asked<'a, R: BufRead>(
     job: &Job,
     text: &[u8],
     asking: &Asking<'a>,
-    marks: &Option<Marks>,
+    published: &Published,
     lines: &mut R,
 ) -> Result<Option<u8>, Stop<'a>> {
-    let marks = marks_asked(asking, marks);
-    if is_plain(job, asking) && marks.is_none() {
+    let demands = Demands::of(asking, published);
+    if is_plain(job, asking) && demands.is_nothing() {
         return Ok(None);
     }
     let Some(module) = module_of(rt.alloc(), text)? else {
         return Ok(None);
     };
     match type_for(job, &module) {
-        Some(ty) => run_for(rt, job, ty, asking, marks, lines),
+        Some(ty) => {
+            let constraint = published.constraint.copy(rt.alloc())?;
+            let constrained = ConstrainedType::new(rt.alloc(), ty.copy()?, constraint)?;
+            run_for(rt, job, &constrained, asking, demands, lines)
+        }
         None => Ok(None),
-    }
-}
-
-/// The marks that the answers use: with `--accept-wider` those of a recursive type alone.
-fn marks_asked<'m>(asking: &Asking<'_>, marks: &'m Option<Marks>) -> Option<&'m Marks> {
-    match marks {
-        Some(marks) if !asking.is_wider_taken || marks.levels().is_some() => Some(marks),
-        _ => None,
     }
 }
 
@@ -121,17 +116,16 @@ fn is_plain(job: &Job, asking: &Asking<'_>) -> bool {
     asking.is_plain() && !is_encode
 }
 
-/// The same for this type, by a plan of it.
+/// The same for this type.
 fn run_for<'a, R: BufRead>(
     rt: &HostRuntime,
     job: &Job,
-    ty: &Checked,
+    constrained: &ConstrainedType,
     asking: &Asking<'a>,
-    marks: Option<&Marks>,
+    demands: Demands<'_>,
     lines: &mut R,
 ) -> Result<Option<u8>, Stop<'a>> {
-    let planned = Planned::new(rt.alloc(), ty.copy()?)?;
-    match Asked::of(asking, job, &planned, marks) {
+    match Asked::of(asking, job, constrained, demands) {
         Some(asked) => Ok(Some(answer_all(rt, asking, asked, lines)?)),
         None => Ok(None),
     }
@@ -244,9 +238,13 @@ fn run_with_files<'a>(
     asking: &Asking<'a>,
 ) -> Result<u8, Stop<'a>> {
     match input_of_files(rt, files, options, job, tells_of_module(rt, asking))? {
-        Some(Input { octets, marks, .. }) => {
-            run_coming(rt, job, octets.as_slice(), options, asking, &marks)
-        }
+        Some(
+            Input {
+                octets,
+                published,
+                ..
+            },
+        ) => run_coming(rt, job, octets.as_slice(), options, asking, &published),
         None => Ok(2),
     }
 }
@@ -259,17 +257,17 @@ fn run_coming<'a>(
     head: &[u8],
     options: Options,
     asking: &Asking<'a>,
-    marks: &Option<Marks>,
+    published: &Published,
 ) -> Result<u8, Stop<'a>> {
     let (text, _) = cut_input(head);
     if tells_of_module(rt, asking) {
         tell_text(rt, text, options, job, false)?;
     }
-    if !is_plain(job, asking) || marks.is_some() {
+    if !is_plain(job, asking) || !Demands::of(asking, published).is_nothing() {
         let Ok(mut lines) = BufReader::new(rt.alloc(), rt.reader()) else {
             return Err(Stop::Memory);
         };
-        if let Some(status) = run_asked(rt, job, text, asking, marks, &mut lines)? {
+        if let Some(status) = run_asked(rt, job, text, asking, published, &mut lines)? {
             return Ok(status);
         }
     }

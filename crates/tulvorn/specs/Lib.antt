@@ -24,6 +24,14 @@ pub use Rattle.asn_rules.specs.Streams
 pub use Rattle.asn_rules.specs.Reasons
 pub use Rattle.asn_per.specs.Rules as PerRules
 pub use Rattle.asn_oer.specs.Rules as OerRules
+-- constraints, and encodings under them
+pub use Rattle.asn_constraints.specs.Constraints
+pub use Rattle.asn_constraints.specs.View as ConstraintView
+pub use Rattle.asn_constrained.specs.Under
+pub use Rattle.asn_constrained.specs.Laws as UnderLaws
+pub use Rattle.asn_constrained.specs.Measured as MeasuredUnder
+pub use Rattle.asn_constrained.specs.Sessions as SessionsUnder
+pub use Rattle.asn_constrained.specs.Converted as ConvertedUnder
 -- by a plan of the type, and within a budget
 pub use Rattle.asn_plan.specs.Plans
 pub use Rattle.asn_plan.specs.Taken

@@ -1,8 +1,39 @@
 //! All that a program needs to read, write, check and convert values of ASN.1 types, under one name.
 #![tactic(auto)]
 
+mod broken_part;
 mod calls;
 
+pub use asn_constrained::ConstrainedFault;
+pub use asn_constrained::ConstrainedFeedFault;
+pub use asn_constrained::ConstrainedNewer;
+pub use asn_constrained::ConstrainedNewerFault;
+pub use asn_constrained::ConstrainedSession;
+pub use asn_constrained::ConstrainedType;
+pub use asn_constrained::ConvertFault as ConstrainedConvertFault;
+pub use asn_constrained::FinishFault;
+pub use asn_constrained::decode_under;
+pub use asn_constrained::encode_under;
+pub use asn_constraint_text::ConstrainedFault as ModuleLineFault;
+pub use asn_constraint_text::ConstrainedModule;
+pub use asn_constraint_text::ConstraintTextFault;
+pub use asn_constraint_text::WholeFault;
+pub use asn_constraint_text::constraint_in;
+pub use asn_constraint_text::constraint_text;
+pub use asn_constraint_text::read_constrained;
+pub use asn_constraint_text::with_constraints;
+pub use asn_constraints::Broken;
+pub use asn_constraints::Component;
+pub use asn_constraints::Constraint;
+pub use asn_constraints::Interval;
+pub use asn_constraints::Lengths;
+pub use asn_constraints::Presence;
+pub use asn_constraints::Reason;
+pub use asn_constraints::TimeKind;
+pub use asn_constraints::judge;
+pub use asn_constraints::judge_at;
+pub use asn_constraints::judge_spelling;
+pub use asn_constraints::path_text;
 pub use asn_convert::ConvertFault;
 pub use asn_convert::convert;
 pub use asn_examples::least_value;
@@ -104,6 +135,7 @@ pub use asn_view::WrongPart;
 pub use asn_view::misfit;
 pub use asn_walk_feed::Ticks;
 pub use asn_walk_feed::Units;
+pub use broken_part::broken_part;
 pub use calls::check;
 pub use calls::encode_to;
 pub use calls::read_newer;

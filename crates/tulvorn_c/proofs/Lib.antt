@@ -1,4 +1,6 @@
-mod Conversions
+mod Converting
+mod Counting
+mod Free
 mod HandleValues
 mod LooseValues
 mod ObjectSend

@@ -1,17 +1,15 @@
-use Rattle.std.proofs.Common.{◌≡◌, map, option_map, drop}
+use Rattle.std.proofs.Common.{◌≡◌, true, map, take}
 use Rattle.std.specs.List.{list_all}
-use Rattle.asn_values.specs.View.{datum_of}
-use Rattle.asn_constraints.specs.Constraints.{meets, meets_parts}
-use Rattle.asn_constraints.specs.View.{constraint_of, part_of, parts_of}
+use Rattle.asn_values.specs.View.{datum_of, entries_seen}
+use Rattle.asn_constraints.specs.Constraints.{meets}
+use Rattle.asn_constraints.specs.Broken.{right_before}
+use Rattle.asn_constraints.specs.View.{constraint_of, components_seen}
 use Rattle.asn_constraints.proofs.broken.+broken.Given as goal
 
--- the entries meet the parts where those that are still to be looked at do
-abbrev pub invariant-broken_part-loop-index : goal.invariant-broken_part-loop-index
-invariant-broken_part-loop-index l =
-    meets_parts (parts_of (map part_of (drop l.index l.parts))) (map (option_map datum_of) (drop l.index l.entries))
-    ≡ meets_parts (parts_of (map part_of l.parts)) (map (option_map datum_of) l.entries)
+-- the entries that were looked at are right
+abbrev pub invariant-broken_component-loop-index : goal.invariant-broken_component-loop-index
+invariant-broken_component-loop-index l = right_before l.index (components_seen l.components) (entries_seen l.entries) ≡ true
 
--- all elements meet the rule where those that are still to be looked at do
+-- the elements that were looked at meet the constraint
 abbrev pub invariant-broken_element-loop-index : goal.invariant-broken_element-loop-index
-invariant-broken_element-loop-index l =
-    list_all (λ d. meets (constraint_of l.rule) d) (map datum_of (drop l.index l.elements)) ≡ list_all (λ d. meets (constraint_of l.rule) d) (map datum_of l.elements)
+invariant-broken_element-loop-index l = list_all (λ d. meets (constraint_of l.constraint) d) (take l.index (map datum_of l.elements)) ≡ true

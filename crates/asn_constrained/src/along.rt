@@ -1,0 +1,7 @@
+//! Judges a constraint along the walk of a plan.
+mod choices;
+mod elements;
+mod entries;
+mod judging;
+
+pub(crate) use judging::check_along;

@@ -1,9 +1,0 @@
-use Rattle.std.proofs.Common.{◌≡◌, map, option_map, drop}
-use Rattle.asn_values.specs.View.{datum_of}
-use Rattle.asn_constraints.specs.Constraints.{one_there}
-use Rattle.asn_constraints.proofs.judging.is_some_there.Given as goal
-
--- some entry is there where one of those is that are still to be looked at
-abbrev pub invariant-loop-entry : goal.invariant-loop-entry
-invariant-loop-entry l =
-    one_there (map (option_map datum_of) (drop l.entry-index l.entries)) ≡ one_there (map (option_map datum_of) l.entries)

@@ -1,0 +1,331 @@
+//! What a constraint allows (X.680, "subtype elements"): sets of numbers, lengths, characters and items, and a tree of the
+//! rest.
+use crate::intervals::{EVERY, covers, joined, met, outside};
+use crate::joining::{both, either};
+use asn_constraints::{Constraint, Interval, Lengths};
+use asn_values::profile::{HIGHEST_INTEGER, LOWEST_INTEGER};
+use std::alloc::{AllocError, Global};
+
+/// How deep what is not a set may be.
+const MOST_DEPTH: u32 = 200;
+
+/// The integers of the profile, and the codes of the characters of its strings that have codes of one octet.
+const INTEGERS: Interval = Interval {
+    low: LOWEST_INTEGER,
+    high: HIGHEST_INTEGER,
+};
+
+const CODES: Interval = Interval { low: 0, high: 127 };
+
+/// The lengths of strings and lists.
+pub const LENGTHS: Interval = Interval {
+    low: 0,
+    high: u32::MAX as i128,
+};
+
+/// How many positions of items are looked at: more than an ENUMERATED has.
+const MOST_POSITIONS: u32 = 512;
+
+/// What a constraint allows: the values that are in each set that is given, and meet the others. `None` is every value.
+#[derive(Drop)]
+pub struct Allowed {
+    /// The numbers of an INTEGER, or what is inside SIZE or FROM.
+    pub numbers: Option<Vec<Interval>>,
+    /// The lengths of a string or a list.
+    pub lengths: Option<Vec<Interval>>,
+    /// The codes of characters.
+    pub letters: Option<Vec<Interval>>,
+    /// The positions of items.
+    pub items: Option<Vec<Interval>>,
+    pub others: Constraint,
+    /// How deep the others are.
+    pub depth: u32,
+    /// The constraint has an extension marker: it is no constraint, unless another follows it.
+    pub is_marked: bool,
+    /// Something of it is not looked at: fewer values are allowed.
+    pub is_missing: bool,
+}
+
+/// What the encodings of a type show of its values.
+#[derive(Clone, Copy)]
+pub struct Shown {
+    pub numbers: Interval,
+    pub lengths: Interval,
+    pub items: Interval,
+}
+
+impl Shown {
+    /// Nothing.
+    pub fn nothing() -> Shown {
+        Shown {
+            numbers: INTEGERS,
+            lengths: LENGTHS,
+            items: EVERY,
+        }
+    }
+}
+
+/// How many of the sets are given, and of what.
+#[derive(Clone, Copy, PartialEq, Eq)]
+enum Given {
+    Nothing,
+    Numbers,
+    Lengths,
+    Letters,
+    Items,
+    /// More than one, or others.
+    More,
+}
+
+impl Allowed {
+    /// Every value.
+    pub fn all() -> Allowed {
+        Allowed {
+            numbers: None,
+            lengths: None,
+            letters: None,
+            items: None,
+            others: Constraint::Free,
+            depth: 0,
+            is_marked: false,
+            is_missing: false,
+        }
+    }
+
+    /// Every value, since the constraint is not looked at.
+    pub fn missing() -> Allowed {
+        Allowed {
+            is_missing: true,
+            ..Allowed::all()
+        }
+    }
+
+    /// The values that meet a constraint, which is so deep.
+    pub fn others(constraint: Constraint, depth: u32) -> Allowed {
+        if depth > MOST_DEPTH {
+            return Allowed::missing();
+        }
+        Allowed {
+            others: constraint,
+            depth,
+            ..Allowed::all()
+        }
+    }
+
+    /// Which set alone is given.
+    fn given(&self) -> Given {
+        let count = u32::from(self.numbers.is_some())
+            .saturating_add(u32::from(self.lengths.is_some()))
+            .saturating_add(u32::from(self.letters.is_some()))
+            .saturating_add(u32::from(self.items.is_some()));
+        if !matches!(&self.others, Constraint::Free) || count > 1 {
+            Given::More
+        } else if self.numbers.is_some() {
+            Given::Numbers
+        } else if self.lengths.is_some() {
+            Given::Lengths
+        } else if self.letters.is_some() {
+            Given::Letters
+        } else if self.items.is_some() {
+            Given::Items
+        } else {
+            Given::Nothing
+        }
+    }
+
+    /// The values that both allow. Neither is taken to have a marker.
+    pub fn and(self, alloc: Global, other: Allowed) -> Result<Allowed, AllocError> {
+        let are_both = !matches!(&self.others, Constraint::Free)
+            && !matches!(&other.others, Constraint::Free);
+        let depth = self
+            .depth
+            .max(other.depth)
+            .saturating_add(u32::from(are_both));
+        let is_missing = self.is_missing || other.is_missing;
+        let is_deep = depth > MOST_DEPTH;
+        Ok(Allowed {
+            numbers: both_sets(alloc, self.numbers, other.numbers)?,
+            lengths: both_sets(alloc, self.lengths, other.lengths)?,
+            letters: both_sets(alloc, self.letters, other.letters)?,
+            items: both_sets(alloc, self.items, other.items)?,
+            others: if is_deep {
+                self.others
+            } else {
+                both(alloc, self.others, other.others)?
+            },
+            depth: if is_deep { self.depth } else { depth },
+            is_marked: false,
+            is_missing: is_missing || is_deep,
+        })
+    }
+
+    /// The values that one of both allows. Neither is taken to have a marker.
+    pub fn or(self, alloc: Global, other: Allowed) -> Result<Allowed, AllocError> {
+        let depth = self.depth.max(other.depth).saturating_add(2);
+        let is_missing = self.is_missing || other.is_missing;
+        let (given, given_too) = (self.given(), other.given());
+        if given == Given::Nothing || given_too == Given::Nothing {
+            return Ok(Allowed {
+                is_missing,
+                ..Allowed::all()
+            });
+        }
+        if given == given_too && given != Given::More {
+            return Ok(Allowed {
+                numbers: either_set(alloc, self.numbers, other.numbers)?,
+                lengths: either_set(alloc, self.lengths, other.lengths)?,
+                letters: either_set(alloc, self.letters, other.letters)?,
+                items: either_set(alloc, self.items, other.items)?,
+                is_missing,
+                ..Allowed::all()
+            });
+        }
+        let one = self.into_constraint(alloc, Shown::nothing())?;
+        let two = other.into_constraint(alloc, Shown::nothing())?;
+        let mut allowed = Allowed::others(either(alloc, one, two)?, depth);
+        allowed.is_missing |= is_missing;
+        Ok(allowed)
+    }
+
+    /// The values that this allows, without those that the other does (X.680, "EXCEPT"). What is taken out is a set.
+    pub fn except(self, alloc: Global, other: Allowed) -> Result<Allowed, AllocError> {
+        let is_set = !matches!(other.given(), Given::Nothing | Given::More);
+        if !is_set || other.is_missing || other.is_marked {
+            return Ok(Allowed {
+                is_missing: true,
+                ..self
+            });
+        }
+        let others = Allowed {
+            numbers: outside_set(alloc, other.numbers)?,
+            lengths: outside_set(alloc, other.lengths)?,
+            letters: None,
+            items: outside_set(alloc, other.items)?,
+            // (a string has a character outside of an alphabet, or has only characters inside)
+            is_missing: other.letters.is_some(),
+            ..Allowed::all()
+        };
+        self.and(alloc, others)
+    }
+
+    /// The constraint on values of which encodings show so much.
+    pub fn into_constraint(self, alloc: Global, shown: Shown) -> Result<Constraint, AllocError> {
+        let mut total = Constraint::Free;
+        if let Some(set) = self.numbers {
+            if !covers(set.as_slice(), shown.numbers) {
+                let numbers = met(alloc, set.as_slice(), &[INTEGERS])?;
+                total = both(alloc, total, Constraint::Numbers(numbers))?;
+            }
+        }
+        if let Some(set) = self.lengths {
+            if !covers(set.as_slice(), shown.lengths) {
+                let lengths = lengths_of(alloc, set.as_slice())?;
+                total = both(alloc, total, Constraint::Lengths(lengths))?;
+            }
+        }
+        if let Some(set) = self.letters {
+            if !covers(set.as_slice(), CODES) {
+                let letters = met(alloc, set.as_slice(), &[CODES])?;
+                total = both(alloc, total, Constraint::Characters(letters))?;
+            }
+        }
+        if let Some(set) = self.items {
+            if covers(set.as_slice(), shown.items) {
+                return both(alloc, total, self.others);
+            }
+            let positions = positions_of(alloc, set.as_slice())?;
+            total = both(alloc, total, Constraint::Items(positions))?;
+        }
+        both(alloc, total, self.others)
+    }
+
+    /// What is allowed of a list whose elements are allowed so.
+    pub fn elements(self, alloc: Global) -> Result<Allowed, AllocError> {
+        let depth = self.depth.saturating_add(2);
+        let is_missing = self.is_missing;
+        let inner = self.into_constraint(alloc, Shown::nothing())?;
+        let constraint = match inner {
+            Constraint::Free => Constraint::Free,
+            inner => Constraint::Elements(Box::new(alloc, inner)?),
+        };
+        let mut allowed = Allowed::others(constraint, depth);
+        allowed.is_missing |= is_missing;
+        Ok(allowed)
+    }
+
+    /// How deep the constraint is that it becomes.
+    pub(crate) fn depth(&self) -> u32 {
+        self.depth.saturating_add(5)
+    }
+}
+
+/// The numbers of both sets, where `None` is all.
+fn both_sets(
+    alloc: Global,
+    one: Option<Vec<Interval>>,
+    other: Option<Vec<Interval>>,
+) -> Result<Option<Vec<Interval>>, AllocError> {
+    match one {
+        None => Ok(other),
+        Some(set) => match other {
+            None => Ok(Some(set)),
+            Some(with) => Ok(Some(met(alloc, set.as_slice(), with.as_slice())?)),
+        },
+    }
+}
+
+/// The numbers of either set, where `None` is all.
+fn either_set(
+    alloc: Global,
+    one: Option<Vec<Interval>>,
+    other: Option<Vec<Interval>>,
+) -> Result<Option<Vec<Interval>>, AllocError> {
+    match one {
+        None => Ok(None),
+        Some(set) => match other {
+            None => Ok(None),
+            Some(with) => Ok(Some(joined(alloc, set.as_slice(), with.as_slice())?)),
+        },
+    }
+}
+
+/// The numbers outside of a set, where there is one.
+fn outside_set(
+    alloc: Global,
+    set: Option<Vec<Interval>>,
+) -> Result<Option<Vec<Interval>>, AllocError> {
+    match set {
+        None => Ok(None),
+        Some(set) => Ok(Some(outside(alloc, set.as_slice())?)),
+    }
+}
+
+/// A set of numbers as lengths.
+fn lengths_of(alloc: Global, set: &[Interval]) -> Result<Vec<Lengths>, AllocError> {
+    let mut lengths = Vec::new(alloc);
+    for interval in set {
+        let low = u32::try_from(interval.low.max(0));
+        if let (Ok(low), true) = (low, interval.high >= 0) {
+            lengths.push(Lengths {
+                low,
+                high: match u32::try_from(interval.high) {
+                    Ok(high) => Some(high),
+                    Err(_) => None,
+                },
+            })?;
+        }
+    }
+    Ok(lengths)
+}
+
+/// A set of positions, one by one.
+fn positions_of(alloc: Global, set: &[Interval]) -> Result<Vec<u32>, AllocError> {
+    let mut positions = Vec::new(alloc);
+    for position in 0..MOST_POSITIONS {
+        let at = i128::from(position);
+        if covers(set, Interval { low: at, high: at }) {
+            positions.push(position)?;
+        }
+    }
+    Ok(positions)
+}

@@ -32,14 +32,18 @@ INNERMOST = {
     "BIT STRING": ("BIT STRING", '"101"'),
     "OCTET STRING": ("OCTET STRING", '"00ff"'),
 }
-LEVELS = 32
+LEVELS = 64
 
 
 def deep(around, innermost, levels):
-    """A type of that many levels, whose kinds take turns, and a value of it."""
+    """A type of at most that many levels, whose kinds take turns, and a value of it. A SEQUENCE OF takes two levels."""
+    outside = []
+    left = levels - 1
+    while left >= (2 if (name := around[len(outside) % len(around)]).startswith("SEQUENCE OF") else 1):
+        outside.append(AROUND[name])
+        left -= 2 if name.startswith("SEQUENCE OF") else 1
     kind, value = INNERMOST[innermost]
-    for level in reversed(range(levels - 1)):
-        of_type, of_value = AROUND[around[level % len(around)]]
+    for of_type, of_value in reversed(outside):
         kind, value = of_type.format(kind), of_value.format(value)
     return kind, value
 

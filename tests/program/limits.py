@@ -93,7 +93,7 @@ def choices(rand):
     inner.append(f'INTEGER ({LOWEST}..{HIGHEST})')
     most, less = ALTERNATIVES, ALTERNATIVES - 1
     counts = {(most, None), (less, None), (most, 0), (less, 1), (1, less)}
-    for near in (1, 2, 3, 31, 32, 33, 61, 62, 63, 64, 65, 99, 100, 127, 128, 129, 199):
+    for near in (1, 2, 3, 31, 32, 33, 61, 62, 63, 64, 65, 99, 100, 127, 128, 129, 199, 200, 255):
         counts |= {(near, None), (near, 0), (near, 1), (near, most - near), (most - near, near), (1, near), (near, near)}
     for root, more in sorted(counts, key=str):
         if root > 0 and (more or 0) >= 0 and root + (more or 0) <= ALTERNATIVES:

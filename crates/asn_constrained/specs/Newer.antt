@@ -13,8 +13,8 @@ use Rattle.asn_constrained.specs.declared.newer.ConstrainedNewerFault.{Constrain
 use Rattle.asn_constrained.specs.declared.newer.ConstrainedNewerFault.TheVariants as under
 use Rattle.asn_constrained.specs.Under.{Found}
 
--- what is answered of a message that was read: its value meets what the constraint says of spelling, and whether it meets
--- the rest; or it breaks the spelling. Of the memory nothing is claimed.
+-- what is answered of a message that was read: its value meets what the constraint says of spelling, and whether it
+-- meets the rest; or it breaks the spelling. Of the memory nothing is claimed.
 abbrev pub JudgedNewer : Constraint → Newer → Result ConstrainedNewer ConstrainedNewerFault → Type 0
 JudgedNewer c n (Ok m) =
     (m.newer ≡ n) × (meets (spelling c) (datum_of n.value) ≡ true) × Found c (datum_of n.value) m.broken

@@ -1,7 +1,7 @@
 -- What is still asked of a value once one more part of it is passed.
 use Rattle.std.specs.Global.{Box}
 use Rattle.std.specs.List.{list_all}
-use Rattle.std.proofs.Common.{◌≡◌, ◌&&◌, ◌+◌, ℕ, Bool, true, false, List, [], ◌∷◌, ◌++◌, map, length, length-append, append_assoc, Option, Some, None, IsSome, IfSome, Vec, Global, refl, ap, sym, ◌∙◌, subst, true≢false, rules, arith}
+use Rattle.std.proofs.Common.{◌≡◌, ◌&&◌, ◌+◌, Bool, true, false, List, [], ◌∷◌, ◌++◌, map, length, length-append, append_assoc, Option, Some, None, IsSome, IfSome, Vec, Global, refl, ap, sym, ◌∙◌, subst, true≢false, rules}
 use Rattle.std.specs.Borrow.{Bor}
 use Rattle.std.proofs.lemmas.List.{append-nil}
 use Rattle.asn_values.specs.Datum.{Datum, components, components_of, elements, elements_of}

@@ -1,15 +1,14 @@
 -- What breaks somewhere does not meet the constraint.
-use Rattle.std.proofs.Common.{◌≡◌, ◌≢◌, ◌<◌, ◌≤◌, ◌&&◌, ℕ, zero, suc, Bool, true, false, not, List, [], ◌∷◌, map, length, get_or, Option, Some, None, option_map, refl, ap, ◌∙◌, sym, arith, inl, inr}
+use Rattle.std.proofs.Common.{◌≡◌, ◌<◌, ◌&&◌, ℕ, zero, suc, Bool, true, false, List, [], ◌∷◌, length, Option, Some, None, refl, ◌∙◌, arith, inl, inr}
 use mathlib.Core.Bool.{true≢false}
 use Rattle.std.specs.List.{list_all, slice_get}
 use Rattle.std.proofs.Math.Bool.{and-false}
 use Rattle.std.proofs.lemmas.Bool.{leb-false}
-use Rattle.asn_values.specs.Datum.{Datum, Components, components, component_list, Elements, elements, element_list, alternative, truth, nothing, number, item, bit_list, octet_list, characters, unicode, unknown_item, unknown_alternative}
+use Rattle.asn_values.specs.Datum.{Datum, Components, components, component_list, elements, element_list, alternative}
 use Rattle.asn_constraints.specs.declared.broken.Reason.{Reason}
-use Rattle.asn_constraints.specs.declared.broken.Reason.TheVariants as reason
-use Rattle.asn_constraints.specs.Constraints.{any, must_be, must_not_be, Constraint, free, barred, both, either, on_components, on_elements, on_alternatives, OnComponents, other_components_free, on_component, OnAlternatives, other_alternatives_barred, other_alternatives_free, on_alternative, entry_meets, meets, meet_each, meets_at, may_be_present}
+use Rattle.asn_constraints.specs.Constraints.{Constraint, on_components, on_elements, on_alternatives, OnComponents, other_components_free, on_component, OnAlternatives, other_alternatives_barred, other_alternatives_free, on_alternative, entry_meets, meets, meet_each, meets_at, may_be_present}
 use Rattle.asn_constraints.specs.View.{OnOne}
-use Rattle.asn_constraints.specs.Broken.{presence_at, component_at, alternative_at, count, right_before, has_parts, reason_of, BreaksAt, itself, without_parts, first, second, missing, not_absent, in_component, in_element, not_allowed, in_alternative}
+use Rattle.asn_constraints.specs.Broken.{presence_at, component_at, alternative_at, count, right_before, has_parts, BreaksAt, itself, without_parts, first, second, missing, not_absent, in_component, in_element, not_allowed, in_alternative}
 use Rattle.asn_constraints.specs.Finding.{BreaksEntry}
 
 -- one false part of two

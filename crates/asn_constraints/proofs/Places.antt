@@ -9,18 +9,17 @@ use Rattle.std.proofs.lemmas.Option.{slice_get_read, slice_get-map}
 use Rattle.std.proofs.lemmas.Result.{IfOk-weaker}
 use Rattle.asn_values.specs.declared.value.Value.{Value}
 use Rattle.asn_values.specs.declared.value.Value.TheVariants as value
-use Rattle.asn_values.specs.Datum.{Datum, components, components_of, component_list, elements, elements_of, element_list, alternative}
+use Rattle.asn_values.specs.Datum.{Datum, components_of, component_list, elements_of, element_list, alternative}
 use Rattle.asn_values.specs.View.{datum_of, entries_seen}
 use Rattle.asn_values.proofs.Views.{datum_of-Seq, component_list-components_of, element_list-elements_of}
 use Rattle.asn_constraints.specs.declared.broken.Broken.{Broken}
-use Rattle.asn_constraints.specs.declared.broken.Reason.{Reason}
 use Rattle.asn_constraints.specs.declared.broken.Reason.TheVariants as reason
 use Rattle.asn_constraints.specs.declared.constraint.Component.{Component}
 use Rattle.asn_constraints.specs.declared.constraint.Constraint.{Constraint, Barred, Both, Components, the_lemmas}
 use Rattle.asn_constraints.specs.Constraints.{barred, both, on_components, on_elements, on_alternatives, meets, meet_each, meets_at}
 use Rattle.std.specs.Cmp.{first_so, second_so}
-use Rattle.asn_constraints.specs.View.{constraint_of, on_one, on_components_of, on_alternatives_of, components_seen, alternatives_seen, sequence_seen, list_seen, meets_one}
-use Rattle.asn_constraints.specs.Broken.{presence_at, component_at, alternative_at, count, right_before, has_parts, BreaksAt, without_parts, first, second, in_element, in_alternative}
+use Rattle.asn_constraints.specs.View.{constraint_of, on_one, components_seen, alternatives_seen, sequence_seen, list_seen, meets_one}
+use Rattle.asn_constraints.specs.Broken.{presence_at, component_at, alternative_at, count, right_before, BreaksAt, without_parts, first, second, in_element, in_alternative}
 use Rattle.asn_constraints.specs.Finding.{Finds, FindsEntry}
 use Rattle.asn_constraints.proofs.Breaking.{alternative_judged, in_entry}
 use Rattle.asn_constraints.proofs.Views.{constraint_of-Components}

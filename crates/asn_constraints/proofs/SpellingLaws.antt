@@ -4,7 +4,7 @@ use mathlib.Core.Bool.{true≢false}
 use Rattle.std.specs.Cmp.{first_so, second_so}
 use Rattle.std.specs.List.{list_all}
 use Rattle.asn_values.specs.Datum.{Datum, components, component_list, elements, element_list, alternative}
-use Rattle.asn_constraints.specs.Constraints.{Presence, any, Constraint, free, both, either, trimmed, time, except, on_components, on_elements, on_alternatives, some_present, OnComponents, other_components_free, on_component, OnAlternatives, other_alternatives_barred, other_alternatives_free, on_alternative, entry_meets, may_be_present, is_unknown, meets, meet_each, meets_at}
+use Rattle.asn_constraints.specs.Constraints.{Presence, any, Constraint, free, both, either, trimmed, time, except, on_components, on_elements, on_alternatives, some_present, OnComponents, other_components_free, on_component, OnAlternatives, on_alternative, entry_meets, may_be_present, is_unknown, meets, meet_each, meets_at}
 use Rattle.asn_constraints.specs.Spelling.{is_of_spelling, spelling, spelling_of_components, spelling_of_alternatives}
 
 or_left : (a b : Bool) → a ≡ true → (a || b) ≡ true

@@ -1,21 +1,19 @@
 -- What meets the spelling of a constraint.
 use Rattle.std.specs.Global.{Box}
-use Rattle.std.proofs.Common.{◌≡◌, ◌<◌, ◌≤◌, ◌+◌, ◌&&◌, ◌||◌, ℕ, zero, suc, Bool, true, false, not, List, [], ◌∷◌, map, length, get_or, drop, Option, Some, None, option_map, Vec, Global, refl, ap, ◌∙◌, sym, rules, arith}
-use mathlib.Core.Bool.{true≢false}
-use Rattle.std.specs.Cmp.{first_so, second_so}
+use Rattle.std.proofs.Common.{◌≡◌, ◌<◌, ◌≤◌, ◌+◌, ◌&&◌, ℕ, zero, suc, Bool, true, false, List, [], ◌∷◌, map, length, get_or, drop, Option, option_map, Vec, Global, refl, ap, ◌∙◌, sym, rules, arith}
 use Rattle.std.specs.List.{list_all}
 use Rattle.std.proofs.Math.Bool.{and-false}
 use Rattle.std.proofs.lemmas.List.{drop_more}
 use Rattle.asn_values.specs.declared.value.Value.{Value}
 use Rattle.asn_values.specs.declared.value.Value.TheVariants as value
-use Rattle.asn_values.specs.Datum.{Datum, components, component_list, elements, element_list, alternative}
+use Rattle.asn_values.specs.Datum.{Datum}
 use Rattle.asn_values.specs.View.{datum_of, entries_seen}
 use Rattle.asn_values.proofs.Views.{datum_of-Seq, datum_of-List, component_list-components_of, element_list-elements_of}
 use Rattle.asn_constraints.specs.declared.constraint.Component.{Component}
 use Rattle.asn_constraints.specs.declared.constraint.Constraint.{Components, Elements, the_lemmas}
 use Rattle.asn_constraints.specs.declared.constraint.Constraint as declared
-use Rattle.asn_constraints.specs.Constraints.{Presence, any, must_not_be, Constraint, free, barred, both, either, numbers, items, lengths, alphabet, trimmed, time, except, on_components, on_elements, on_alternatives, some_present, unknown, OnComponents, other_components_free, on_component, OnAlternatives, other_alternatives_barred, other_alternatives_free, on_alternative, entry_meets, may_be_present, is_unknown, meets, meet_each, meets_at}
-use Rattle.asn_constraints.specs.Spelling.{is_of_spelling, spelling, spelling_of_components, spelling_of_alternatives}
+use Rattle.asn_constraints.specs.Constraints.{any, entry_meets, meets, meet_each, meets_at}
+use Rattle.asn_constraints.specs.Spelling.{spelling, spelling_of_components, spelling_of_alternatives}
 use Rattle.asn_constraints.specs.View.{constraint_of, on_one, components_seen, alternatives_seen}
 use Rattle.asn_constraints.proofs.Views.{constraint_of-Components, constraint_of-Elements}
 

@@ -9,14 +9,11 @@ use Rattle.asn_values.specs.declared.value.Value.TheVariants as value
 use Rattle.asn_values.specs.Datum.{Datum}
 use Rattle.asn_values.specs.Equality.{datum_eq}
 use Rattle.asn_values.specs.View.{datum_of}
-use Rattle.asn_values.proofs.Views.{datum_of-Seq, datum_of-List, datum_of-Text, component_list-components_of, element_list-elements_of}
+use Rattle.asn_values.proofs.Views.{datum_of-Seq, datum_of-List, component_list-components_of, element_list-elements_of}
 use Rattle.asn_constraints.specs.declared.constraint.Component.{Component}
-use Rattle.asn_constraints.specs.declared.constraint.Interval.{Interval}
-use Rattle.asn_constraints.specs.declared.constraint.TimeKind.{TimeKind}
-use Rattle.asn_constraints.specs.declared.constraint.Constraint.{Constraint, Except, Components, Elements, SomePresent, Characters, Time, the_lemmas}
-use Rattle.asn_constraints.specs.Times.{is_time}
-use Rattle.asn_constraints.specs.Constraints.{except, on_components, on_elements, some_present, alphabet, time, meets, meet_each, meets_at, one_present, length_of, are_among}
-use Rattle.asn_constraints.specs.View.{constraint_of, on_one, on_components_of, on_alternatives_of, meets_one, interval_of, time_kind_of}
+use Rattle.asn_constraints.specs.declared.constraint.Constraint.{Constraint, Except, Components, Elements, SomePresent, the_lemmas}
+use Rattle.asn_constraints.specs.Constraints.{except, on_components, on_elements, some_present, meets, meet_each, meets_at, one_present, length_of}
+use Rattle.asn_constraints.specs.View.{constraint_of, on_one, on_components_of, on_alternatives_of, meets_one}
 
 pub constraint_of-Except : (v : Value) → constraint_of (Except v) ≡ except (datum_of v)
 constraint_of-Except v = search (rules, the_lemmas)

@@ -2,7 +2,7 @@
 -- its encodings are canonical too: they leave out a DEFAULT and an empty group, last zeros of named bits, and last zeros
 -- of a time.
 use Rattle.std.specs.Prelude.{◌&&◌, Bool, true, false}
-use Rattle.asn_constraints.specs.Constraints.{Presence, any, Constraint, free, both, either, trimmed, time, except, on_components, on_elements, on_alternatives, some_present, unknown, OnComponents, other_components_free, on_component, OnAlternatives, other_alternatives_barred, other_alternatives_free, on_alternative}
+use Rattle.asn_constraints.specs.Constraints.{Presence, any, Constraint, free, both, either, trimmed, time, except, on_components, on_elements, on_alternatives, some_present, unknown, OnComponents, other_components_free, on_component, OnAlternatives, other_alternatives_free, on_alternative}
 use Rattle.asn_constraints.specs.View.{OnOne}
 
 -- an item or an alternative that the type has not is not judged

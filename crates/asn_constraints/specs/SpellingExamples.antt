@@ -3,9 +3,9 @@ use Rattle.std.specs.Prelude.{◌≡◌, ◌∷◌, [], pos, true, false, Some, 
 use Rattle.asn_values.specs.Datum.{truth, nothing, number, item, bit_list, characters, alternative, unknown_item, unknown_alternative}
 use Rattle.asn_values.specs.ExampleTypes.{bits_of, entries, items}
 use Rattle.asn_constraints.specs.Times.{generalized}
-use Rattle.asn_constraints.specs.Constraints.{Constraint, any, must_be, must_not_be, free, either, numbers, except, trimmed, time, on_components, other_components_free, on_component, on_elements, meets}
+use Rattle.asn_constraints.specs.Constraints.{either, except, trimmed, time, on_elements, meets}
 use Rattle.asn_constraints.specs.Spelling.{spelling}
-use Rattle.asn_constraints.specs.ConstraintExamples.{permissions, filter, grouped, with_a_gap, correlated, choice_of_two, hexadecimal, short_text}
+use Rattle.asn_constraints.specs.ConstraintExamples.{permissions, filter, grouped, with_a_gap, correlated, choice_of_two, hexadecimal}
 
 -- a newer version may have closed a gap
 pub gap_closed : meets (spelling with_a_gap) (number (pos 5)) ≡ true

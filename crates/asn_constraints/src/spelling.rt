@@ -10,11 +10,11 @@ use crate::constraint::{Component, Constraint, Presence};
 use crate::judging::judge;
 use asn_values::Value;
 
-/// Whether the value meets what the constraint says of spelling: no DEFAULT is written out, no group is empty, and named
-/// bits and times have no last zeros.
+/// Whether the value meets what the constraint says of spelling.
 ///
-/// A receiver judges so what a newer sender wrote, since a newer version may have loosened the other constraints. An item
-/// or an alternative that the receiver's type has not is not judged. Allocates nothing.
+/// That is: no DEFAULT is written out, no group is empty, and named bits and times have no last zeros. A receiver judges
+/// so what a newer sender wrote, since a newer version may have loosened the other constraints. An item or an alternative
+/// that the receiver's type has not is not judged. Allocates nothing.
 #[cycle(spelling)]
 pub fn judge_spelling(constraint: &Constraint, value: &Value) -> bool
     ensures { result ≡ meets (spelling (constraint_of constraint.now)) (datum_of value.now) }
@@ -127,7 +127,8 @@ fn entries_are_spelt(components: &[Component], entries: &[Option<Value>]) -> boo
 /// Whether the entry is absent or meets the spelling of the constraint.
 #[cycle(spelling)]
 fn entry_is_spelt(constraint: &Constraint, entry: &Option<Value>) -> bool
-    ensures { result ≡ entry_meets any (λ d. meets (spelling (constraint_of constraint.now)) d) (option_map datum_of entry.now) }
+    ensures { result ≡
+        entry_meets any (λ d. meets (spelling (constraint_of constraint.now)) d) (option_map datum_of entry.now) }
 {
     match entry {
         None => true,
@@ -151,7 +152,8 @@ fn elements_are_spelt(constraint: &Constraint, elements: &[Value]) -> bool
 /// Whether the value meets the spelling of the constraint on the alternative with this index, if there is one.
 #[cycle(spelling)]
 fn alternative_is_spelt(alternatives: &[Constraint], index: usize, chosen: &Value) -> bool
-    ensures { result ≡ meets_at (spelling_of_alternatives (alternatives_seen alternatives.now)) index (datum_of chosen.now) }
+    ensures { result ≡
+        meets_at (spelling_of_alternatives (alternatives_seen alternatives.now)) index (datum_of chosen.now) }
 {
     alternatives.len() <= index || judge_spelling(&alternatives[index], chosen)
 }

@@ -63,14 +63,17 @@ impl Flattened {
     /// # Errors
     /// `AllocError` where an allocation failed.
     pub fn constraint_of(&self, alloc: Global, name: &str) -> Result<Constraint, AllocError> {
-        let mut places = self.places.iter();
-        for one in &self.report {
-            let place = places.next();
-            if let (Some(place), true) = (place, *one.name.as_str() == *name) {
-                return constraint_at(alloc, self.marked.as_slice(), *place);
-            }
+        let found = self
+            .report
+            .iter()
+            .position(|one| *one.name.as_str() == *name);
+        let Some(at) = found else {
+            return Ok(Constraint::Free);
+        };
+        match self.places.get(at) {
+            Some(place) => constraint_at(alloc, self.marked.as_slice(), *place),
+            None => Ok(Constraint::Free),
         }
-        Ok(Constraint::Free)
     }
 
     /// The same of the type at an index of the report.

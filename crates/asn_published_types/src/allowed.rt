@@ -210,33 +210,24 @@ impl Allowed {
 
     /// The constraint on values of which encodings show so much.
     pub fn into_constraint(self, alloc: Global, shown: Shown) -> Result<Constraint, AllocError> {
-        let mut total = Constraint::Free;
-        if let Some(set) = self.numbers {
-            if !covers(set.as_slice(), shown.numbers) {
-                let numbers = met(alloc, set.as_slice(), &[INTEGERS])?;
-                total = both(alloc, total, Constraint::Numbers(numbers))?;
-            }
-        }
-        if let Some(set) = self.lengths {
-            if !covers(set.as_slice(), shown.lengths) {
-                let lengths = lengths_of(alloc, set.as_slice())?;
-                total = both(alloc, total, Constraint::Lengths(lengths))?;
-            }
-        }
-        if let Some(set) = self.letters {
-            if !covers(set.as_slice(), CODES) {
-                let letters = met(alloc, set.as_slice(), &[CODES])?;
-                total = both(alloc, total, Constraint::Characters(letters))?;
-            }
-        }
-        if let Some(set) = self.items {
-            if covers(set.as_slice(), shown.items) {
-                return both(alloc, total, self.others);
-            }
-            let positions = positions_of(alloc, set.as_slice())?;
-            total = both(alloc, total, Constraint::Items(positions))?;
-        }
-        both(alloc, total, self.others)
+        let Allowed {
+            numbers,
+            lengths,
+            letters,
+            items,
+            others,
+            depth: _,
+            is_marked: _,
+            is_missing: _,
+        } = self;
+        let numbers = numbers_among(alloc, numbers, shown.numbers)?;
+        let lengths = lengths_among(alloc, lengths, shown.lengths)?;
+        let letters = letters_among(alloc, letters)?;
+        let items = items_among(alloc, items, shown.items)?;
+        let counted = both(alloc, numbers, lengths)?;
+        let named = both(alloc, letters, items)?;
+        let sets = both(alloc, counted, named)?;
+        both(alloc, sets, others)
     }
 
     /// What is allowed of a list whose elements are allowed so.
@@ -297,6 +288,62 @@ fn outside_set(
     match set {
         None => Ok(None),
         Some(set) => Ok(Some(outside(alloc, set.as_slice())?)),
+    }
+}
+
+/// That a number is in a set, unless it has each that encodings show.
+fn numbers_among(
+    alloc: Global,
+    set: Option<Vec<Interval>>,
+    shown: Interval,
+) -> Result<Constraint, AllocError> {
+    match set {
+        Some(set) if !covers(set.as_slice(), shown) => {
+            let numbers = met(alloc, set.as_slice(), &[INTEGERS])?;
+            Ok(Constraint::Numbers(numbers))
+        }
+        _ => Ok(Constraint::Free),
+    }
+}
+
+/// That a length is in a set, unless it has each that encodings show.
+fn lengths_among(
+    alloc: Global,
+    set: Option<Vec<Interval>>,
+    shown: Interval,
+) -> Result<Constraint, AllocError> {
+    match set {
+        Some(set) if !covers(set.as_slice(), shown) => {
+            let lengths = lengths_of(alloc, set.as_slice())?;
+            Ok(Constraint::Lengths(lengths))
+        }
+        _ => Ok(Constraint::Free),
+    }
+}
+
+/// That characters have codes in a set, unless it has each.
+fn letters_among(alloc: Global, set: Option<Vec<Interval>>) -> Result<Constraint, AllocError> {
+    match set {
+        Some(set) if !covers(set.as_slice(), CODES) => {
+            let letters = met(alloc, set.as_slice(), &[CODES])?;
+            Ok(Constraint::Characters(letters))
+        }
+        _ => Ok(Constraint::Free),
+    }
+}
+
+/// That an item has a position in a set, unless it has each that encodings show.
+fn items_among(
+    alloc: Global,
+    set: Option<Vec<Interval>>,
+    shown: Interval,
+) -> Result<Constraint, AllocError> {
+    match set {
+        Some(set) if !covers(set.as_slice(), shown) => {
+            let positions = positions_of(alloc, set.as_slice())?;
+            Ok(Constraint::Items(positions))
+        }
+        _ => Ok(Constraint::Free),
     }
 }
 

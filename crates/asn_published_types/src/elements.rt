@@ -4,9 +4,9 @@ use crate::allowed::Allowed;
 use crate::intervals::{between, of_ranges, only};
 use crate::numbers::Scope;
 use crate::places::{after_table, after_unseen, mark_at, root_end};
-use crate::seen::{Mode, Seen};
+use crate::seen::Mode;
 use crate::subtypes::{Around, Of, Subtypes, Work};
-use asn_constraints::{Constraint, Interval};
+use asn_constraints::Constraint;
 use asn_published_text::nodes::Shape;
 use asn_published_text::places::{is_and, is_contained, is_or};
 use asn_published_text::refusal::Refusal;
@@ -16,7 +16,7 @@ use asn_values::Value;
 use std::alloc::{AllocError, Global};
 
 /// What a reader of constraints answers: what is allowed, and the index after it; `None` where that is not known.
-type Element = Option<(Allowed, usize)>;
+pub(crate) type Element = Option<(Allowed, usize)>;
 
 impl<'a, 't> Subtypes<'a, 't> {
     /// What the constraint in the brackets at `at` allows, with its marker.
@@ -291,20 +291,19 @@ impl<'a, 't> Subtypes<'a, 't> {
         mode: Mode,
         at: usize,
     ) -> Result<Element, AllocError> {
-        match self.values.value_seen(alloc, scope, mode, at) {
-            Ok((Seen { numbers, .. }, behind)) => match numbers {
-                Some(ranges) => Ok(Some((
-                    Allowed {
-                        numbers: Some(of_ranges(alloc, &ranges)?),
-                        ..Allowed::all()
-                    },
-                    behind,
-                ))),
-                None => Ok(Some((Allowed::missing(), behind))),
+        let found = match self.values.value_seen(alloc, scope, mode, at) {
+            Ok(found) => found,
+            Err(Refusal::Memory) => return Err(AllocError),
+            Err(Refusal::At { .. }) => return Ok(None),
+        };
+        let allowed = match &found.0.numbers {
+            Some(ranges) => Allowed {
+                numbers: Some(of_ranges(alloc, ranges)?),
+                ..Allowed::all()
             },
-            Err(Refusal::Memory) => Err(AllocError),
-            Err(Refusal::At { .. }) => Ok(None),
-        }
+            None => Allowed::missing(),
+        };
+        Ok(Some((allowed, found.1)))
     }
 
     /// What the value or the range at `at` allows, and the index after it.
@@ -345,66 +344,6 @@ impl<'a, 't> Subtypes<'a, 't> {
         match self.range_at(alloc, around.scope(None), Mode::Others, at)? {
             Some((_, behind)) => Ok(Some((Allowed::missing(), behind))),
             None => Ok(None),
-        }
-    }
-
-    /// What the type at `at` allows whose values are (X.680, "contained subtype"), and the index after it.
-    #[cycle(allowed)]
-    fn contained_of(
-        &self,
-        alloc: Global,
-        around: Around,
-        at: usize,
-        levels: u32,
-        work: &mut Work,
-    ) -> Result<Element, AllocError> {
-        let Some(tokens) = self.values.world.tokens_of(around.module) else {
-            return Ok(None);
-        };
-        let start = if tokens.is_word(at, "INCLUDES") {
-            next(at)
-        } else {
-            at
-        };
-        let Ok((to, behind)) = self.values.world.reference_at(around.module, start) else {
-            return Ok(None);
-        };
-        let first = match self.tagging.firsts.get(to) {
-            Some(Some(first)) if levels > 0 => *first,
-            _ => return Ok(Some((Allowed::missing(), behind))),
-        };
-        if !self.is_alike(around, first) {
-            return Ok(Some((Allowed::missing(), behind)));
-        }
-        let mut allowed = self.whole_of(alloc, first, levels - 1, work)?;
-        allowed.is_marked = false;
-        Ok(Some((allowed, behind)))
-    }
-
-    /// Whether the type of a node has values of the same kind as those at a place, and the same parts inside.
-    fn is_alike(&self, around: Around, index: usize) -> bool {
-        let Some(base) = self.base_of(index) else {
-            return false;
-        };
-        let (Some(one), Some(other)) = (
-            self.tagging.forest.node(around.base),
-            self.tagging.forest.node(base),
-        ) else {
-            return false;
-        };
-        match around.of {
-            Of::Sizes => matches!(other.shape, Shape::Integer { .. }),
-            Of::Letters => false,
-            Of::Values if base == around.base => true,
-            Of::Values => match (one.shape, other.shape) {
-                (Shape::Integer { .. }, Shape::Integer { .. })
-                | (Shape::Bits { .. }, Shape::Bits { .. })
-                | (Shape::Octets, Shape::Octets)
-                | (Shape::Utf8, Shape::Utf8)
-                | (Shape::Boolean, Shape::Boolean) => true,
-                (Shape::Text(kind), Shape::Text(too)) => kind == too,
-                _ => false,
-            },
         }
     }
 }

@@ -4,12 +4,11 @@ use crate::allowed::{Allowed, Shown};
 use crate::layout::{Layout, TagOrder, layout_of, sort_by_tags};
 use crate::subtypes::Subtypes;
 use crate::tags::is_automatic;
-use asn_constraints::{Component, Constraint, Presence, judge};
+use asn_constraints::{Constraint, judge};
 use asn_published_text::nodes::{Holder, MemberKind, Need, Shape};
 use asn_published_text::refusal::Refusal;
 use asn_values::Value;
 use std::alloc::{AllocError, Global};
-use std::mem;
 
 /// What is said of the presence of a part.
 #[derive(Clone, Copy, PartialEq, Eq)]
@@ -22,40 +21,40 @@ pub(crate) enum Said {
 
 /// A component or an alternative.
 #[derive(Drop)]
-struct Part<'t> {
-    name: &'t str,
-    node: usize,
-    need: Need,
-    is_addition: bool,
+pub(crate) struct Part<'t> {
+    pub name: &'t str,
+    pub node: usize,
+    pub need: Need,
+    pub is_addition: bool,
     /// Its place among the parts, and inside the group that has this place.
-    place: usize,
-    inside: Option<usize>,
-    is_listed: bool,
-    said: Said,
-    constraint: Constraint,
+    pub place: usize,
+    pub inside: Option<usize>,
+    pub is_listed: bool,
+    pub said: Said,
+    pub constraint: Constraint,
     /// The constraint does not allow its DEFAULT.
-    is_default_barred: bool,
+    pub is_default_barred: bool,
 }
 
 /// A group of additions: its place among the parts, and how many it has itself.
 #[derive(Clone, Copy)]
-struct Group {
-    place: usize,
-    count: usize,
+pub(crate) struct Group {
+    pub place: usize,
+    pub count: usize,
 }
 
 /// The parts of a SEQUENCE, SET or CHOICE.
 #[derive(Drop)]
 pub(crate) struct Parts<'t> {
-    parts: Vec<Part<'t>>,
-    groups: Vec<Group>,
+    pub parts: Vec<Part<'t>>,
+    pub groups: Vec<Group>,
     /// How many places there are.
-    count: usize,
-    is_choice: bool,
+    pub count: usize,
+    pub is_choice: bool,
     /// Parts that are not listed are not constrained.
     pub is_partial: bool,
-    depth: u32,
-    is_missing: bool,
+    pub depth: u32,
+    pub is_missing: bool,
 }
 
 impl<'a, 't> Subtypes<'a, 't> {
@@ -281,161 +280,5 @@ impl<'t> Parts<'t> {
         let mut allowed = Allowed::others(constraint, depth);
         allowed.is_missing |= is_missing;
         Ok(allowed)
-    }
-
-    /// The constraint on the alternatives of a CHOICE.
-    fn alternatives(self, alloc: Global) -> Result<Constraint, AllocError> {
-        let Parts {
-            parts,
-            is_partial,
-            ..
-        } = self;
-        let has_present = parts.iter().any(|part| part.said == Said::Present);
-        let mut alternatives = Vec::new(alloc);
-        let mut is_free = true;
-        for part in parts {
-            let Part {
-                said,
-                constraint,
-                is_listed,
-                ..
-            } = part;
-            let is_barred = said == Said::Absent
-                || (has_present && said != Said::Present)
-                || (!is_partial && !is_listed);
-            let one = if is_barred {
-                Constraint::Barred
-            } else {
-                constraint
-            };
-            is_free &= matches!(&one, Constraint::Free);
-            alternatives.push(one)?;
-        }
-        if is_free {
-            return Ok(Constraint::Free);
-        }
-        Ok(Constraint::Alternatives(alternatives))
-    }
-
-    /// The constraint on the components of a SEQUENCE or SET.
-    fn components(self, alloc: Global) -> Result<Constraint, AllocError> {
-        let Parts {
-            parts,
-            groups,
-            count,
-            is_partial,
-            ..
-        } = self;
-        let mut components = unconstrained(alloc, count)?;
-        for group in &groups {
-            let mut inner = unconstrained(alloc, group.count)?;
-            for part in &parts {
-                if let (Some(inside), true) = (part.inside, part.place == group.place) {
-                    put_presence(&mut inner, inside, presence_of(part, is_partial));
-                }
-            }
-            let is_present = inner.iter().any(|one| one.presence == Presence::Present);
-            let presence = if is_present {
-                Presence::Present
-            } else {
-                Presence::Any
-            };
-            put_presence(&mut components, group.place, presence);
-            put_constraint(&mut components, group.place, Constraint::Components(inner));
-        }
-        for part in parts {
-            match part.inside {
-                None => {
-                    put_presence(&mut components, part.place, presence_of(&part, is_partial));
-                    put_constraint(&mut components, part.place, part.constraint);
-                }
-                Some(inside) => {
-                    if let Some(group) = components.get_mut(part.place) {
-                        if let Constraint::Components(inner) = &mut group.constraint {
-                            put_constraint(inner, inside, part.constraint);
-                        }
-                    }
-                }
-            }
-        }
-        Ok(without_free(components))
-    }
-}
-
-/// Whether a component has to be there.
-fn presence_of(part: &Part<'_>, is_partial: bool) -> Presence {
-    let is_optional = matches!(part.need, Need::Optional);
-    if part.is_default_barred {
-        return Presence::Present;
-    }
-    match part.said {
-        Said::Present if is_optional || part.is_addition => Presence::Present,
-        Said::Absent if is_optional => Presence::Absent,
-        Said::Nothing if !is_partial && is_optional => {
-            if part.is_listed {
-                Presence::Present
-            } else {
-                Presence::Absent
-            }
-        }
-        _ => Presence::Any,
-    }
-}
-
-/// Components without a constraint.
-fn unconstrained(alloc: Global, count: usize) -> Result<Vec<Component>, AllocError> {
-    let mut components = Vec::new(alloc);
-    for _ in 0..count {
-        components.push(Component {
-            presence: Presence::Any,
-            constraint: Constraint::Free,
-        })?;
-    }
-    Ok(components)
-}
-
-/// Takes whether a component has to be there.
-fn put_presence(components: &mut Vec<Component>, place: usize, presence: Presence) {
-    if let Some(one) = components.get_mut(place) {
-        one.presence = presence;
-    }
-}
-
-/// Takes the constraint on a component.
-fn put_constraint(components: &mut Vec<Component>, place: usize, constraint: Constraint) {
-    if let Some(one) = components.get_mut(place) {
-        let _before = mem::replace(&mut one.constraint, constraint);
-    }
-}
-
-/// Whether a component has no constraint.
-fn is_free(component: &Component) -> bool {
-    if component.presence != Presence::Any {
-        return false;
-    }
-    match &component.constraint {
-        Constraint::Free => true,
-        Constraint::Components(inner) => inner.iter().all(|one| {
-            one.presence == Presence::Any && matches!(&one.constraint, Constraint::Free)
-        }),
-        _ => false,
-    }
-}
-
-/// The constraint on components, those after the last with a constraint left out.
-fn without_free(components: Vec<Component>) -> Constraint {
-    let mut components = components;
-    for _ in 0..components.len() {
-        match components.last() {
-            Some(last) if is_free(last) => {
-                components.pop();
-            }
-            _ => break,
-        }
-    }
-    if components.is_empty() {
-        Constraint::Free
-    } else {
-        Constraint::Components(components)
     }
 }

@@ -192,9 +192,11 @@ impl<'a, 't> Subtypes<'a, 't> {
         }
     }
 
-    /// Which values the constraints of a node allow. Those of the types that it names are given where they do not come with
-    /// these types: where a marker ends them, which ends there (X.680, "serial application of constraints"), and where one
-    /// ends those of the node, after which each value of its parent may come.
+    /// Which values the constraints of a node allow.
+    ///
+    /// Those of the types that it names come with these types, and are given in two cases only. A marker that ends them is
+    /// no marker of the node's type (X.680, "serial application of constraints"). After a marker that ends those of the
+    /// node, each value of its parent may come.
     pub fn allowed_at(
         &self,
         alloc: Global,
@@ -271,6 +273,27 @@ impl<'a, 't> Subtypes<'a, 't> {
         Ok(total)
     }
 
+    /// The place of the constraints of a node, after those of the type that it names.
+    #[cycle(allowed)]
+    fn place_in(
+        &self,
+        alloc: Global,
+        index: usize,
+        node: &Node<'t>,
+        base: usize,
+        levels: u32,
+        work: &mut Work,
+    ) -> Result<Around, AllocError> {
+        let around = Around::of(node, base);
+        match self.named_by(index) {
+            Some(name) if levels > 0 && self.is_simple(base) => {
+                let parent = self.whole_of(alloc, name, levels - 1, work)?;
+                Ok(around.after(&parent))
+            }
+            _ => Ok(around),
+        }
+    }
+
     /// Which values the constraints of a node allow: one with a marker, if it is the last, allows every value of its
     /// parent, unless the root is asked for.
     #[cycle(allowed)]
@@ -298,13 +321,7 @@ impl<'a, 't> Subtypes<'a, 't> {
         if levels == 0 || !work.take() {
             return Ok(Allowed::missing());
         }
-        let mut around = Around::of(&node, base);
-        if self.is_simple(base) {
-            if let Some(name) = self.named_by(index) {
-                let parent = self.whole_of(alloc, name, levels - 1, work)?;
-                around = around.after(&parent);
-            }
-        }
+        let mut around = self.place_in(alloc, index, &node, base, levels - 1, work)?;
         let mut total = Allowed::all();
         let mut is_marked = false;
         let mut at = start;

@@ -56,7 +56,17 @@ pub(crate) fn with_letters(
     is_name: bool,
 ) -> Result<Allowed, AllocError> {
     let own = letters_of(alloc, kind)?;
-    let letters = match allowed.letters {
+    let Allowed {
+        numbers,
+        lengths,
+        letters,
+        items,
+        others,
+        depth,
+        is_marked,
+        is_missing,
+    } = allowed;
+    let letters = match letters {
         None if kind == Letters::Printable && !is_name => Some(own),
         None => None,
         Some(set) => {
@@ -68,7 +78,16 @@ pub(crate) fn with_letters(
             }
         }
     };
-    Ok(Allowed { letters, ..allowed })
+    Ok(Allowed {
+        numbers,
+        lengths,
+        letters,
+        items,
+        others,
+        depth,
+        is_marked,
+        is_missing,
+    })
 }
 
 impl<'t> Writer<'t> {

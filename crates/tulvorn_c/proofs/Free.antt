@@ -24,6 +24,9 @@ free_fault r t o (decode.Rest used) h = (h.0, (h.1.0, (h.1.1, refl)))
 free_fault r t o decode.TooLong h = h
 free_fault r t o decode.Memory h = h
 
+pub free_value : (r : Ruling) (t : Shape) (o : List ℕ) (v : Value) → Decoded r (Ok v) t o → DecodedUnder r free (Ok v) t o
+free_value r t o v h = (h.0, (h.1, refl))
+
 -- and under a constraint it is that of a value that meets it
 pub unmeasured : (r : Ruling) (t : Shape) (c : Constraint) (v : Datum) (why : LengthFault) → meets c v ≡ true → NotMeasured r why t v → NotMeasuredUnder r why t c v
 unmeasured r t c v length_fault.NotOfType m h = λ p. h p.0

@@ -1,5 +1,5 @@
 mod Converting
-mod Counting
+mod Feeding
 mod Free
 mod HandleValues
 mod LooseValues

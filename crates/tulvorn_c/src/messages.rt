@@ -68,6 +68,7 @@ fn check_by<R: PlanRules>(alloc: Global, ty: &HeldType, octets: &[u8], unit: Uni
 }
 
 /// Whether the octets are the encoding of a value that meets the constraint. A value is built only to judge it.
+#[tactic(auto, using(crate::proofs::Free::free_fault))]
 fn checked<R: PlanRules>(
     alloc: Global,
     ty: &HeldType,
@@ -154,6 +155,7 @@ fn put_decoded<R: Rules>(
 }
 
 /// The value whose encoding the octets are, if it meets the constraint.
+#[tactic(auto, using(crate::proofs::Free::free_value, crate::proofs::Free::free_fault))]
 pub(crate) fn decoded<R: Rules>(
     alloc: Global,
     ty: &HeldType,
@@ -267,6 +269,7 @@ pub extern "C" fn tulvorn_encoded_len(
     fault.code
 }
 
+#[tactic(auto, using(crate::proofs::Free::unmeasured))]
 fn measure_by<R: Rules>(ty: &HeldType, value: &Value, len: &mut usize) -> Fault
     ensures { Measures len.old len.new R.ruling (value_of (constrained_of ty.now) (datum_of value.now)) result }
 {
@@ -310,6 +313,7 @@ pub extern "C" fn tulvorn_encode_into(
     fault.code
 }
 
+#[tactic(auto, using(crate::proofs::Free::unplaced))]
 fn place_by<R: Rules>(ty: &HeldType, value: &Value, into: &mut [u8], len: &mut usize) -> Fault
     ensures { Places into.old into.new len.old len.new R.ruling
         (value_of (constrained_of ty.now) (datum_of value.now)) result }

@@ -93,11 +93,11 @@ fn module_read(alloc: Global, text: &str) -> Result<Handle, Fault>
 }
 
 /// A handle of a module.
-fn module_held(alloc: Global, module: ConstrainedModule) -> Result<Handle, AllocError>
-    ensures { IfOk result (λ h. held_module h.kept ≡ Some (types_view module.module)) }
+fn module_held(alloc: Global, types: ConstrainedModule) -> Result<Handle, AllocError>
+    ensures { IfOk result (λ h. held_module h.kept ≡ Some (types_view types.module)) }
 {
-    match Box::new(alloc, module) {
-        Ok(module) => Handle::holding(alloc, Object::Module(module)),
+    match Box::new(alloc, types) {
+        Ok(types) => Handle::holding(alloc, Object::Module(types)),
         Err(_) => Err(AllocError),
     }
 }
@@ -150,11 +150,11 @@ fn text_explained(alloc: Global, text: &str) -> Result<Handle, AllocError>
 }
 
 /// A handle of which line of a constraint is none, where the text is a module; no octets where there is no such line.
-fn lines_explained(alloc: Global, module: Module, text: &str) -> Result<Handle, AllocError>
-    ensures { Accepted text.now (types_view module)
+fn lines_explained(alloc: Global, types: Module, text: &str) -> Result<Handle, AllocError>
+    ensures { Accepted text.now (types_view types)
         → IfOk result (λ h. HoldsNoRefusal text.now h.kept ⊎ HoldsBadLine text.now h.kept) }
 {
-    match ConstrainedModule::new(alloc, module, text) {
+    match ConstrainedModule::new(alloc, types, text) {
         Ok(_) => Handle::holding(alloc, Object::Octets(Vec::new(alloc))),
         Err(ModuleLineFault::Memory) => Err(AllocError),
         Err(fault) => {
@@ -221,12 +221,7 @@ pub extern "C" fn tulvorn_type(
 }
 
 /// Puts the type of the name that octets are as a text into the handle.
-fn put_type_of(
-    alloc: Global,
-    types: &ConstrainedModule,
-    name: &[u8],
-    out: &mut Handle,
-) -> Fault
+fn put_type_of(alloc: Global, types: &ConstrainedModule, name: &[u8], out: &mut Handle) -> Fault
     ensures { FindsType name.now out.old.kept out.new.kept (types_view types.now.module) result }
 {
     match std::str::from_utf8(name) {

@@ -1,4 +1,4 @@
-use Rattle.std.proofs.Common.{◌≡◌, ◌<◌, ◌∷◌, ◌∙◌, ap, arith, reverse, refl}
+use Rattle.std.proofs.Common.{◌∷◌, ◌∙◌, ap, arith, reverse, refl}
 use Rattle.asn_values.specs.View.{datum_of}
 use Rattle.asn_constraints.specs.View.{alternatives_seen}
 use Rattle.asn_constraints.specs.Broken.{not_allowed}

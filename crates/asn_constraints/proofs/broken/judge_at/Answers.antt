@@ -1,7 +1,6 @@
 use Rattle.std.proofs.Common.{sym, subst, reverse}
 use Rattle.asn_values.specs.View.{datum_of}
 use Rattle.asn_constraints.specs.View.{constraint_of}
-use Rattle.asn_constraints.specs.Broken.{BreaksAt}
 use Rattle.asn_constraints.specs.Finding.{Finds}
 use Rattle.asn_constraints.proofs.Breaking.{broken_not_met}
 use Rattle.asn_constraints.proofs.broken.judge_at.Goals as goal

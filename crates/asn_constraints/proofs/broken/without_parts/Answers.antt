@@ -1,4 +1,4 @@
-use Rattle.std.proofs.Common.{◌≡◌, ◌∙◌, sym, ap, reverse, false, refl}
+use Rattle.std.proofs.Common.{ap, reverse}
 use Rattle.asn_values.specs.View.{datum_of}
 use Rattle.asn_constraints.specs.View.{constraint_of}
 use Rattle.asn_constraints.specs.Broken.{without_parts}

@@ -1,4 +1,4 @@
-use Rattle.std.proofs.Common.{◌≡◌, ◌<◌, ◌∙◌, true, false, rules, arith}
+use Rattle.std.proofs.Common.{◌∙◌, rules, arith}
 use Rattle.std.proofs.lemmas.Bool.{le-leb}
 use Rattle.asn_values.specs.View.{datum_of, entries_seen}
 use Rattle.asn_constraints.specs.Constraints.{meet_each}

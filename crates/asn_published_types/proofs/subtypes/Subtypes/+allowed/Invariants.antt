@@ -36,3 +36,6 @@ decreases-inner_of l = l.levels
 
 abbrev pub decreases-part_at : goal.decreases-part_at
 decreases-part_at l = l.levels
+
+abbrev pub decreases-place_in : goal.decreases-place_in
+decreases-place_in l = l.levels

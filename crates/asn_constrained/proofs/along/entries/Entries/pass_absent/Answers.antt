@@ -1,5 +1,5 @@
 use Rattle.std.proofs.Common.{refl}
-use Rattle.asn_constrained.proofs.Passing.{absent_passed, free_absent_passed}
+use Rattle.asn_constrained.proofs.Passing.{absent_passed}
 use Rattle.asn_constrained.proofs.along.entries.Entries.pass_absent.Goals as goal
 
 pub returns : goal.returns

@@ -1,4 +1,4 @@
-use Rattle.asn_constrained.proofs.Passing.{present_passed, free_present_passed}
+use Rattle.asn_constrained.proofs.Passing.{present_passed}
 use Rattle.asn_constrained.proofs.along.entries.Entries.pass_present.Goals as goal
 
 pub returns : goal.returns

@@ -32,7 +32,7 @@ use Rattle.asn_constrained.specs.Converted.{ConvertsUnder, ConvertedUnder, Gives
 pub decoded_encodes : (r : Ruling) (t : Shape) (c : Constraint) (o : List ℕ) (v : Value) → AreOctets o → DecodedUnder r c (Ok v) t o → Encoded r t (datum_of v) o
 decoded_encodes r t c o v os d = record { octets = os; encoding = subst (IsEncoding r t (datum_of v)) (take-length o) d.1.0.1; within = d.0 }
 
--- a decoder of the type alone tells an encoding no fault but memory
+-- a decoder of the type alone reports no fault of an encoding except memory
 no_fault : (a : Ruling) (t : Shape) (o : List ℕ) (v : Datum) (why : DecodeFault) → RulesLaws a → InProfile t → Encoded a t v o → Decoded a (Err why) t o → why ≡ decode.Memory
 no_fault a t o v why la good e d = ⊎_elim (λ h. cc h.1) (λ e. cc e) (decodes_encoded a la t v o (Err why) good e d)
 
@@ -59,7 +59,7 @@ read_fault a b t c o p (under.Type (decode.Rest used)) la good w d = read_memory
 read_fault a b t c o p (under.Type decode.TooLong) la good w d = read_memory decode.TooLong p (no_fault a t o w.0 decode.TooLong la good w.2 d)
 read_fault a b t c o p (under.Type decode.Memory) la good w d = tt
 
--- what is told of octets that are converted is what they are converted to
+-- what is answered to octets that are converted is what they are converted to
 pub exact : (a b : Ruling) (t : Shape) (c : Constraint) (o p : List ℕ) (answer : Result (Vec ℕ Global) ConvertFault) → RulesLaws a → RulesLaws b → InProfile t
     → ConvertedUnder a b c answer t o → ConvertsUnder a b c t o p → GivesUnlessMemory answer p
 exact a b t c o p (Ok q) la lb good h w =

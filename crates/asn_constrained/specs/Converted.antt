@@ -22,8 +22,8 @@ ConvertsUnder a b c t o p = (v : Datum) × (meets c v ≡ true) × Encoded a t v
 abbrev pub IsRead : Ruling → Constraint → Shape → List ℕ → Datum → Type 0
 IsRead a c t o v = (meets c v ≡ true) × Encoded a t v o
 
--- what is told of the octets o: those of the same value by the rules b; why a decoder of the rules a gives no value;
--- that the encodings of the value by b are too long; of the memory, that o is an encoding under the constraint
+-- what is answered to the octets o: those of the same value by the rules b; why a decoder of the rules a gives no
+-- value; that the encodings of the value by b are too long; of the memory, that o is an encoding under the constraint
 abbrev pub ConvertedUnder : Ruling → Ruling → Constraint → Result (Vec ℕ Global) ConvertFault → Shape → List ℕ → Type 0
 ConvertedUnder a b c (Ok p) t o = ConvertsUnder a b c t o p.items
 ConvertedUnder a b c (Err (fault.Read why)) t o = DecodedUnder a c (Err why) t o

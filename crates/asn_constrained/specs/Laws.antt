@@ -31,7 +31,8 @@ OneAnswerUnder r =
 
 -- octets that are answered without it are answered under it
 abbrev pub AnsweredUnder : Ruling → Type 0
-AnsweredUnder r = (t : Shape) (c : Constraint) (s : List ℕ) (a : Told) → Answer r t s a → (b : Told) × AnswerUnder r t c s b
+AnsweredUnder r =
+    (t : Shape) (c : Constraint) (s : List ℕ) (a : Told) → Answer r t s a → (b : Told) × AnswerUnder r t c s b
 
 -- octets that begin with the encoding of a value that breaks the constraint are refused at the last unit of that encoding
 abbrev pub BrokenAreRefused : Ruling → Type 0

@@ -13,8 +13,8 @@ use Rattle.asn_constrained.specs.declared.newer.ConstrainedNewerFault.{Constrain
 use Rattle.asn_constrained.specs.declared.newer.ConstrainedNewerFault.TheVariants as under
 use Rattle.asn_constrained.specs.Under.{Found}
 
--- what is told of a message that was read: its value meets what the constraint says of spelling, and whether it meets
--- the rest; or it breaks the spelling. Of the memory nothing is told.
+-- what is answered of a message that was read: its value meets what the constraint says of spelling, and whether it
+-- meets the rest; or it breaks the spelling. Of the memory nothing is claimed.
 abbrev pub JudgedNewer : Constraint → Newer → Result ConstrainedNewer ConstrainedNewerFault → Type 0
 JudgedNewer c n (Ok m) =
     (m.newer ≡ n) × (meets (spelling c) (datum_of n.value) ≡ true) × Found c (datum_of n.value) m.broken
@@ -23,7 +23,7 @@ JudgedNewer c n (Err (under.Spelling b)) =
 JudgedNewer c n (Err (under.Type newer.Memory)) = ⊤
 JudgedNewer c n (Err (under.Type fault)) = ⊥
 
--- what is told of octets: the message that is read of them, judged; or why they are no message
+-- what is answered to octets: the message that is read of them, judged; or why they are no message
 abbrev pub ReadUnder : LooseCoding → Constraint → Result ConstrainedNewer ConstrainedNewerFault → Shape → List ℕ → Type 0
 ReadUnder l c (Ok m) t o = IsNewer l t m.newer o × JudgedNewer c m.newer (Ok m)
 ReadUnder l c (Err (under.Spelling b)) t o = (n : Newer) × IsNewer l t n o × JudgedNewer c n (Err (under.Spelling b))

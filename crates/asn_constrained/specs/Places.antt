@@ -6,7 +6,7 @@ use Rattle.asn_rules.specs.declared.units.Unit.TheVariants as unit
 use Rattle.asn_constrained.specs.declared.fault.ConstrainedFault.{ConstrainedFault}
 use Rattle.asn_constrained.specs.declared.fault.ConstrainedFault.TheVariants as under
 
--- how many units so many octets are; at most the greatest number of 64 bits is told
+-- how many units so many octets are; at most the greatest number of 64 bits
 abbrev pub last_unit : Unit → ℕ → ℕ
 last_unit unit.Bit octets = min (octets * 8) (2 ^ 64 - 1)
 last_unit unit.Octet octets = octets

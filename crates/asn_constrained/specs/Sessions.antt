@@ -21,9 +21,9 @@ use Rattle.asn_constrained.specs.Under.{IsEncodingUnder, AnswerUnder, ReportsBro
 
 -- ---- what a session has taken
 
--- The octets that it took, and how it goes on. It answers by all octets so far; it answers this fault to every piece. It
--- answered a value whose encoding these octets are, or that such a value breaks the constraint, or memory was wanting:
--- it answers Spent to every piece.
+-- The octets that it took, and how it goes on. It answers by all octets so far; it answers this fault to every piece.
+-- It answered a value whose encoding these octets are, or that such a value breaks the constraint, or memory was
+-- wanting: it answers Spent to every piece.
 pub data PastUnder : Type 0 where
   waiting : List ℕ → PastUnder
   stopped : List ℕ → FeedFault → PastUnder
@@ -113,15 +113,15 @@ FeedsUnder r took old new piece answer =
 
 -- ---- finish
 
--- what is told at the end of octets that no value was answered of: as without the constraint; where they are an encoding
--- of a type that has one of no octets, its value was not judged
+-- what is answered at the end of octets that no value was answered of: as without the constraint; where they are an
+-- encoding of a type that has one of no octets, its value was not judged
 abbrev pub FinishedWaiting : Ruling → Shape → Constraint → Past → Result (Unit {0}) FinishFault → Type 0
 FinishedWaiting r t c past (Ok u) = (v : Datum) × IsEncodingUnder r t c v (inner.octets_taken past)
 FinishedWaiting r t c past (Err (finish.Type cut)) = Finished r t past (Err cut)
 FinishedWaiting r t c past (Err finish.Broken) = ⊥
 FinishedWaiting r t c past (Err finish.NotJudged) = (v : Datum) × IsEncoding r t v (inner.octets_taken past)
 
--- what is told at the end
+-- what is answered at the end
 abbrev pub FinishedUnder : Ruling → Shape → Constraint → PastUnder → Result (Unit {0}) FinishFault → Type 0
 FinishedUnder r t c (waiting s) answer = FinishedWaiting r t c (inner.waiting s) answer
 FinishedUnder r t c (stopped s fault) answer = FinishedWaiting r t c (inner.stopped s fault) answer

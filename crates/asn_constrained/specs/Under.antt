@@ -65,9 +65,9 @@ Judged c d n (Some (under.Type fault)) = ⊥
 
 -- ---- whole messages
 
--- What is told of the octets o. A value that meets the constraint: all of them are its encoding. Broken: they begin with
--- the encoding of a value that breaks it. Rest: they begin with the encoding of a value that meets it. Else what is
--- told of the type alone.
+-- What is answered to the octets o. A value that meets the constraint: all of them are its encoding. Broken: they
+-- begin with the encoding of a value that breaks it. Rest: they begin with the encoding of a value that meets it. Else
+-- what is answered of the type alone.
 abbrev pub DecodedUnder : Ruling → Constraint → Result Value ConstrainedFault → Shape → List ℕ → Type 0
 DecodedUnder r c (Ok v) t o = (length o ≤ max_octets) × AnswerUnder r t c o (done (datum_of v) (length o))
 DecodedUnder r c (Err (under.Broken used b)) t o = ReportsBroken r t c (take max_octets o) used b

@@ -12,8 +12,8 @@ use asn_rules::Newer;
 use std::alloc::Global;
 use thiserror::Error;
 
-/// What is read of a message of some version of the type, and the first constraint that its value breaks. A newer version
-/// may have loosened it.
+/// What is read of a message of some version of the type, and the first constraint that its value breaks. A newer
+/// version may have loosened it.
 #[derive(Debug, Drop)]
 pub struct ConstrainedNewer {
     /// the value, and the fields that were skipped
@@ -35,9 +35,9 @@ pub enum ConstrainedNewerFault {
 }
 
 impl ConstrainedType {
-    /// Reads the octets as a message of some version of the type: see `ReadNewer::read_newer`. What the constraint says of
-    /// spelling is judged: no DEFAULT is written out, no group is empty, named bits and times have no last zeros. Of the
-    /// rest the first that the value breaks is returned.
+    /// Reads the octets as a message of some version of the type: see `ReadNewer::read_newer`. What the constraint
+    /// says of spelling is judged: no DEFAULT is written out, no group is empty, named bits and times have no last
+    /// zeros. Of the rest the first that the value breaks is returned.
     ///
     /// # Errors
     /// `Spelling` where the message breaks a constraint of spelling. Else `Type`, as `ReadNewer::read_newer`.

@@ -57,8 +57,8 @@ fn check_free<R: PlanRules>(
     }
 }
 
-/// The value whose complete encoding the octets are, if it meets the constraint. Where octets follow the encoding, it is
-/// decoded again and judged first.
+/// The value whose complete encoding the octets are, if it meets the constraint. Where octets follow the encoding, it
+/// is decoded again and judged first.
 ///
 /// # Errors
 /// As `decode_under`.

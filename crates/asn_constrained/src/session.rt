@@ -108,9 +108,9 @@ impl<R: Rules> ConstrainedSession<R> {
     /// Ends the session: whether the octets taken are a whole encoding under the constraint. Takes no memory.
     ///
     /// # Errors
-    /// `Type` where they are no whole encoding of the type: see `Rules::finish`. `Broken` where they are that of a value
-    /// that breaks the constraint. `NotJudged` where no value was answered: after `Memory`, and where no piece was taken
-    /// and the type has a value whose encoding has no octets.
+    /// `Type` where they are no whole encoding of the type: see `Rules::finish`. `Broken` where they are that of a
+    /// value that breaks the constraint. `NotJudged` where no value was answered: after `Memory`, and where no piece
+    /// was taken and the type has a value whose encoding has no octets.
     pub fn finish(self) -> Result<(), FinishFault>
         ensures { (t : Shape) (c : Rule) (past : PastUnder)
             → TookUnder R.ruling R.took self.inner (constraint_of self.constraint.value) self.end t c past

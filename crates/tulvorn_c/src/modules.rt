@@ -2,7 +2,7 @@
 ghost use Rattle.std.specs.Prelude.{◌≡◌, ◌⊎◌, [], IfOk, IfErr, Some, string_bytes};
 ghost use Rattle.asn_values.specs.View.{shape_of};
 ghost use Rattle.asn_constraints.specs.View.{constraint_of};
-ghost use Rattle.asn_module.specs.Accepted.{Accepted, ModuleTypes};
+ghost use Rattle.asn_module.specs.Accepted.{Accepted};
 ghost use Rattle.asn_module.specs.ModuleView.{types_view};
 ghost use Rattle.tulvorn_c.specs.Answers.{
   Asked,
@@ -21,7 +21,6 @@ ghost use Rattle.tulvorn_c.specs.Answers.{
 };
 ghost use Rattle.tulvorn_c.specs.Faults.{plain, no_memory, bad_constraint};
 ghost use Rattle.tulvorn_c.specs.Held.{constrained_of, held_module, held_constrained};
-ghost use Rattle.tulvorn_c.specs.Misfits.{HoldsWords};
 
 use crate::fault::{DONE, Fault, LARGE_CONSTRAINT, MISUSE, NO_MEMORY, NO_NAME, NOT_TEXT};
 use crate::handle::Handle;

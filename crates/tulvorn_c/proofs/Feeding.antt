@@ -1,5 +1,5 @@
 -- What a session under a constraint answers to a piece, from what the session of the type alone inside it answers.
-use Rattle.std.proofs.Common.{◌≡◌, ◌≤◌, ◌<◌, ◌+◌, ◌++◌, ◌⊎◌, ℕ, Bool, true, false, List, length, take, min, Option, Result, Ok, Err, Some, refl, sym, ap, ◌∙◌, subst, arith}
+use Rattle.std.proofs.Common.{◌≡◌, ◌≤◌, ◌<◌, ◌+◌, ◌++◌, ℕ, Bool, true, false, List, length, take, min, Option, Ok, Err, Some, refl, sym, ap, ◌∙◌, subst, arith}
 use Rattle.std.specs.Prelude.{◌^◌, ◌-◌}
 use Rattle.std.proofs.lemmas.List.{length-append, length-take}
 use Rattle.asn_values.specs.Shape.{Shape}
@@ -7,7 +7,7 @@ use Rattle.asn_values.specs.View.{datum_of}
 use Rattle.asn_values.specs.declared.value.Value.{Value}
 use Rattle.asn_constraints.specs.Constraints.{meets}
 use Rattle.asn_rules.specs.Answer.{Ruling, max_octets}
-use Rattle.asn_rules.specs.Sessions.{Past, waiting, stopped, over, past_after, all_so_far, Fed, Feeds}
+use Rattle.asn_rules.specs.Sessions.{Past, waiting, stopped, over, past_after, all_so_far, Feeds}
 use Rattle.asn_rules.specs.declared.session.Step.{Step}
 use Rattle.asn_rules.specs.declared.session.Step.TheVariants as step
 use Rattle.asn_rules.specs.declared.session.FeedFault.{FeedFault}
@@ -15,9 +15,9 @@ use Rattle.asn_rules.specs.declared.session.FeedFault.TheVariants as feed
 use Rattle.asn_rules.specs.declared.units.Unit as units
 use Rattle.tulvorn_c.specs.declared.object.Object.{Object}
 use Rattle.tulvorn_c.specs.declared.fault.Fault.{Fault}
-use Rattle.tulvorn_c.specs.Faults.{plain, done, no_memory, of_feed, broken_after}
+use Rattle.tulvorn_c.specs.Faults.{plain, of_feed, broken_after}
 use Rattle.tulvorn_c.specs.Held.{Constrained, value_of, held_valued}
-use Rattle.tulvorn_c.specs.Sessions.{PastUnder, going, broken, Counts, HasTaken, TookBeside, TellsValue, TellsStep, past_under, Answers, AnswersUnder}
+use Rattle.tulvorn_c.specs.Sessions.{PastUnder, going, broken, Counts, HasTaken, TookBeside, TellsValue, TellsStep, past_under, AnswersUnder}
 
 -- the sum of two numbers, of at most 64 bits
 abbrev pub sum_of : ℕ → ℕ → ℕ

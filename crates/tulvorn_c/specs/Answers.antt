@@ -12,7 +12,7 @@ use Rattle.asn_view.specs.Typed.{Typed}
 use Rattle.asn_module.specs.Accepted.{ModuleTypes, Accepted, type_in}
 use Rattle.asn_module.specs.declared.fault.ModuleFault.{ModuleFault}
 use Rattle.asn_module.specs.declared.fault.ModuleFault.TheVariants as module_fault
-use Rattle.asn_rules.specs.Answer.{Ruling, IsEncoding, max_octets}
+use Rattle.asn_rules.specs.Answer.{Ruling, max_octets}
 use Rattle.asn_rules.specs.Measured.{IsLength, Placed}
 use Rattle.asn_rules.specs.declared.units.Unit.{Unit}
 use Rattle.asn_rules.specs.declared.fault.EncodeFault.{EncodeFault}

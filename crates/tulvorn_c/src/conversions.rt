@@ -1,6 +1,6 @@
 //! Messages of one set of encoding rules as those of the other.
 ghost use Rattle.std.specs.Prelude.{◌≡◌, ℕ, List, IfOk, IfErr, Err, Some, ⊤};
-ghost use Rattle.asn_rules.specs.declared.units.Unit.{Unit};
+ghost use Rattle.asn_rules.specs.declared.units.Unit.{Unit as TheUnit};
 ghost use Rattle.asn_constrained.specs.Converted.{ConvertsUnder, ConvertedUnder, GivesUnlessMemory};
 ghost use Rattle.tulvorn_c.specs.Answers.{
   AskedBy,
@@ -89,7 +89,7 @@ fn put_converted<A: Rules, B: Rules>(
         → held_octets out.new.kept ≡ Some p) }
     ensures fault { IfErr result (λ why. ConvertedUnder A.ruling B.ruling (constrained_of ty.now).constraint (Err why)
         (constrained_of ty.now).shape octets.now) }
-    ensures memory { IfErr result (λ why. (u : Unit) (p : List ℕ) → ConvertsUnder A.ruling B.ruling
+    ensures memory { IfErr result (λ why. (u : TheUnit) (p : List ℕ) → ConvertsUnder A.ruling B.ruling
         (constrained_of ty.now).constraint (constrained_of ty.now).shape octets.now p
         → of_converted u why ≡ no_memory) }
     ensures stays { IfErr result (λ _. out.new.kept ≡ out.old.kept) }

@@ -2,7 +2,7 @@
 ghost use Rattle.std.specs.Prelude.{◌≡◌, ◌⊎◌, [], IfOk, IfErr, Some, string_bytes};
 ghost use Rattle.asn_values.specs.View.{shape_of};
 ghost use Rattle.asn_constraints.specs.View.{constraint_of};
-ghost use Rattle.asn_module.specs.Accepted.{Accepted, ModuleTypes};
+ghost use Rattle.asn_module.specs.Accepted.{Accepted};
 ghost use Rattle.asn_module.specs.ModuleView.{types_view};
 ghost use Rattle.tulvorn_c.specs.Answers.{
   Asked,
@@ -141,10 +141,17 @@ fn text_explained(alloc: Global, text: &str) -> Result<Handle, AllocError>
     ensures { IfOk result (λ h. HoldsNoRefusal text.now h.kept ⊎ HoldsRefusal text.now h.kept
         ⊎ HoldsBadLine text.now h.kept) }
 {
-    let refused = match read_explained(alloc, text) {
-        Ok(module) => return lines_explained(alloc, module, text),
-        Err(refused) => refused,
-    };
+    match read_explained(alloc, text) {
+        Ok(module) => lines_explained(alloc, module, text),
+        Err(refused) => refusal_explained(alloc, refused),
+    }
+}
+
+/// A handle of the words of a refusal, where it is not for want of memory.
+fn refusal_explained(alloc: Global, refused: RefusedText) -> Result<Handle, AllocError>
+    ensures words { IfOk result (λ h. HoldsWords h.kept) }
+    ensures told { IfOk result (λ _. refused.fault ≡ ModuleFault.Memory → ⊥) }
+{
     let words = refusal_words(alloc, refused)?;
     Handle::holding(alloc, Object::Octets(words.into_bytes()))
 }

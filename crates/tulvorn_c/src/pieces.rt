@@ -1,5 +1,4 @@
 //! A session of a type with a constraint.
-ghost use Rattle.std.specs.Prelude.{◌≡◌};
 ghost use Rattle.tulvorn_c.specs.Held.{Constrained, constrained_of};
 ghost use Rattle.tulvorn_c.specs.Sessions.{PastUnder, TookBeside, HasTaken, AnswersUnder, EndsUnder};
 

@@ -4,7 +4,7 @@ ghost use Rattle.std.specs.Prelude.{◌≡◌, ◌≤◌, ◌<◌, length};
 use crate::cursor::Cursor;
 use crate::fault::ConstraintTextFault;
 use crate::strings::octets_at;
-use asn_values::internal::{Named, additions, part_at};
+use asn_values::internal::{Named, additions};
 use asn_values::{Alt, AsnType, Field, Value};
 use std::alloc::Global;
 

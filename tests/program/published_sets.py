@@ -159,7 +159,7 @@ def made(chance, count):
         flat = it.wanted(base, least, MOST)
         wanted[name] = flat, flat and it.constraint(base)
         # others may contain its values
-        if not is_size and flat and not wanted[name][1] and chance.random() < 0.02:
+        if not is_size and flat and chance.random() < 0.02:
             named.append(Made(name, it.numbers, it.left))
     return "".join([*text, "END\n"]), wanted
 

@@ -54,8 +54,8 @@ def hoisted(code):
 
 
 def body_of(codes, ending):
-    """The blocks inside a function, each with a line that prints where it ends."""
-    return "".join(re.sub(r"^(?=.*\S)", "    ", code, flags=re.M) + f"    {ending}\n" for code in codes)
+    """The blocks inside a function, as they are, since a text may have several lines. A line prints where each ends."""
+    return "".join(f"{code}    {ending}\n" for code in codes)
 
 
 def in_rattle(codes):

@@ -12,6 +12,7 @@ if a mark follows all numbers. A constraint has the numbers that are left with E
 type. A mark at the end allows all numbers of the type that has it.
 """
 import random
+import re
 
 from run import script, write
 
@@ -158,8 +159,8 @@ def made(chance, count):
         text.append(f"{name} ::= {base} {it.constraints(word, chance)}\n")
         flat = it.wanted(base, least, MOST)
         wanted[name] = flat, flat and it.constraint(base)
-        # others may contain its values
-        if not is_size and flat and chance.random() < 0.02:
+        # others may contain its values if it contains none, since what is read of constraints is bounded
+        if not is_size and flat and not re.search(r"T\d", text[-1].partition("::=")[2]) and chance.random() < 0.02:
             named.append(Made(name, it.numbers, it.left))
     return "".join([*text, "END\n"]), wanted
 

@@ -11,9 +11,10 @@ head. TEXT is the module of the page. A block prints what the next block marked 
 next block of its language. tests/program/page.py runs the blocks of Rattle.
 """
 import os
+import re
 import shutil
 
-from page import BREAK, PAGES, all_blocks, blocks_of, body_of, compare, hoisted, module_of
+from page import BREAK, PAGES, all_blocks, blocks_of, compare, hoisted, module_of
 from run import TOP, run, script, write
 
 COMMANDS = [*PAGES, "crates/asn_tool/README.md"]
@@ -67,6 +68,11 @@ def commands(test):
         found = printed(words, HOME=home, PATH=f"{home}/.local/bin:{os.environ['PATH']}")
         compare(test, page, found, [want for _, want in commands_of(page)])
         os.chdir(test.room)
+
+
+def body_of(codes, ending):
+    """The blocks inside a function, each with a line that prints where it ends."""
+    return "".join(re.sub(r"^(?=.*\S)", "    ", code, flags=re.M) + f"    {ending}\n" for code in codes)
 
 
 def program_in_c(codes, text):

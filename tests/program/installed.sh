@@ -87,10 +87,10 @@ else
     failed=$((failed + 1))
 fi
 
-# fails where the program that is compiled in parts answers a line otherwise
+# fails where the program that is compiled in parts answers a line otherwise; after a refusal its status is 1
 answers() {
     local said
-    said=$(echo "$1" | "$folder/first" | tr '\n' ' ')
+    said=$(echo "$1" | "$folder/first" | tr '\n' ' ') || true
     if [ "$said" = "$2 " ]; then
         passed=$((passed + 1))
     else

@@ -53,13 +53,9 @@ def hoisted(code):
     return "".join(heads), re.sub(r"^use .*\n", "", code, flags=re.M)
 
 
-def body_of(codes, ending):
-    """The blocks inside a function, each with a line that prints where it ends."""
-    return "".join(re.sub(r"^(?=.*\S)", "    ", code, flags=re.M) + f"    {ending}\n" for code in codes)
-
-
 def in_rattle(codes):
-    return body_of(codes, f'println!(rt; "{BREAK}")?;')
+    """The blocks inside a function, as they are, since a text may have several lines. A line prints where each ends."""
+    return "".join(f'{code}    println!(rt; "{BREAK}")?;\n' for code in codes)
 
 
 def function(page, blocks):

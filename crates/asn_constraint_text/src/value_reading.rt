@@ -85,9 +85,29 @@ pub(crate) fn value_at(
         AsnType::Octets(_) => Ok(Value::Octets(hexadecimal_at(alloc, cursor)?)),
         AsnType::Text(..) => Ok(Value::Text(octets_at(alloc, cursor)?)),
         AsnType::Utf8 => Ok(Value::Utf8(utf8_at(alloc, cursor)?)),
-        AsnType::Seq { root, ext } => entries_at(alloc, root, ext, cursor),
+        AsnType::Seq { root, ext } => {
+            cursor.expect(b'{', "`{`")?;
+            let mut entries = Vec::new(alloc);
+            let mut is_first = true;
+            push_entries(alloc, root, &mut entries, &mut is_first, cursor)?;
+            if let Some(added) = ext {
+                push_entries(alloc, added, &mut entries, &mut is_first, cursor)?;
+            }
+            cursor.expect(b'}', "`}`")?;
+            Ok(Value::Seq(entries))
+        }
         AsnType::SeqOf(element, _) => elements_at(alloc, element, cursor),
-        AsnType::Choice { root, ext } => chosen_at(alloc, root, ext, cursor),
+        AsnType::Choice { root, ext } => {
+            let index = part_index(root, additions(ext), 0, cursor, ALTERNATIVE)?;
+            cursor.expect(b':', "`:`")?;
+            if index < root.len() {
+                return chosen_at(alloc, root, index, index, cursor);
+            }
+            match ext {
+                Some(added) => chosen_at(alloc, added, index, index - root.len(), cursor),
+                None => Err(cursor.fault(ALTERNATIVE)),
+            }
+        }
     }
 }
 
@@ -151,29 +171,21 @@ fn utf8_at(alloc: Global, cursor: &mut Cursor<'_>) -> Result<String, ConstraintT
     }
 }
 
-/// Reads the components of a SEQUENCE that have a value, in their order.
+/// Reads those of these components of a SEQUENCE that have a value, in their order.
 #[cycle(value_reading)]
-fn entries_at(
+fn push_entries(
     alloc: Global,
-    root: &[Field],
-    ext: &Option<Vec<Field>>,
+    fields: &[Field],
+    entries: &mut Vec<Option<Value>>,
+    is_first: &mut bool,
     cursor: &mut Cursor<'_>,
-) -> Result<Value, ConstraintTextFault>
+) -> Result<(), ConstraintTextFault>
     ensures { length cursor.new.rest.now ≤ length cursor.old.rest.now }
 {
-    cursor.expect(b'{', "`{`")?;
-    let mut entries = Vec::new(alloc);
-    let mut is_first = true;
-    'root: for field in root {
-        entries.push(entry_at(alloc, field, &mut is_first, cursor)?)?;
+    'entries: for field in fields {
+        entries.push(entry_at(alloc, field, is_first, cursor)?)?;
     }
-    if let Some(added) = ext {
-        'additions: for field in added {
-            entries.push(entry_at(alloc, field, &mut is_first, cursor)?)?;
-        }
-    }
-    cursor.expect(b'}', "`}`")?;
-    Ok(Value::Seq(entries))
+    Ok(())
 }
 
 /// Reads the value of a component if it comes next, after a comma where others came before it.
@@ -215,32 +227,23 @@ fn elements_at(
     Ok(Value::List(elements))
 }
 
-/// Reads an alternative of a CHOICE: its name, a colon and its value.
+/// Reads the value of the alternative at a place among these, which has this tag.
 #[cycle(value_reading)]
 fn chosen_at(
     alloc: Global,
-    root: &[Alt],
-    ext: &Option<Vec<Alt>>,
+    alternatives: &[Alt],
+    index: usize,
+    place: usize,
     cursor: &mut Cursor<'_>,
 ) -> Result<Value, ConstraintTextFault>
     ensures { length cursor.new.rest.now ≤ length cursor.old.rest.now }
 {
-    let index = part_index(root, additions(ext), 0, cursor, ALTERNATIVE)?;
-    cursor.expect(b':', "`:`")?;
     let Ok(tag) = u32::try_from(index) else {
         return Err(cursor.fault(ALTERNATIVE));
     };
-    if index < root.len() {
-        let value = value_at(alloc, &root[index].ty, cursor)?;
-        return Ok(Value::Choice(tag, Box::new(alloc, value)?));
-    }
-    let Some(added) = ext else {
-        return Err(cursor.fault(ALTERNATIVE));
-    };
-    let place = index - root.len();
-    if place >= added.len() {
+    if place >= alternatives.len() {
         return Err(cursor.fault(ALTERNATIVE));
     }
-    let value = value_at(alloc, &added[place].ty, cursor)?;
+    let value = value_at(alloc, &alternatives[place].ty, cursor)?;
     Ok(Value::Choice(tag, Box::new(alloc, value)?))
 }

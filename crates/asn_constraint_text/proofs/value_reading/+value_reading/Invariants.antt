@@ -7,8 +7,5 @@ invariant-elements_at-elements l = length l.cursor.rest.now ≤ length l.fn.curs
 abbrev pub decreases-elements_at-elements : goal.decreases-elements_at-elements
 decreases-elements_at-elements l = length l.cursor.rest.now
 
-abbrev pub invariant-entries_at-root : goal.invariant-entries_at-root
-invariant-entries_at-root l = length l.cursor.rest.now ≤ length l.fn.cursor.rest.now
-
-abbrev pub invariant-entries_at-additions : goal.invariant-entries_at-additions
-invariant-entries_at-additions l = length l.cursor.rest.now ≤ length l.fn.cursor.rest.now
+abbrev pub invariant-push_entries-entries : goal.invariant-push_entries-entries
+invariant-push_entries-entries l = length l.cursor.rest.now ≤ length l.fn.cursor.rest.now

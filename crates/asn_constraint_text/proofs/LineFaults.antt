@@ -1,5 +1,5 @@
 -- A fault that is none of the module is one of a text that is a module.
-use Rattle.std.proofs.Common.{◌≡◌, ℕ, List, tt, refl}
+use Rattle.std.proofs.Common.{◌≡◌, ℕ, List, refl}
 use Rattle.asn_module.specs.Accepted.{ModuleTypes, Accepted}
 use Rattle.asn_module.specs.declared.fault.ModuleFault.{ModuleFault}
 use Rattle.asn_constraint_text.specs.declared.fault.ConstrainedFault.{ConstrainedFault}

@@ -36,7 +36,7 @@ pub struct ConstrainedModule {
 /// # Errors
 /// `Module` with what `asn_module::read` reports. Else `Line` at the first line with `--:` that is none of a name and a
 /// constraint of its type, or has a name a second time. `Memory` where an allocation failed.
-#[tactic(auto, using(crate::proofs::Lines::of_lines))]
+#[tactic(auto, using(crate::proofs::LineFaults::of_lines))]
 pub fn read_constrained(alloc: Global, text: &str) -> Result<ConstrainedModule, ConstrainedFault>
     // What is read is the module that the text is.
     ensures accepted { IfOk result (λ m. Accepted text.now (types_view m.module)) }

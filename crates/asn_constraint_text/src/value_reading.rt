@@ -4,7 +4,7 @@ ghost use Rattle.std.specs.Prelude.{◌≡◌, ◌≤◌, ◌<◌, length};
 use crate::cursor::Cursor;
 use crate::fault::ConstraintTextFault;
 use crate::strings::octets_at;
-use asn_values::internal::{Named, additions, part_at};
+use asn_values::internal::{Named, additions};
 use asn_values::{Alt, AsnType, Field, Value};
 use std::alloc::Global;
 
@@ -167,8 +167,10 @@ fn entries_at(
     'root: for field in root {
         entries.push(entry_at(alloc, field, &mut is_first, cursor)?)?;
     }
-    'additions: for field in additions(ext) {
-        entries.push(entry_at(alloc, field, &mut is_first, cursor)?)?;
+    if let Some(added) = ext {
+        'additions: for field in added {
+            entries.push(entry_at(alloc, field, &mut is_first, cursor)?)?;
+        }
     }
     cursor.expect(b'}', "`}`")?;
     Ok(Value::Seq(entries))
@@ -228,9 +230,17 @@ fn chosen_at(
     let Ok(tag) = u32::try_from(index) else {
         return Err(cursor.fault(ALTERNATIVE));
     };
-    let Some(alternative) = part_at(root, ext, index) else {
+    if index < root.len() {
+        let value = value_at(alloc, &root[index].ty, cursor)?;
+        return Ok(Value::Choice(tag, Box::new(alloc, value)?));
+    }
+    let Some(added) = ext else {
         return Err(cursor.fault(ALTERNATIVE));
     };
-    let value = value_at(alloc, &alternative.ty, cursor)?;
+    let place = index - root.len();
+    if place >= added.len() {
+        return Err(cursor.fault(ALTERNATIVE));
+    }
+    let value = value_at(alloc, &added[place].ty, cursor)?;
     Ok(Value::Choice(tag, Box::new(alloc, value)?))
 }

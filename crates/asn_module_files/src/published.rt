@@ -1,10 +1,9 @@
 //! What the type of a job has in addition to the type of the profile.
 use asn_constraint_text::{
-    ConstrainedFault, ConstrainedModule, ConstraintTextFault, MOST_PARTS, WholeFault,
+    ConstrainedFault, ConstraintTextFault, MOST_PARTS, WholeFault, read_constrained,
 };
 use asn_constraints::Constraint;
 use asn_jobs::Job;
-use asn_module::Module;
 use asn_published::{Flattened, Marks, PublishedFault};
 use asn_published_text::wrong::Wrong;
 use std::alloc::{AllocError, Global};
@@ -58,14 +57,16 @@ impl Published {
     pub(crate) fn of_own(
         alloc: Global,
         text: &str,
-        module: Module,
         job: &Job,
     ) -> Result<Published, PublishedFault> {
         let Job::Lines { type_name, .. } = job else {
             return Ok(Published::free());
         };
+        if !text.lines().any(|line| line.starts_with("--:")) {
+            return Ok(Published::free());
+        }
         let name = type_name.as_str();
-        let module = match ConstrainedModule::new(alloc, module, text) {
+        let module = match read_constrained(alloc, text) {
             Ok(module) => module,
             Err(ConstrainedFault::Line { line, fault }) => return Err(fault_in_line(line, fault)),
             Err(_) => return Err(PublishedFault::Memory),

@@ -61,10 +61,9 @@ pub fn instead_of(
     let Ok(text) = std::str::from_utf8(text) else {
         return passed_over(alloc, text, rest, options, job);
     };
-    if let Some(module) = own_of(alloc, text)? {
-        let mut instead = same(alloc)?;
-        instead.published = Published::of_own(alloc, text, module, job)?;
-        return Ok(instead);
+    if let Some(_own) = own_of(alloc, text)? {
+        let published = Published::of_own(alloc, text, job)?;
+        return Ok(same(alloc, published)?);
     }
     published(alloc, text, rest, options, job)
 }
@@ -84,7 +83,7 @@ fn passed_over(
     all.extend_from_slice(octets)?;
     match text_of_octets(alloc, all) {
         Ok(text) => published(alloc, text.as_str(), rest, options, job),
-        Err(_) => Ok(same(alloc)?),
+        Err(_) => Ok(same(alloc, Published::free())?),
     }
 }
 
@@ -128,13 +127,13 @@ pub(crate) fn flattened_for(
 }
 
 /// Nothing stands in the place of what was given, and nothing is told.
-fn same(alloc: Global) -> Result<Instead, AllocError>
+fn same(alloc: Global, published: Published) -> Result<Instead, AllocError>
     ensures { IfOk result (λ i. (i.octets ≡ None) × (string_bytes i.remarks ≡ [])) }
 {
     Ok(Instead {
         octets: None,
         remarks: String::new(alloc),
-        published: Published::free(),
+        published,
         is_whole: true,
     })
 }
@@ -211,9 +210,8 @@ pub fn input_with(
 {
     match own_among(alloc, texts)? {
         Some(own) => {
-            let mut input = own_input(alloc, own.text, &own.meant, rest)?;
-            input.published = Published::of_own(alloc, own.text, own.meant, job)?;
-            Ok(input)
+            let published = Published::of_own(alloc, own.text, job)?;
+            Ok(own_input(alloc, own.text, &own.meant, rest, published)?)
         }
         None => published_input(alloc, files, texts, rest, options, job),
     }
@@ -296,7 +294,13 @@ fn is_head(text: &str) -> bool {
 
 /// The input of a job for a text that is a module of the profile. The text is printed only where it cannot stand there
 /// as it is, since references are written out in what is printed.
-fn own_input(alloc: Global, text: &str, own: &Module, rest: &[u8]) -> Result<Instead, AllocError>
+fn own_input(
+    alloc: Global,
+    text: &str,
+    own: &Module,
+    rest: &[u8],
+    published: Published,
+) -> Result<Instead, AllocError>
     requires { Accepted text.now (types_view own.now) }
     ensures { IfOk result (λ i. IsSomeAnd i.octets (λ o. IsInputOf (types_view own.now) rest.now o.items)
         × (string_bytes i.remarks ≡ [])) }
@@ -309,7 +313,7 @@ fn own_input(alloc: Global, text: &str, own: &Module, rest: &[u8]) -> Result<Ins
     Ok(Instead {
         octets: Some(octets),
         remarks: String::new(alloc),
-        published: Published::free(),
+        published,
         is_whole: true,
     })
 }

@@ -1,8 +1,8 @@
 //! All that a program needs to read, write, check and convert values of ASN.1 types, under one name.
 #![tactic(auto)]
 
-mod broken_part;
 mod calls;
+mod wrong_parts;
 
 pub use asn_constrained::ConstrainedFault;
 pub use asn_constrained::ConstrainedFeedFault;
@@ -135,8 +135,8 @@ pub use asn_view::WrongPart;
 pub use asn_view::misfit;
 pub use asn_walk_feed::Ticks;
 pub use asn_walk_feed::Units;
-pub use broken_part::broken_part;
 pub use calls::check;
 pub use calls::encode_to;
 pub use calls::read_newer;
 pub use calls::read_newer_at;
+pub use wrong_parts::broken_part;

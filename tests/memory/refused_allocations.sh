@@ -147,6 +147,7 @@ answered_to "$(cat examples/published/report.per)\n" check --type Report --rules
 levels='M DEFINITIONS AUTOMATIC TAGS ::= BEGIN n INTEGER ::= 3 T ::= SEQUENCE { v INTEGER (0..n), next T OPTIONAL } END\n'
 answered_to "$levels====\na8\nb8\nb980\n" check --type T --rules per --levels 2 --explain
 answered_to '' module --module "$example/flattened.asn"
+answered_to '' flatten "$example/flattened.asn"
 answered_to '' flatten "$example/report.asn" "$example/report.asn"
 answered_to '' newest
 answered_to '' check --type N

@@ -1,6 +1,6 @@
 #!/usr/bin/env bash
 # What install.py makes of the program: the words that bash completes, and a manual page that names each command and option.
-# How it compiles, in parts, is tried on the small program asn_first.
+# How it compiles, in halves and in parts, is tried on the small program asn_first.
 #
 # usage: tests/program/installed.sh PROGRAM
 set -euo pipefail
@@ -103,6 +103,9 @@ if python3 "$top/builder/unproved.py" --parts "$top/crates/asn_first" "$top" "$f
     answers 6c 'id 5, ok TRUE, flag TRUE 6c'
     answers 28 'id 5, ok TRUE 28'
     answers ac '! refused'
+    if grep 'in one piece' "$folder/steps"; then
+        failed=$((failed + 1))
+    fi
 else
     failed=$((failed + 1))
     cat "$folder/steps"

@@ -18,7 +18,7 @@ reference = reference()
 INNER = [
     'SEQUENCE { p BOOLEAN, ..., q INTEGER (0..255) OPTIONAL, s NULL OPTIONAL }',
     'CHOICE { x NULL, y BOOLEAN, ..., z INTEGER (0..3), w OCTET STRING }',
-    'ENUMERATED { red(5), green(0), ..., blue(200), grey(300) }',
+    'ENUMERATED { red(9), green(0), ..., blue(2), grey(300) }',
 ]
 OUTER = [
     'SEQUENCE { a BOOLEAN, r INNER OPTIONAL, ..., b INNER OPTIONAL, c BOOLEAN OPTIONAL }',

@@ -1,5 +1,5 @@
 -- What a session under a constraint answers of a value, from what the session of the type alone inside it answers.
-use Rattle.std.proofs.Common.{◌≡◌, ◌+◌, ◌≤◌, ℕ, true, false, Some, None, Ok, Err, List, length, take, refl, sym, ap, subst, arith}
+use Rattle.std.proofs.Common.{◌≡◌, ◌+◌, ◌≤◌, ℕ, true, Some, None, Ok, Err, List, length, take, refl, subst, arith}
 use Rattle.std.specs.Prelude.{◌++◌, Result}
 use Rattle.std.proofs.lemmas.List.{length-take, take-take}
 use Rattle.asn_values.specs.Datum.{Datum}

@@ -1,11 +1,11 @@
 -- A type with a constraint has one answer to all octets.
-use Rattle.std.proofs.Common.{◌≡◌, ℕ, ◌⊎◌, inl, inr, Bool, true, false, List, length, take, refl, sym, ap, ◌∙◌}
+use Rattle.std.proofs.Common.{◌≡◌, ℕ, inl, inr, Bool, true, false, List, length, take, refl, sym, ap, ◌∙◌}
 use Rattle.std.proofs.lemmas.Bool.{true≢false}
 use Rattle.asn_values.specs.Datum.{Datum, nothing}
 use Rattle.asn_values.specs.Shape.{Shape}
 use Rattle.asn_rules.specs.Answer.{Ruling, Told, done, refused, too_long, more, Answer}
 use Rattle.asn_constraints.specs.Constraints.{Constraint, meets}
-use Rattle.asn_constrained.specs.Under.{BreaksConstraint, RefusedByConstraint, AnswerUnder}
+use Rattle.asn_constrained.specs.Under.{RefusedByConstraint, AnswerUnder}
 
 -- ---- two answers are one
 

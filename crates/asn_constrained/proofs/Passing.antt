@@ -1,7 +1,7 @@
 -- What is still asked of a value once one more part of it is passed.
 use Rattle.std.specs.Global.{Box}
 use Rattle.std.specs.List.{list_all}
-use Rattle.std.proofs.Common.{◌≡◌, ◌&&◌, ◌+◌, Bool, true, false, List, [], ◌∷◌, ◌++◌, map, length, length-append, append_assoc, Option, Some, None, IsSome, IfSome, Vec, Global, refl, ap, sym, ◌∙◌, subst, true≢false, rules}
+use Rattle.std.proofs.Common.{◌≡◌, ◌&&◌, ◌+◌, Bool, true, false, List, [], ◌∷◌, ◌++◌, map, length, length-append, append_assoc, Option, Some, None, is_some, IsSome, IfSome, Vec, Global, refl, ap, sym, ◌∙◌, subst, true≢false, rules}
 use Rattle.std.specs.Borrow.{Bor}
 use Rattle.std.proofs.lemmas.List.{append-nil}
 use Rattle.asn_values.specs.Datum.{Datum, components, components_of, elements, elements_of}
@@ -42,6 +42,11 @@ present_allowed presence.Absent h = absurd (h refl)
 pub if_some : {A : Type 0} (x : Option A) (P : Type 0) → (IsSome x → P) → IfSome x (λ p. P)
 if_some None P h = tt
 if_some (Some a) P h = h refl
+
+-- where nothing is due each value is right
+pub nothing_due : (due : Option (Bor Constraint)) (d : Datum) → is_some due ≡ false → MeetsDue due d
+nothing_due None d none = tt
+nothing_due (Some k) d none = absurd (true≢false none)
 
 -- ---- SEQUENCE
 

@@ -1,5 +1,5 @@
 -- What a session answers under a constraint to octets that come in pieces.
-use Rattle.std.specs.Prelude.{◌≡◌, ◌+◌, ℕ, true, false, Result, Ok, Err, List, ◌++◌, length, take, ⊤}
+use Rattle.std.specs.Prelude.{◌≡◌, ◌+◌, ℕ, false, Result, Ok, Err, List, ◌++◌, length, take, ⊤}
 use Rattle.asn_values.specs.Datum.{Datum}
 use Rattle.asn_values.specs.Shape.{Shape}
 use Rattle.asn_values.specs.View.{datum_of}

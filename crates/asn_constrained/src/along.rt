@@ -3,5 +3,6 @@ mod choices;
 mod elements;
 mod entries;
 mod judging;
+mod leaves;
 
 pub(crate) use judging::check_along;

@@ -16,4 +16,4 @@ pub use constraint::{Component, Constraint, Interval, Lengths, Presence, TimeKin
 pub use judging::judge;
 pub use paths::path_text;
 pub use spelling::judge_spelling;
-pub use strings::is_length;
+pub use strings::{is_among, is_length, is_one_of};

@@ -8,7 +8,7 @@ use crate::constraint::{Interval, Lengths};
 use asn_values::Value;
 
 /// Whether the number lies in one of the intervals.
-pub(crate) fn is_among(intervals: &[Interval], number: i128) -> bool
+pub fn is_among(intervals: &[Interval], number: i128) -> bool
     ensures { result ≡ is_among (map interval_of intervals.now) number }
 {
     for interval in intervals {
@@ -32,7 +32,7 @@ pub(crate) fn are_among(intervals: &[Interval], codes: &[u8]) -> bool
 }
 
 /// Whether the position is one of these.
-pub(crate) fn is_one_of(positions: &[u32], position: u32) -> bool
+pub fn is_one_of(positions: &[u32], position: u32) -> bool
     ensures { result ≡ is_one_of positions.now position }
 {
     for other in positions {

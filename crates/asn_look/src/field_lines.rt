@@ -1,22 +1,16 @@
 //! Messages field by field.
-ghost use Rattle.std.specs.Prelude.{IfOk, IfSome};
-ghost use Rattle.asn_values.specs.View.{shape_of};
-ghost use Rattle.asn_fields.specs.Tells.{Tells};
-ghost use Rattle.asn_look.specs.Named.{ruling_of};
-
 use crate::broken_parts::{broken_at_end, broken_in, lines_marked};
 use crate::explaining::why_refused;
 use crate::fault::ShowFault;
 use crate::fronts::front_len;
 use crate::looking::written;
+use crate::named_fields::fields_within_by;
 use crate::streams::{Next, next_message};
 use asn_constraints::{Broken, Constraint, path_text};
-use asn_fields::{MessageFields, PAGE_END, fields, fields_within, page_head, page_note};
+use asn_fields::{PAGE_END, page_head, page_note};
 use asn_jobs::{
     OFFSETS, OctetForm, Order, Place, RuleName, RunFault, is_dump, next_text, octets_in, place_text,
 };
-use asn_oer::Oer;
-use asn_per::Per;
 use asn_request::asking::Forms;
 use asn_values::Checked;
 use hex::FromHexError;
@@ -400,42 +394,4 @@ fn put<'a>(
     }
     so_far.count = so_far.count.saturating_add(1);
     written(rt, text)
-}
-
-/// The fields of octets by the rules of this name: one after the other they are the units of the octets, up to the
-/// last or to the refused one, and say the value that the octets encode.
-///
-/// # Errors
-/// `AllocError` where an allocation failed.
-pub fn fields_by(
-    alloc: Global,
-    ty: &Checked,
-    rules: RuleName,
-    octets: &[u8],
-) -> Result<MessageFields, AllocError>
-    ensures { IfOk result (Tells (ruling_of rules) (shape_of ty.now) octets.now) }
-{
-    match rules {
-        RuleName::Per => fields::<Per>(alloc, ty, octets),
-        RuleName::Oer => fields::<Oer>(alloc, ty, octets),
-    }
-}
-
-/// The fields of octets, as `fields_by` gives them, if they are at most `most`; `None` if there are more.
-///
-/// # Errors
-/// `AllocError` if an allocation failed.
-pub fn fields_within_by(
-    alloc: Global,
-    ty: &Checked,
-    rules: RuleName,
-    octets: &[u8],
-    most: usize,
-) -> Result<Option<MessageFields>, AllocError>
-    ensures { IfOk result (λ o. IfSome o (Tells (ruling_of rules) (shape_of ty.now) octets.now)) }
-{
-    match rules {
-        RuleName::Per => fields_within::<Per>(alloc, ty, octets, most),
-        RuleName::Oer => fields_within::<Oer>(alloc, ty, octets, most),
-    }
 }

@@ -150,7 +150,7 @@ module _ (root : List Label) (more : MoreLabels) (some : empty_range (s.enumerat
   their_numbers =
       let xs = map (λ l. l.number) root in
       let ys = map (λ l. l.number) (more_labels more) in
-      split_any is_not_32_bits xs ys (left_false (list_any is_not_32_bits (xs ++ ys)) _ (right_false (has_twice int_eq xs) _ numbers))
+      split_any is_not_32_bits xs ys (left_false (list_any is_not_32_bits (xs ++ ys)) _ (right_false (has_twice int_eq (xs ++ ys)) _ numbers))
 
   their_names : (list_all is_identifier (map (λ l. l.name) root) ≡ true) × (list_all is_identifier (map (λ l. l.name) (more_labels more)) ≡ true)
   their_names = are_identifiers (map (λ l. l.name) root) (map (λ l. l.name) (more_labels more)) (rw (map-append (λ l. l.name) root (more_labels more)) at names)

@@ -1,19 +1,18 @@
 //! Published modules as one module of the profile.
+use crate::kept::{constrained_of, lines_of_flattened};
 use crate::sources::MOST;
 use crate::stop::Stop;
 use crate::texts::{texts_of, views_of};
-use asn_constraint_text::{constraint_text, with_constraints};
-use asn_constraints::Constraint;
 use asn_published::{
-    Flattened, Options, Status, TypeReport, flatten_type_within, flatten_within, missing_json,
-    missing_text, report_json, report_text, summary_of,
+    Flattened, Options, PublishedFault, Status, TypeReport, flatten_type_within, flatten_within,
+    missing_json, missing_text, report_json, report_text, summary_of,
 };
 use asn_request::request::Form;
 use std::alloc::{AllocError, Global};
 
 /// Writes the module that the published modules of these files become to standard output, and what became of each type
-/// to standard error; where a type is named, of this one and those that it leads to alone. The exit status is 0, or 1 where
-/// a type is refused.
+/// to standard error; where a type is named, of this one and those that it leads to alone. The constraints of a module of
+/// the profile stay. The exit status is 0, or 1 where a type is refused.
 pub fn flatten_files<'a>(
     rt: &HostRuntime,
     files: &[&'a str],
@@ -21,12 +20,18 @@ pub fn flatten_files<'a>(
     options: Options,
     form: Form,
 ) -> Result<u8, Stop<'a>> {
+    let texts = texts_of(rt, files)?;
+    let views = views_of(rt, texts.as_slice())?;
+    let views = views.as_slice();
     let flattened = match type_name {
-        Some(name) => type_flattened(rt, files, name.as_str(), options)?,
-        None => flattened_of(rt, files, options)?,
+        Some(name) => type_flattened(rt, files, views, name.as_str(), options)?,
+        None => flattened_of(rt, files, views, options)?,
     };
     let told = told_in(rt.alloc(), files, &flattened, form)?;
-    let text = text_of(rt.alloc(), &flattened)?;
+    let text = match text_of(rt.alloc(), views, &flattened) {
+        Ok(text) => text,
+        Err(fault) => return Err(Stop::of(files, fault)),
+    };
     write_both(rt, text.as_str(), told.as_str())?;
     Ok(flatten_ending(flattened.report.as_slice()))
 }
@@ -35,12 +40,11 @@ pub fn flatten_files<'a>(
 fn type_flattened<'a>(
     rt: &HostRuntime,
     files: &[&'a str],
+    texts: &[&str],
     name: &str,
     options: Options,
 ) -> Result<Flattened, Stop<'a>> {
-    let texts = texts_of(rt, files)?;
-    let views = views_of(rt, texts.as_slice())?;
-    match flatten_type_within(rt.alloc(), views.as_slice(), options, name, MOST) {
+    match flatten_type_within(rt.alloc(), texts, options, name, MOST) {
         Ok(flattened) if !is_told_of(flattened.report.as_slice(), name) => {
             Err(Stop::NoType(String::from_str(rt.alloc(), name)?))
         }
@@ -58,35 +62,20 @@ fn is_told_of(report: &[TypeReport], name: &str) -> bool {
 fn flattened_of<'a>(
     rt: &HostRuntime,
     files: &[&'a str],
+    texts: &[&str],
     options: Options,
 ) -> Result<Flattened, Stop<'a>> {
-    let texts = texts_of(rt, files)?;
-    let views = views_of(rt, texts.as_slice())?;
-    match flatten_within(rt.alloc(), views.as_slice(), options, MOST) {
+    match flatten_within(rt.alloc(), texts, options, MOST) {
         Ok(flattened) => Ok(flattened),
         Err(fault) => Err(Stop::of(files, fault)),
     }
 }
 
 /// The text of a module, with a line for the constraint of each type that has one.
-fn text_of(alloc: Global, flattened: &Flattened) -> Result<String, AllocError> {
-    let mut names = Vec::new(alloc);
-    let mut texts = Vec::new(alloc);
-    for (index, one) in flattened.report.iter().enumerate() {
-        let constraint = flattened.constraint_at(alloc, index)?;
-        if let Constraint::Free = &constraint {
-            continue;
-        }
-        if let Some(ty) = flattened.module.type_named(one.name.as_str()) {
-            names.push(one.name.as_str())?;
-            texts.push(constraint_text(alloc, ty.get(), &constraint)?)?;
-        }
-    }
-    let mut lines = Vec::new(alloc);
-    for (name, text) in names.iter().zip(&texts) {
-        lines.push((*name, text.as_str()))?;
-    }
-    with_constraints(alloc, flattened.text.as_str(), lines.as_slice())
+fn text_of(alloc: Global, texts: &[&str], flattened: &Flattened) -> Result<String, PublishedFault> {
+    let own = constrained_of(alloc, texts)?;
+    let lines = lines_of_flattened(alloc, flattened, &own)?;
+    Ok(lines.put_into(alloc, flattened.text.as_str())?)
 }
 
 /// Writes the one text to standard output, and the other to standard error.

@@ -3,6 +3,7 @@
 #![tactic(auto)]
 
 mod flattening;
+mod kept;
 mod published;
 mod refused;
 mod sources;
@@ -12,6 +13,7 @@ mod terminal;
 mod texts;
 
 pub use flattening::flatten_files;
+pub use kept::Lines;
 pub use published::Published;
 pub use refused::text_told;
 pub use sources::{Instead, MOST, input_with, instead_of, module_of};

@@ -1,20 +1,20 @@
 //! What the type of a job has in addition to the type of the profile.
-use asn_constraint_text::{
-    ConstrainedFault, ConstraintTextFault, MOST_PARTS, WholeFault, read_constrained,
-};
+use crate::kept::{Lines, constraint_in, has_lines, lines_of_flattened, lines_of_own};
+use asn_constraint_text::{ConstrainedFault, ConstraintTextFault, read_constrained};
 use asn_constraints::Constraint;
 use asn_jobs::Job;
 use asn_published::{Flattened, Marks, PublishedFault};
 use asn_published_text::wrong::Wrong;
-use std::alloc::{AllocError, Global};
+use std::alloc::Global;
 
 /// What a published type has in addition to the type of the profile: a constraint on its values, and marks where they are not
-/// looked at.
+/// looked at. Where the module is printed, the constraints of all types.
 #[derive(Drop)]
 pub struct Published {
     pub constraint: Constraint,
     /// What is not looked at of its values, if there is something.
     pub marks: Option<Marks>,
+    pub lines: Option<Lines>,
 }
 
 impl Published {
@@ -23,6 +23,16 @@ impl Published {
         Published {
             constraint: Constraint::Free,
             marks: None,
+            lines: None,
+        }
+    }
+
+    /// These constraints of all types.
+    fn of_lines(lines: Lines) -> Published {
+        Published {
+            constraint: Constraint::Free,
+            marks: None,
+            lines: Some(lines),
         }
     }
 
@@ -34,22 +44,28 @@ impl Published {
         }
     }
 
-    /// What published modules have for the type of a job.
+    /// What published modules have for the type of a job, or for all types where the job is to print the module.
     pub(crate) fn of_flattened(
         alloc: Global,
         flattened: Flattened,
         job: &Job,
-    ) -> Result<Published, AllocError> {
+    ) -> Result<Published, PublishedFault> {
         let Job::Lines { type_name, .. } = job else {
-            return Ok(Published::free());
+            let lines = lines_of_flattened(alloc, &flattened, &None)?;
+            return Ok(Published::of_lines(lines));
         };
         let name = type_name.as_str();
         let constraint = flattened.constraint_of(alloc, name)?;
         let marks = flattened.into_marks(name);
-        Ok(Published { constraint, marks })
+        Ok(Published {
+            constraint,
+            marks,
+            lines: None,
+        })
     }
 
-    /// What the text of a module of the profile has for the type of a job, on lines that begin with `--:`.
+    /// What the text of a module of the profile has for the type of a job, on lines that begin with `--:`, or for all types
+    /// where the job is to print the module.
     ///
     /// # Errors
     /// `Text` with the first such line that is no constraint of a name, `TooLarge` if the constraint is too large, and
@@ -59,29 +75,29 @@ impl Published {
         text: &str,
         job: &Job,
     ) -> Result<Published, PublishedFault> {
+        if !has_lines(text) {
+            return Ok(Published::free());
+        }
+        let own = match read_constrained(alloc, text) {
+            Ok(own) => own,
+            Err(fault) => return Err(fault_of_constraints(fault)),
+        };
         let Job::Lines { type_name, .. } = job else {
-            return Ok(Published::free());
+            return Ok(Published::of_lines(lines_of_own(alloc, &own)?));
         };
-        if !text.lines().any(|line| line.starts_with("--:")) {
-            return Ok(Published::free());
-        }
-        let name = type_name.as_str();
-        let module = match read_constrained(alloc, text) {
-            Ok(module) => module,
-            Err(ConstrainedFault::Line { line, fault }) => return Err(fault_in_line(line, fault)),
-            Err(_) => return Err(PublishedFault::Memory),
-        };
-        match module.constraint_named(alloc, name) {
-            Ok(constraint) => Ok(Published {
-                constraint: constraint.unwrap_or(Constraint::Free),
-                marks: None,
-            }),
-            Err(WholeFault::TooLarge) => Err(PublishedFault::TooLarge {
-                most: u32::try_from(MOST_PARTS).unwrap_or(u32::MAX),
-                name: String::from_str(alloc, name)?,
-            }),
-            Err(WholeFault::Memory) => Err(PublishedFault::Memory),
-        }
+        Ok(Published {
+            constraint: constraint_in(alloc, &own, type_name.as_str())?,
+            marks: None,
+            lines: None,
+        })
+    }
+}
+
+/// Why the lines of constraints of a module of the profile are not read.
+pub(crate) fn fault_of_constraints(fault: ConstrainedFault) -> PublishedFault {
+    match fault {
+        ConstrainedFault::Line { line, fault } => fault_in_line(line, fault),
+        ConstrainedFault::Module(_) | ConstrainedFault::Memory => PublishedFault::Memory,
     }
 }
 

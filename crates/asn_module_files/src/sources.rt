@@ -11,7 +11,7 @@ use crate::published::Published;
 use asn_jobs::{Job, cut_input};
 use asn_module::{BoundFault, Module, ModuleFault, read_within};
 use asn_published::{
-    Flattened, Options, PublishedFault, Status, TypeReport, flatten_type_within, flatten_within,
+    Flattened, Options, PublishedFault, Status, TypeReport, flatten_alone_within, flatten_within,
     missing_text, refused_text, report_text, text_of_octets, way_text,
 };
 use std::alloc::{AllocError, Global};
@@ -98,7 +98,7 @@ fn published(
     ensures { IfOk result (λ i. IfSome i.octets (λ o. IsInput rest.now o.items)) }
 {
     match flattened_for(alloc, &[text], options, job) {
-        Ok(flattened) => Ok(flattened_input(alloc, &[STDIN], flattened, rest, job)?),
+        Ok(flattened) => flattened_input(alloc, &[STDIN], flattened, rest, job),
         Err(fault) => Ok(Instead {
             octets: None,
             remarks: fault_line(alloc, fault)?,
@@ -108,7 +108,7 @@ fn published(
     }
 }
 
-/// What published modules become for a job: the types that its type leads to, or all where no type has its name.
+/// What published modules become for a job: its type alone, or all types where none has its name.
 pub(crate) fn flattened_for(
     alloc: Global,
     texts: &[&str],
@@ -121,7 +121,7 @@ pub(crate) fn flattened_for(
     match job {
         Job::Module => flatten_within(alloc, texts, options, MOST),
         Job::Lines { type_name, .. } => {
-            flatten_type_within(alloc, texts, options, type_name.as_str(), MOST)
+            flatten_alone_within(alloc, texts, options, type_name.as_str(), MOST)
         }
     }
 }
@@ -139,7 +139,7 @@ fn same(alloc: Global, published: Published) -> Result<Instead, AllocError>
 }
 
 /// The module of the profile that the text is, if it is one, which is no larger than `MOST`.
-fn own_of(alloc: Global, text: &str) -> Result<Option<Module>, PublishedFault>
+pub(crate) fn own_of(alloc: Global, text: &str) -> Result<Option<Module>, PublishedFault>
     ensures { IfOk result (λ m. MatchOption m (IsOwn text.now → ⊥) (λ m. IsRead text.now (types_view m))) }
 {
     match read_within(alloc, text, MOST) {
@@ -252,7 +252,7 @@ fn published_input(
     ensures { IfOk result (λ i. IfSome i.octets (λ o. IsInput rest.now o.items)) }
 {
     let flattened = flattened_for(alloc, texts, options, job)?;
-    Ok(flattened_input(alloc, files, flattened, rest, job)?)
+    flattened_input(alloc, files, flattened, rest, job)
 }
 
 /// The input of a job for published modules that were flattened, and the remarks on its types; `files` are the names of
@@ -263,7 +263,7 @@ fn flattened_input(
     flattened: Flattened,
     rest: &[u8],
     job: &Job,
-) -> Result<Instead, AllocError>
+) -> Result<Instead, PublishedFault>
     requires accepted { Accepted (string_bytes flattened.text) (types_view flattened.module) }
     requires within { IsNotLarge (types_view flattened.module) }
     ensures { IfOk result (λ i. IfSome i.octets (λ o. IsInput rest.now o.items)) }

@@ -74,9 +74,10 @@ pub record IsIndexPast (root : ℕ) (us : List ℕ) : Type 0 where
 
 -- ---- OER: the number ("encoding of enumerated types")
 
--- above those of the type, and within the profile
+-- above those of the additions, none of the root's, and within the profile
 pub record IsUnknownNumber (root additions : List Label) (z : ℤ) : Type 0 where
-  pub above : AllByRecursion (λ known. IsTrue (int_lt known.number z)) (root ++ additions)
+  pub above : AllByRecursion (λ known. IsTrue (int_lt known.number z)) additions
+  pub other : AllByRecursion (λ known. known.number ≢ z) root
   pub narrow : IsFalse (is_not_32_bits z)
 
 unfoldable pub oer_loose : LooseCoding

@@ -38,7 +38,7 @@ pub trait ReadVersions: ReadLeaves + OtherVersions {
     ///
     /// # Errors
     /// `Short` where the units end first; `Refused` where an item of the type stands there, or no
-    /// number, or in OER one that is not above the numbers of all items; `TooMany` in PER where the
+    /// number, or in OER one that is not above those of all additions; `TooMany` in PER where the
     /// index is past the profile, or the root leaves room for no addition; `Memory` where an
     /// allocation failed.
     fn read_unknown_item(

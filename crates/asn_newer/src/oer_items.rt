@@ -1,7 +1,8 @@
 //! The items that an ENUMERATED with an extension mark has not, as OER tells them: by their numbers.
 ghost use Rattle.std.specs.Prelude.{◌≡◌, ◌≤◌, ◌<◌, ◌*◌, ◌^◌, ◌&&◌, pos, IfOk, IfErr, OnOk};
-ghost use Rattle.std.specs.List.{list_all};
+ghost use Rattle.std.specs.List.{list_all, list_any};
 ghost use Rattle.std.specs.Int.RustNames.{int_le, int_lt};
+ghost use Rattle.asn_values.specs.Profile.{int_eq};
 ghost use Rattle.asn_values.specs.View.{numbers_seen};
 ghost use Rattle.asn_bits.specs.Numbers.{magnitude, packed};
 ghost use Rattle.asn_rules.specs.Counted.{signed_number};
@@ -57,14 +58,14 @@ impl ReadVersions for Oer {
         128 * (first - 128) + second >= MAX_ALTERNATIVES as u64
     }
 
-    /// A number above those of the type.
+    /// A number above those of the type's additions that no item of the root has.
     fn read_unknown_item(
         root: &[Item],
         additions: &[Item],
         units: &mut BitCursor<'_>,
     ) -> Result<i128, Halt> {
         let number = read_number(units)?;
-        if is_above_each(number, root) && is_above_each(number, additions) {
+        if is_above_each(number, additions) && !has_number(number, root) {
             Ok(number)
         } else {
             Err(Halt::Refused)
@@ -134,4 +135,16 @@ fn is_above_each(number: i128, items: &[Item]) -> bool
         }
     }
     true
+}
+
+/// Whether one of the items has this number.
+fn has_number(number: i128, items: &[Item]) -> bool
+    ensures { result ≡ list_any (int_eq number) (numbers_seen items.now) }
+{
+    for item in items {
+        if number == i128::from(item.number) {
+            return true;
+        }
+    }
+    false
 }

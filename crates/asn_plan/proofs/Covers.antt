@@ -1,11 +1,11 @@
 -- Languages of the same spellings, whatever the values.
-use Rattle.std.proofs.Common.{◌≡◌, ℕ, zero, suc, List, [], ◌∷◌, ◌++◌, length, refl, sym, ap, ◌∙◌, subst}
-use Rattle.asn_rules.specs.Chunks.{Kind, Chunk, flat}
+use Rattle.std.proofs.Common.{◌≡◌, ℕ, zero, suc, List, [], refl, sym, ◌∙◌}
+use Rattle.asn_rules.specs.Chunks.{Kind, Chunk}
 use Rattle.asn_rules.specs.Forks.{Same}
-use Rattle.asn_rules.specs.General.{Header, Body, Once, Within, General, Length, last, fragment, Left, together, after_first}
+use Rattle.asn_rules.specs.General.{Body, Within, General, Length, last, fragment, Left, together, after_first}
 use Rattle.asn_rules.specs.Languages.{Then, Map, Nothing, Row, Sealed, prepended}
 use Rattle.asn_rules.specs.Live.{Fielding}
-use Rattle.asn_rules.specs.Padding.{Fills, Padded, first_of}
+use Rattle.asn_rules.specs.Padding.{Padded}
 use Rattle.asn_rules.specs.Spellings.{SpelledBy}
 use Rattle.asn_walk.specs.Ahead.{Ahead, items, lengths, end, Remaining}
 

@@ -1,8 +1,7 @@
 -- What is answered of octets by a type with the same spellings is the answer by the type.
-use Rattle.std.proofs.Common.{◌≡◌, ◌≤◌, ◌<◌, ℕ, List, length, take, Result, Ok, Err, refl, sym, subst}
-use Rattle.asn_values.specs.Datum.{Datum}
+use Rattle.std.proofs.Common.{ℕ, List, take, Result, Ok, Err, refl, subst}
 use Rattle.asn_values.specs.Shape.{Shape}
-use Rattle.asn_rules.specs.Answer.{Ruling, IsEncoding, NoFront, max_octets}
+use Rattle.asn_rules.specs.Answer.{Ruling, NoFront, max_octets}
 use Rattle.asn_rules.specs.Chunks.{Chunk}
 use Rattle.asn_rules.specs.Codec.{Decoded}
 use Rattle.asn_rules.specs.Live.{Live, GoesOn, Place}

@@ -1,11 +1,11 @@
 -- A type and its lean type have the same spellings.
-use Rattle.std.proofs.Common.{◌≡◌, ◌≤◌, ◌⊎◌, ℕ, zero, suc, Bool, true, false, List, [], ◌∷◌, ◌++◌, length, take, Option, Some, None, inl, inr, refl, sym, ap, ◌∙◌, subst}
+use Rattle.std.proofs.Common.{◌≡◌, ◌⊎◌, ℕ, zero, suc, Bool, true, false, List, [], ◌∷◌, ◌++◌, length, Option, Some, None, inl, inr, refl, sym, ap, ◌∙◌, subst}
 use Rattle.std.specs.Prelude.{⊤}
 use Rattle.std.proofs.lemmas.Bool.{true≢false}
 use Rattle.asn_values.specs.Datum.{Datum, elements, elements_of}
-use Rattle.asn_values.specs.Parts.{AreOfProfile, AreAllOfProfile, IsGoodDemand}
+use Rattle.asn_values.specs.Parts.{AreOfProfile, AreAllOfProfile}
 use Rattle.asn_values.specs.Profile.{InProfile}
-use Rattle.asn_values.specs.Shape.{Shape, sequence, sequence_of, choice, Demand, must, optional, default, Fields, no_fields, field, MoreFields, closed, marked, demands, Alternatives, no_alternatives, one_of, MoreAlternatives, closed_choice, marked_choice, count}
+use Rattle.asn_values.specs.Shape.{Shape, sequence, sequence_of, choice, must, optional, default, Fields, no_fields, field, MoreFields, closed, marked, demands, Alternatives, no_alternatives, one_of, MoreAlternatives, closed_choice, marked_choice, count}
 use Rattle.asn_values.proofs.InnerTypes.{element_of_profile, root_alternatives_of_profile, added_alternatives_of_profile, additions_of_profile}
 use Rattle.asn_values.proofs.Parts.{components_of_profile}
 use Rattle.asn_bits.specs.Numbers.{bits}
@@ -16,7 +16,7 @@ use Rattle.asn_rules.specs.General.{after_first}
 use Rattle.asn_rules.specs.Languages.{Then, Map, prepended}
 use Rattle.asn_rules.specs.Listed.{Spelt, Listed, Before, bitmap_length}
 use Rattle.asn_rules.specs.Reading.{Wholes}
-use Rattle.asn_walk.specs.Coding.{Coding, PreambleOf, AdditionBitmapOf, IndexOf, OpenOf, OpenListed, AdditionsOf, AddedOf, SequencesOf, sequence_told, ListsOf, ChoicesOf, ChosenOf, ChosenBy, chosen_value, added, added_alternatives, absent_entries}
+use Rattle.asn_walk.specs.Coding.{Coding, PreambleOf, AdditionBitmapOf, IndexOf, OpenOf, OpenListed, AdditionsOf, AddedOf, SequencesOf, sequence_told, ChoicesOf, ChosenOf, ChosenBy, chosen_value, added, added_alternatives, absent_entries}
 use Rattle.asn_walk.specs.Laws.{Laws}
 use Rattle.asn_plan.specs.Lean.{lean, lean_root, lean_each, lean_more, lean_alternatives, lean_others}
 use Rattle.asn_plan.specs.Nothing.{has_nothing, only_value, SpellsNothing}

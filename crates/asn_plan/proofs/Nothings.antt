@@ -1,5 +1,5 @@
 -- The only value of a type whose values have no units, and how its entries are counted.
-use Rattle.std.proofs.Common.{◌≡◌, ◌+◌, ◌&&◌, ◌∷◌, [], ℕ, Bool, true, false, List, Option, Some, None, take, drop, length, refl, sym, ap, ◌∙◌, arith}
+use Rattle.std.proofs.Common.{◌≡◌, ◌+◌, ◌&&◌, ◌∷◌, [], ℕ, Bool, true, false, List, take, drop, length, refl, sym, ap, ◌∙◌, arith}
 use Rattle.std.proofs.lemmas.Bool.{and_parts, true≢false}
 use Rattle.asn_values.specs.Datum.{component_list}
 use Rattle.asn_values.specs.Fits.{Fits, FitsEach}

@@ -1,11 +1,16 @@
 -- Strings that are told by a number in their bits, put one bit or octet after the other.
-use Rattle.std.proofs.Common.{◌≡◌, ◌+◌, ◌-◌, ◌*◌, ◌/◌, ◌%◌, ◌^◌, ◌++◌, ◌∷◌, [], ◌<◌, ℕ, zero, suc, Bool, true, false, ◌==◌, List, length, map, take, slice_set, refl, sym, ap, subst, ◌∙◌, arith}
+use Rattle.std.proofs.Common.{Vec, Global, ◌≡◌, ◌+◌, ◌-◌, ◌*◌, ◌/◌, ◌%◌, ◌^◌, ◌++◌, ◌∷◌, [], ◌<◌, ℕ, zero, suc, Bool, true, false, ◌==◌, List, length, map, take, slice_set, refl, sym, ap, subst, ◌∙◌, arith}
 use Rattle.std.proofs.lemmas.Bool.{true≢false}
-use Rattle.std.proofs.lemmas.List.{take_more_set, map_push}
+use Rattle.std.proofs.lemmas.List.{take_more_set, map_push, length-map}
 use Rattle.std.proofs.Math.Nat.{div-one}
 use Rattle.std.proofs.lemmas.Nat.{shr-shr}
 use Rattle.asn_values.specs.Datum.{Datum, bit_list, octet_list}
+use Rattle.asn_values.specs.View.{datum_of}
+use Rattle.asn_values.specs.declared.value.Value.{Value}
+use Rattle.asn_values.specs.declared.value.Value.TheVariants as value
+use Rattle.asn_values.proofs.Views.{datum_of-Bits, datum_of-Octets}
 use Rattle.asn_bits.specs.Numbers.{bits, octets}
+use Rattle.asn_bits.proofs.Octets.{length-digits}
 use Rattle.asn_bits.specs.Sink.{bit_of}
 use Rattle.asn_bits.proofs.Packing.{octets_more}
 use Rattle.asn_bits.proofs.Splits.{digits-add}
@@ -99,3 +104,18 @@ pub octet_set : (xs : List ℕ) (count i n o : ℕ) → i < length xs → i < co
     → take (i + 1) (slice_set xs i o) ≡ octets (i + 1) (n / 2 ^ (8 * (count - (i + 1))))
 octet_set xs count i n o inside less e is =
     take_more_set xs i o inside ∙ octet_more (take i xs) count i n o less e is
+
+-- a string of one length has that length
+pub bits_long : (f : FixedString) (n : ℕ) (v : Value) (bs : Vec Bool Global) → v ≡ value.Bits bs
+    → IsStringOf f n (datum_of v) → length bs.items ≡ f.length
+bits_long f n v bs is h = of_list (rw (is, datum_of-Bits bs) at h)
+  where
+    of_list : IsStringOf f n (bit_list bs.items) → length bs.items ≡ f.length
+    of_list s = sym (length-map bs.items bit_of) ∙ ap length s.1 ∙ length-digits 2 f.length n
+
+pub octets_long : (f : FixedString) (n : ℕ) (v : Value) (os : Vec ℕ Global) → v ≡ value.Octets os
+    → IsStringOf f n (datum_of v) → length os.items ≡ f.length
+octets_long f n v os is h = of_list (rw (is, datum_of-Octets os) at h)
+  where
+    of_list : IsStringOf f n (octet_list os.items) → length os.items ≡ f.length
+    of_list s = ap length s.1 ∙ length-digits 256 f.length n

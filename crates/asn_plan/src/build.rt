@@ -1,13 +1,19 @@
 //! What the walk of a plan builds of the values that it reads: nothing, where it only checks, or values.
-ghost use Rattle.std.specs.Prelude.{◌≡◌, ℕ, ◌<◌, ◌^◌, ◌++◌, ◌∷◌, [], map, List, Option, Some, None, IfSome, IsSome, ⊤};
+ghost use Rattle.std.specs.Prelude.{◌≡◌, ℕ, ◌<◌, ◌^◌, ◌++◌, ◌∷◌, [], List, Option, Some, None, IfSome, IsSome, ⊤};
 ghost use Rattle.asn_values.specs.Datum.{Datum, truth, number, item, components, components_of, elements, elements_of, alternative};
-ghost use Rattle.asn_values.specs.View.{datum_of, entries_seen};
+ghost use Rattle.asn_values.specs.Profile.{InProfile};
+ghost use Rattle.asn_values.specs.Shape.{Shape};
+ghost use Rattle.asn_values.specs.View.{datum_of};
 ghost use Rattle.asn_walk.specs.Integers.{IsOfProfile};
 ghost use Rattle.asn_plan.specs.FixedStrings.{IsStringOf};
+ghost use Rattle.asn_plan.specs.Plans.{IsPlan, Builds};
 ghost use Rattle.asn_plan.specs.Taken.{entries_of, octets_of};
 
 use crate::copies::copy_default;
 use crate::fixed::FixedString;
+use crate::plan::{Kind, Node};
+use crate::rules::PlanLeaves;
+use asn_bits::BitCursor;
 use asn_values::Value;
 use std::alloc::Global;
 
@@ -107,6 +113,29 @@ pub trait Build {
     /// is no such value.
     fn spare(room: &mut Self::Room) -> Option<Value>
         ensures { (r : Self.Room) (p : Self.Part) (d : Datum) → built room.new r p d → built room.old r p d }
+    {
+        None
+    }
+
+    /// Whether nothing has to be looked at in the next part: it is then read by `pass_over`, with its parts.
+    #[inline(always)]
+    fn passes(_room: &Self::Room) -> bool {
+        false
+    }
+
+    /// Takes the value of the node, of which nothing has to be looked at, and returns its part.
+    #[inline(always)]
+    fn pass_over<R: PlanLeaves>(
+        _alloc: Global,
+        _nodes: &[Node],
+        _kind: &Kind,
+        _units: &mut BitCursor<'_>,
+        _room: &Self::Room,
+    ) -> Option<Self::Part>
+        requires at_unit { R.rules.at_unit _units.old }
+        ensures at_unit { IsSome result → R.rules.at_unit _units.new }
+        ensures some { IfSome result (λ p. (t : Shape) → InProfile t → IsPlan _nodes.now t _kind.now
+            → Builds R.rules (built _room.now _room.now) t p _units.old _units.new) }
     {
         None
     }
@@ -278,108 +307,5 @@ impl Build for Nothing {
     #[inline(always)]
     fn choice(_alloc: Global, _room: &mut (), _chosen: (), _place: usize, _part: ()) -> Option<()> {
         Some(())
-    }
-}
-
-/// Builds values.
-pub struct Values;
-
-impl Build for Values {
-    type Room = ();
-
-    type Part = Value;
-
-    type Entries = Vec<Option<Value>>;
-
-    type Elements = Vec<Value>;
-
-    type Chosen = ();
-
-    ghost built = { λ s r p d. datum_of p ≡ d };
-
-    ghost listed = { λ s r p es. entries_seen p.items ≡ es };
-
-    ghost rowed = { λ s r p ds. map datum_of p.items ≡ ds };
-
-    ghost opened = { λ s r c n. ⊤ };
-
-    #[inline(always)]
-    fn number(_room: &mut (), integer: i128) -> Option<Value> {
-        Some(Value::Int(integer))
-    }
-
-    #[inline(always)]
-    fn truth(_room: &mut (), is_true: bool) -> Option<Value> {
-        Some(Value::Bool(is_true))
-    }
-
-    #[inline(always)]
-    fn item(_room: &mut (), position: u32) -> Option<Value> {
-        Some(Value::Enum(position))
-    }
-
-    #[inline(always)]
-    fn value(_room: &mut (), value: Value) -> Option<Value> {
-        Some(value)
-    }
-
-    #[inline(always)]
-    fn entries(alloc: Global, _room: &mut (), count: usize) -> Option<Vec<Option<Value>>> {
-        Vec::with_capacity(alloc, count).ok()
-    }
-
-    #[inline(always)]
-    fn absent(_room: &mut (), entries: &mut Vec<Option<Value>>) -> Option<()> {
-        if entries.len() >= entries.capacity() {
-            return None;
-        }
-        entries.push_reserved(None);
-        Some(())
-    }
-
-    #[inline(always)]
-    fn present(_room: &mut (), entries: &mut Vec<Option<Value>>, part: Value) -> Option<()> {
-        if entries.len() >= entries.capacity() {
-            return None;
-        }
-        entries.push_reserved(Some(part));
-        Some(())
-    }
-
-    #[inline(always)]
-    fn sequence(_room: &mut (), entries: Vec<Option<Value>>) -> Option<Value> {
-        Some(Value::Seq(entries))
-    }
-
-    #[inline(always)]
-    fn elements(alloc: Global, _room: &mut ()) -> Option<Vec<Value>> {
-        Some(Vec::new(alloc))
-    }
-
-    #[inline(always)]
-    fn element(_room: &mut (), row: &mut Vec<Value>, part: Value) -> Option<()> {
-        row.push(part).ok()
-    }
-
-    #[inline(always)]
-    fn list(_room: &mut (), row: Vec<Value>) -> Option<Value> {
-        Some(Value::List(row))
-    }
-
-    #[inline(always)]
-    fn choosing(_room: &mut (), _place: usize) -> Option<()> {
-        Some(())
-    }
-
-    #[inline(always)]
-    fn choice(
-        alloc: Global,
-        _room: &mut (),
-        _chosen: (),
-        place: usize,
-        part: Value,
-    ) -> Option<Value> {
-        let part = Box::new(alloc, part).ok()?;
-        Some(Value::Choice(place as u32, part))
     }
 }

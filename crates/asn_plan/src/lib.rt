@@ -35,10 +35,11 @@ mod runs;
 mod strings;
 mod taking;
 mod walk;
+mod whole;
 mod word;
 
 pub use budget::{Budget, Taken, WithinFault};
-pub use build::{Build, Nothing, Values};
+pub use build::{Build, Nothing};
 pub use counting::Counting;
 pub use enumeration::{Enumeration, Order};
 pub use field::{BitField, BitFields};
@@ -55,4 +56,5 @@ pub use ranged::Ranged;
 pub use reused::{ChoiceOver, ElementsOver, Reused, Spare};
 pub use rules::{PlanLeaves, PlanRules};
 pub use walk::build_at;
+pub use whole::Values;
 pub use word::{Run, Word};

@@ -126,7 +126,7 @@ fn build_elements<R: PlanLeaves, B: Build>(
         (R.rules.to_units units.old) (R.rules.to_units units.new) }
 {
     if let Kind::Sequence(parts) = kind {
-        if parts.begin < parts.end {
+        if parts.begin < parts.end && !B::passes(room) {
             return build_sequences::<R, B>(alloc, nodes, parts, count, row, units, room);
         }
     }

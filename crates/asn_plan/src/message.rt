@@ -10,12 +10,13 @@ ghost use Rattle.asn_plan.specs.Plans.{IsPlanOf, BuildsMessage, Checks};
 ghost use Rattle.asn_plan.specs.Within.{CheckedWithin, DecodedWithin, IsTaken};
 
 use crate::budget::{Budget, Taken, WithinFault};
-use crate::build::{Build, Nothing, Values};
+use crate::build::{Build, Nothing};
 use crate::counting::Counting;
 use crate::open::build_complete;
 use crate::plan::Plan;
 use crate::reused::{Reused, Spare};
 use crate::rules::{PlanLeaves, PlanRules};
+use crate::whole::Values;
 use asn_rules::{DecodeFault, MAX_OCTETS, Rules};
 use asn_values::{Checked, Value};
 use asn_walk::ReadLeaves;

@@ -125,6 +125,14 @@ pub enum Kind {
     Choice(AlternativeRows),
 }
 
+impl Kind {
+    /// Whether the value has parts, each with a node.
+    #[inline(always)]
+    pub(crate) fn has_parts(&self) -> bool {
+        matches!(self, Kind::Sequence(_) | Kind::List(_) | Kind::Choice(_))
+    }
+}
+
 /// Whether a component has to be there.
 #[derive(Drop)]
 pub enum Presence {

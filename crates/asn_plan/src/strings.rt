@@ -4,8 +4,10 @@ ghost use Rattle.asn_bits.specs.Numbers.{bits, octets};
 ghost use Rattle.asn_bits.specs.Sink.{bit_of};
 ghost use Rattle.asn_values.specs.Datum.{bit_list, octet_list};
 ghost use Rattle.asn_values.specs.View.{datum_of};
+ghost use Rattle.asn_plan.specs.FixedStrings.{IsStringOf};
 ghost use Rattle.asn_plan.specs.Placed.{IsPut};
 
+use crate::fixed::FixedString;
 use crate::place::Place;
 use asn_bits::internal::low_octet;
 use asn_values::Value;
@@ -62,6 +64,54 @@ impl Place {
         fill_octets(&mut made, number)?;
         self.put_back(Value::Octets(made))
     }
+}
+
+impl FixedString {
+    /// Whether the value may be the string whose bits are those of the number: `false` only of another value.
+    #[inline(never)]
+    pub fn may_be(&self, number: u64, value: &Value) -> bool
+        ensures { IsStringOf self.now number (datum_of value.now) → result ≡ true }
+    {
+        match value {
+            Value::Bits(bits) => {
+                bits.len() == self.length as usize && are_low_bits(bits, number)
+            }
+            Value::Octets(octets) => {
+                octets.len() == self.length as usize && are_low_octets(octets, number)
+            }
+            _ => false,
+        }
+    }
+}
+
+/// Whether these may be the last bits of a number: `false` only of others.
+fn are_low_bits(those: &[bool], number: u64) -> bool
+    ensures { map bit_of those.now ≡ bits (length those.now) number → result ≡ true }
+{
+    if those.len() > 64 {
+        return true;
+    }
+    let mut room = [false; 64];
+    let low = &mut room[..those.len()];
+    if fill_bits(low, number).is_none() {
+        return true;
+    }
+    *low == *those
+}
+
+/// Whether these may be the last octets of a number: `false` only of others.
+fn are_low_octets(those: &[u8], number: u64) -> bool
+    ensures { those.now ≡ octets (length those.now) number → result ≡ true }
+{
+    if those.len() > 8 {
+        return true;
+    }
+    let mut room = [0; 8];
+    let low = &mut room[..those.len()];
+    if fill_octets(low, number).is_none() {
+        return true;
+    }
+    *low == *those
 }
 
 /// Whether the value is a BIT STRING of this many bits, which then become the last ones of a number.

@@ -34,6 +34,9 @@ pub fn build_at<R: PlanLeaves, B: Build>(
     ensures some { IfSome result (λ p. (t : Shape) → InProfile t → IsPlan nodes.now t kind.now
         → Builds R.rules (B.built room.old room.new) t p units.old units.new) }
 {
+    if kind.has_parts() && B::passes(room) {
+        return B::pass_over::<R>(alloc, nodes, kind, units, room);
+    }
     match kind {
         Kind::Number(number) => {
             if let Some(integer) = R::try_ranged(&number.range, units) {

@@ -1,33 +1,28 @@
 //! From published texts to one module of the profile.
-ghost use Rattle.std.specs.Prelude.{◌≡◌, ◌≤◌, ◌<◌, ℕ, length, IfErr, IfOk, option_map, string_bytes};
+ghost use Rattle.std.specs.Prelude.{◌≡◌, ◌≤◌, length, IfErr, IfOk, option_map, string_bytes};
 ghost use Rattle.asn_module.specs.Accepted.{Accepted};
 ghost use Rattle.asn_module.specs.ModuleView.{types_view};
 ghost use Rattle.asn_module.specs.Sizes.{types_size};
-ghost use Rattle.asn_published_text.specs.Modules.{StandIn};
 ghost use Rattle.asn_published_report.specs.Parts.{status_at, type_named};
 ghost use Rattle.asn_published.specs.TextFaults.{IsOneOf};
 
 use crate::fault::PublishedFault;
+use crate::gathering::{Extent, sources_of};
 use crate::marks::Marks;
-use crate::naming::{level_mark_of, names_of};
-use crate::reaching::order_for;
 use crate::refusing::{refuse, refuse_large};
 use crate::reports::{Reported, reports_of};
 use asn_constraints::Constraint;
 use asn_module::{MOST_SIZE, Module, read_within};
-use asn_published_read::texts::read_texts;
 use asn_published_report::missing::{MissingImport, missing_imports};
 use asn_published_report::way::status_named;
-use asn_published_text::modules::{What, World};
 use asn_published_text::options::Options;
-use asn_published_types::building::Forest;
-use asn_published_types::numbers::numbers_of;
 use asn_published_types::pieces::push_pieces;
 use asn_published_types::report::{Status, TypeReport};
 use asn_published_types::steps::Marked;
 use asn_published_types::tree::constraint_at;
 use asn_published_write::sources::Sources;
-use asn_published_write::written::{Written, whole_level, write_all};
+use asn_published_write::wanted::{Wanted, write_all};
+use asn_published_write::written::{Written, whole_level};
 use std::alloc::{AllocError, Global};
 
 /// How often types are written again without one that the profile does not take.
@@ -102,113 +97,6 @@ impl Flattened {
     }
 }
 
-/// Where the nodes of each type stand.
-#[derive(Drop)]
-struct Places {
-    firsts: Vec<Option<usize>>,
-    spans: Vec<Option<(usize, usize)>>,
-}
-
-impl Places {
-    /// Takes the place of a type from its first node to before `end`, or that there is no type.
-    fn push(&mut self, first: Option<usize>, end: usize) -> Result<(), AllocError> {
-        self.firsts.push(first)?;
-        self.spans.push(match first {
-            Some(first) => Some((first, end)),
-            None => None,
-        })?;
-        Ok(())
-    }
-}
-
-/// Builds the nodes of a type.
-fn add_type<'t>(
-    alloc: Global,
-    world: &World<'t>,
-    forest: &mut Forest<'t>,
-    places: &mut Places,
-    assignment: usize,
-    instance: Option<usize>,
-) -> Result<(), PublishedFault>
-    ensures { IfErr result (λ why. (texts : ℕ) → 0 < texts → StandIn texts world.now.modules.items
-        → IsOneOf texts why) }
-{
-    match forest.add(alloc, world, assignment, instance) {
-        Ok(first) => Ok(places.push(Some(first), forest.nodes.len())?),
-        Err(fault) => Err(PublishedFault::of(world.text_of(assignment), fault)),
-    }
-}
-
-/// Builds the nodes of all types: of the assignments without parameters, and then of each instance that is met.
-fn places_of<'t>(
-    alloc: Global,
-    world: &World<'t>,
-    forest: &mut Forest<'t>,
-) -> Result<Places, PublishedFault>
-    ensures { IfErr result (λ why. StandIn (length world.now.files.items) world.now.modules.items
-        → IsOneOf (length world.now.files.items) why) }
-{
-    let mut places = Places {
-        firsts: Vec::new(alloc),
-        spans: Vec::new(alloc),
-    };
-    if world.files.is_empty() {
-        // (no text has no type)
-        return Ok(places);
-    }
-    for (index, assignment) in world.assignments.iter().enumerate() {
-        if assignment.what == What::Type && assignment.parameters.is_none() {
-            match add_type(alloc, world, forest, &mut places, index, None) {
-                Ok(()) => {}
-                Err(fault) => return Err(fault),
-            }
-        } else {
-            places.push(None, 0)?;
-        }
-    }
-    for index in 0..usize::MAX {
-        let Some(instance) = forest.instances.instance(index) else {
-            break;
-        };
-        let assignment = instance.assignment;
-        match add_type(alloc, world, forest, &mut places, assignment, Some(index)) {
-            Ok(()) => {}
-            Err(fault) => return Err(fault),
-        }
-    }
-    Ok(places)
-}
-
-/// Reads the texts, and builds the nodes of all types; those are written to which the type of a name leads, or all, and
-/// come to no more than the bound.
-fn sources_of<'t>(
-    alloc: Global,
-    texts: &[&'t str],
-    wanted: Option<&str>,
-    most: u32,
-) -> Result<Sources<'t>, PublishedFault>
-    ensures { IfErr result (IsOneOf (length texts.now)) }
-{
-    let world = read_texts(alloc, texts)?;
-    let mut forest = Forest::new(alloc);
-    let places = places_of(alloc, &world, &mut forest)?;
-    let numbers = numbers_of(alloc, &world)?;
-    let names = names_of(alloc, &world, &forest.instances)?;
-    let level_mark = level_mark_of(alloc, names.as_slice())?;
-    let Places { firsts, spans } = places;
-    let order = order_for(alloc, &forest, spans.as_slice(), names.as_slice(), wanted)?;
-    Ok(Sources {
-        world,
-        forest,
-        numbers,
-        names,
-        level_mark,
-        firsts,
-        order,
-        most,
-    })
-}
-
 /// Appends a line for each type that is written.
 fn push_assignments(
     text: &mut String,
@@ -237,21 +125,28 @@ pub(crate) fn first_line(alloc: Global, sources: &Sources<'_>) -> Result<String,
     Ok(text)
 }
 
-/// The text of the module of the types that are written.
+/// The text of the module of the types that are written: of the one that is wanted alone, if one is.
 fn text_written(
     alloc: Global,
     sources: &Sources<'_>,
     written: &Written,
+    wanted: Option<Wanted>,
 ) -> Result<String, AllocError> {
     let mut text = first_line(alloc, sources)?;
-    for line in &written.levels {
-        text.push_str(line.as_str())?;
+    if let (Some(line), Some(wanted)) = (&written.alone, wanted) {
+        if let Some(name) = sources.names.get(wanted.entry) {
+            push_pieces(&mut text, &[name.as_str(), " ::=", line.as_str(), "\n"])?;
+        }
+    } else {
+        for line in &written.levels {
+            text.push_str(line.as_str())?;
+        }
+        push_assignments(
+            &mut text,
+            sources.names.as_slice(),
+            written.lines.as_slice(),
+        )?;
     }
-    push_assignments(
-        &mut text,
-        sources.names.as_slice(),
-        written.lines.as_slice(),
-    )?;
     text.push_str("END\n")?;
     Ok(text)
 }
@@ -267,20 +162,22 @@ fn read_back(alloc: Global, text: &str, most: u32) -> Result<(String, Module), P
     Ok((printed, module))
 }
 
-/// Writes all types but those that are refused, and reads them back, as a module that is no larger than the bound.
+/// Writes all types but those that are refused, or the one that is wanted alone, and reads them back, as a module that is
+/// no larger than the bound.
 fn attempt(
     alloc: Global,
     sources: &Sources<'_>,
     options: Options,
     refused: &[bool],
+    wanted: Option<Wanted>,
     most: u32,
 ) -> Result<Flattened, PublishedFault>
     ensures fault { IfErr result (IsOneOf 0) }
     ensures accepted { IfOk result (λ f. Accepted (string_bytes f.text) (types_view f.module)) }
     ensures within { IfOk result (λ f. types_size (types_view f.module).types ≤ most) }
 {
-    let written = write_all(alloc, sources, options, refused)?;
-    let text = text_written(alloc, sources, &written)?;
+    let written = write_all(alloc, sources, options, refused, wanted)?;
+    let text = text_written(alloc, sources, &written, wanted)?;
     let (text, module) = read_back(alloc, text.as_str(), most)?;
     let Reported {
         report,
@@ -313,7 +210,7 @@ pub fn flatten(alloc: Global, texts: &[&str], options: Options) -> Result<Flatte
     // The text is one that `asn_module` accepts, as the module that is beside it.
     ensures accepted { IfOk result (λ f. Accepted (string_bytes f.text) (types_view f.module)) }
 {
-    flatten_at_most(alloc, texts, options, None, MOST_SIZE)
+    flatten_at_most(alloc, texts, options, Extent::All, MOST_SIZE)
 }
 
 /// What `flatten` answers, of a module that is no larger than `most`, as `asn_module::read_within` counts it. Where the
@@ -331,11 +228,12 @@ pub fn flatten_within(
     ensures accepted { IfOk result (λ f. Accepted (string_bytes f.text) (types_view f.module)) }
     ensures within { IfOk result (λ f. types_size (types_view f.module).types ≤ most) }
 {
-    flatten_at_most(alloc, texts, options, None, most)
+    flatten_at_most(alloc, texts, options, Extent::All, most)
 }
 
-/// What `flatten_within` answers, of the types alone to which the type of a name leads, itself one of them; of all
-/// types, where none has the name. The name is that in the module of the profile.
+/// What `flatten_within` answers, of the types to which the type of a name leads, itself one of them; of all
+/// types, where none has the name. The name is that in the module of the profile. Where these types come to more than
+/// `most`, and it to no more than half of that, the module is that of `flatten_alone_within`.
 ///
 /// # Errors
 /// Those of `flatten_within`.
@@ -350,26 +248,52 @@ pub fn flatten_type_within(
     ensures accepted { IfOk result (λ f. Accepted (string_bytes f.text) (types_view f.module)) }
     ensures within { IfOk result (λ f. types_size (types_view f.module).types ≤ most) }
 {
-    flatten_at_most(alloc, texts, options, Some(name), most)
+    flatten_at_most(alloc, texts, options, Extent::Led(name), most)
 }
 
-/// The module of the types that the type of a name leads to, or of all, which is no larger than the bound.
-#[tactic(auto, using(crate::proofs::TextFaults::of_no_text))]
-fn flatten_at_most(
+/// The same, but the module has the type of the name alone, with those that it leads to written out in it. The report
+/// has them too. Where the type is refused, or larger than half of `most`, the answer is that of `flatten_type_within`.
+///
+/// # Errors
+/// Those of `flatten_within`.
+pub fn flatten_alone_within(
     alloc: Global,
     texts: &[&str],
     options: Options,
-    wanted: Option<&str>,
+    name: &str,
     most: u32,
 ) -> Result<Flattened, PublishedFault>
     ensures fault { IfErr result (IsOneOf (length texts.now)) }
     ensures accepted { IfOk result (λ f. Accepted (string_bytes f.text) (types_view f.module)) }
     ensures within { IfOk result (λ f. types_size (types_view f.module).types ≤ most) }
 {
-    let sources = sources_of(alloc, texts, wanted, most)?;
+    flatten_at_most(alloc, texts, options, Extent::Alone(name), most)
+}
+
+/// The module of these types, which is no larger than the bound. Where the profile does not take the one that is wanted,
+/// it is written again with those that it leads to, to find the one that is not taken.
+#[tactic(auto, using(crate::proofs::TextFaults::of_no_text))]
+fn flatten_at_most(
+    alloc: Global,
+    texts: &[&str],
+    options: Options,
+    extent: Extent<'_>,
+    most: u32,
+) -> Result<Flattened, PublishedFault>
+    ensures fault { IfErr result (IsOneOf (length texts.now)) }
+    ensures accepted { IfOk result (λ f. Accepted (string_bytes f.text) (types_view f.module)) }
+    ensures within { IfOk result (λ f. types_size (types_view f.module).types ≤ most) }
+{
+    let (sources, wanted) = sources_of(alloc, texts, extent, most)?;
     let mut refused = vec![in alloc; false; sources.names.len()]?;
+    if wanted.is_some() {
+        match attempt(alloc, &sources, options, refused.as_slice(), wanted, most) {
+            Err(PublishedFault::Unread(_) | PublishedFault::TooLarge { .. }) => {}
+            answer => return answer,
+        }
+    }
     for _ in 1..MOST_TRIES {
-        match attempt(alloc, &sources, options, refused.as_slice(), most) {
+        match attempt(alloc, &sources, options, refused.as_slice(), None, most) {
             Err(PublishedFault::Unread(fault)) => {
                 refuse(alloc, &sources, options, &mut refused, fault)?;
             }
@@ -379,5 +303,5 @@ fn flatten_at_most(
             answer => return answer,
         }
     }
-    attempt(alloc, &sources, options, refused.as_slice(), most)
+    attempt(alloc, &sources, options, refused.as_slice(), None, most)
 }

@@ -3,6 +3,7 @@
 
 mod fault;
 mod flattening;
+mod gathering;
 mod looking;
 mod marks;
 mod met;
@@ -21,5 +22,7 @@ pub use asn_published_text::refusal::Why;
 pub use asn_published_text::wrong::Wrong;
 pub use asn_published_types::report::{Note, Remark, Status, TypeReport};
 pub use fault::PublishedFault;
-pub use flattening::{Flattened, flatten, flatten_type_within, flatten_within};
+pub use flattening::{
+    Flattened, flatten, flatten_alone_within, flatten_type_within, flatten_within,
+};
 pub use marks::{Looked, Marks, Place};

@@ -46,22 +46,16 @@ fn spans_from(
     Ok(reached)
 }
 
-/// The types in order that the type of a name leads to, itself one of them; all, where there is no name or none has it.
+/// The types in order that a type leads to, itself one of them; all, where there is none.
 pub(crate) fn order_for(
     alloc: Global,
     forest: &Forest<'_>,
     spans: &[Option<(usize, usize)>],
-    names: &[String],
-    wanted: Option<&str>,
+    wanted: Option<usize>,
 ) -> Result<Order, AllocError> {
-    let Some(wanted) = wanted else {
+    let Some(start) = wanted else {
         return order_of(alloc, forest, spans, None);
     };
-    match names.iter().position(|name| *name.as_str() == *wanted) {
-        Some(start) => {
-            let reached = spans_from(alloc, forest, spans, start)?;
-            order_of(alloc, forest, reached.as_slice(), Some(start))
-        }
-        None => order_of(alloc, forest, spans, None),
-    }
+    let reached = spans_from(alloc, forest, spans, start)?;
+    order_of(alloc, forest, reached.as_slice(), Some(start))
 }

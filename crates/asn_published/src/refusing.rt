@@ -7,7 +7,8 @@ use crate::flattening::first_line;
 use asn_module::ModuleFault;
 use asn_published_text::options::Options;
 use asn_published_write::sources::Sources;
-use asn_published_write::written::{put, write_all};
+use asn_published_write::wanted::write_all;
+use asn_published_write::written::put;
 use std::alloc::{AllocError, Global};
 
 /// Whether a type has a name in the profile, or one of its levels, after whose mark a number stands.
@@ -51,7 +52,7 @@ fn index_at(
     refused: &[bool],
     at: usize,
 ) -> Result<Option<usize>, AllocError> {
-    let written = write_all(alloc, sources, options, refused)?;
+    let written = write_all(alloc, sources, options, refused, None)?;
     let mut end = first_line(alloc, sources)?.len();
     if at < end {
         return Ok(None);

@@ -178,32 +178,49 @@ fn give_numbers(alloc: Global, items: &mut Vec<Item<'_>>) -> Result<(), Refusal>
     Ok(())
 }
 
-/// Puts the items of the root and the additional ones into their lists. Additional items whose numbers do not rise
-/// above those of the root get others.
+/// Whether one of the items has this number.
+fn has_number(items: &[Item<'_>], number: i128) -> bool {
+    items.iter().any(|item| item.number == number)
+}
+
+/// The least number above this one that no item of the root has.
+fn free_above(number: i128, root: &[Item<'_>]) -> i128 {
+    let mut free = number.saturating_add(1);
+    for _ in 0..MOST_ITEMS {
+        if !has_number(root, free) {
+            break;
+        }
+        free = free.saturating_add(1);
+    }
+    free
+}
+
+/// Puts the items of the root and the additional ones into their lists. An additional item whose number is not above
+/// that of the one before it, which X.680 asks for, gets another.
 fn put_apart<'t>(all: &[Item<'t>], items: &mut Items<'t>) -> Result<(), Refusal> {
-    let mut highest = -1i128;
     for item in all {
         if !item.is_addition {
-            highest = highest.max(item.number);
             items.root.push(*item)?;
         }
     }
+    let mut last: Option<i128> = None;
     for item in all {
         if item.is_addition {
             let mut addition = *item;
-            if addition.number <= highest {
-                addition.number = highest.saturating_add(1);
-                items.renumbered = true;
+            if let Some(number) = last {
+                if addition.number <= number {
+                    addition.number = free_above(number, items.root.as_slice());
+                    items.renumbered = true;
+                }
             }
-            highest = addition.number;
+            last = Some(addition.number);
             items.additions.push(addition)?;
         }
     }
     Ok(())
 }
 
-/// The items in the braces at `braces`, with numbers. Additional items whose numbers do not rise above those of the
-/// root get others.
+/// The items in the braces at `braces`, with numbers. Additional items whose numbers do not rise get others.
 pub fn items_of<'t>(
     alloc: Global,
     values: Values<'_, 't>,

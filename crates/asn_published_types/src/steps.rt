@@ -117,6 +117,11 @@ impl Trail {
         }
     }
 
+    /// The nodes that were written.
+    pub fn steps(&self) -> &[Step] {
+        self.steps.as_slice()
+    }
+
     /// Takes the node that is written next. One that the last selects takes its place.
     pub fn enter(&mut self, alloc: Global, node: usize, depth: usize) -> Result<(), AllocError> {
         if self.is_selecting {

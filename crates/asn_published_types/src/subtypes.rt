@@ -27,6 +27,9 @@ const MOST_WORK: usize = 1000000;
 
 const FOR_EACH_NODE: usize = 100;
 
+/// How many octets of a string that is read are one piece.
+const OCTETS: usize = 8;
+
 impl Work {
     /// What may be read of types that have so many nodes.
     pub fn of(nodes: usize) -> Work {
@@ -40,6 +43,11 @@ impl Work {
     /// Takes so many pieces more.
     pub(crate) fn take_more(&mut self, pieces: usize) {
         self.left = self.left.saturating_sub(pieces);
+    }
+
+    /// Takes the octets of a string more.
+    pub(crate) fn take_octets(&mut self, octets: usize) {
+        self.take_more(octets / OCTETS);
     }
 
     /// Takes one piece of what is left, and returns whether there was one.

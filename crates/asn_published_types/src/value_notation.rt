@@ -116,7 +116,10 @@ impl<'a, 't> Subtypes<'a, 't> {
             _ => None,
         };
         match found {
-            Some(value) => Ok(Some(value)),
+            Some((value, behind)) => {
+                work.take_octets(octets_in(&value));
+                Ok(Some((value, behind)))
+            }
             None => self.value_of_name(alloc, around, at, levels - 1, work),
         }
     }
@@ -300,6 +303,17 @@ impl<'a, 't> Subtypes<'a, 't> {
             at = next(at);
         }
         Ok(None)
+    }
+}
+
+/// How many octets of memory a string takes; none of another value.
+fn octets_in(value: &Value) -> usize {
+    match value {
+        Value::Bits(bits) => bits.len(),
+        Value::Octets(octets) => octets.len(),
+        Value::Text(codes) => codes.len(),
+        Value::Utf8(text) => text.len(),
+        _ => 0,
     }
 }
 

@@ -33,6 +33,17 @@ pub(crate) fn level_line(
     format!(in alloc; "{name}{mark}{level} ::={text}\n")
 }
 
+/// The name and the text of a type in such an assignment.
+pub(crate) fn assigned(line: &str) -> Option<(&str, &str)> {
+    match line.split_once(" ::=") {
+        Some((name, text)) => match text.strip_suffix("\n") {
+            Some(text) => Some((name, text)),
+            None => None,
+        },
+        None => None,
+    }
+}
+
 /// How many of the types from `from` on lie in one cycle; 1 where the first lies in none.
 pub(crate) fn cycle_end(sources: &Sources<'_>, from: usize) -> usize {
     let types = sources.order.types.as_slice();

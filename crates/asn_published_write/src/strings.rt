@@ -4,7 +4,7 @@ use crate::known::Known;
 use crate::letters::{are_all_left, keeps_codes, name_of};
 use crate::widths::{is_one_number, is_zero};
 use crate::writer::Writer;
-use asn_constraints::Constraint;
+use asn_constraints::{Constraint, Interval};
 use asn_published_text::nodes::{Letters, Node, Shape};
 use asn_published_text::refusal::{Refusal, Why, refused};
 use asn_published_types::allowed::{Allowed, Shown};
@@ -12,13 +12,13 @@ use asn_published_types::bounds::{
     Numbers, lengths_between, numbers_between, write_range, write_size,
 };
 use asn_published_types::info::{Base, Info};
-use asn_published_types::intervals::between;
+use asn_published_types::intervals::{between, covers, of_ranges};
 use asn_published_types::numbers::Scope;
 use asn_published_types::pieces::push_pieces;
 use asn_published_types::ranges::{Ranges, is_whole};
 use asn_published_types::report::Remark;
 use asn_published_types::seen::{Mode, Seen};
-use std::alloc::Global;
+use std::alloc::{AllocError, Global};
 
 /// What is known of an INTEGER of which this is left.
 fn integer_info(seen: Seen, named: Option<(usize, usize)>, no_bits: bool) -> Info {
@@ -103,7 +103,14 @@ impl<'t> Writer<'t> {
     ) -> Result<(), Refusal> {
         let Left { seen, allowed } = left;
         self.put_numbers(alloc, &seen, line)?;
-        self.remark_gap(alloc, known, index, &seen.numbers, &allowed)?;
+        self.remark_gap(
+            alloc,
+            known,
+            index,
+            &seen.numbers,
+            &allowed,
+            &allowed.numbers,
+        )?;
         let shown = Shown {
             numbers: numbers_shown(&seen, line)?,
             ..Shown::nothing()
@@ -226,12 +233,20 @@ impl<'t> Writer<'t> {
     ) -> Result<bool, Refusal> {
         let seen = &left.seen;
         if let Some(lengths) = lengths_between(&seen.sizes, seen.marked, line)? {
-            if lengths.cut && left.allowed.is_missing {
+            let is_known = are_within(alloc, &left.allowed.lengths, &seen.sizes)?;
+            if lengths.cut && left.allowed.is_missing && !is_known {
                 self.remark(alloc, known, index, Remark::SizeToMax)?;
             }
             write_size(alloc, &mut self.out, lengths, seen.marked)?;
         }
-        self.remark_gap(alloc, known, index, &seen.sizes, &left.allowed)?;
+        self.remark_gap(
+            alloc,
+            known,
+            index,
+            &seen.sizes,
+            &left.allowed,
+            &left.allowed.lengths,
+        )?;
         is_zero(seen, line)
     }
 
@@ -255,7 +270,8 @@ impl<'t> Writer<'t> {
         }
     }
 
-    /// A remark where there are gaps between ranges, and not all of what is left is looked at.
+    /// A remark where there are gaps between ranges, and not all of what is left is looked at, nor are these numbers that
+    /// are left by what is.
     fn remark_gap(
         &mut self,
         alloc: Global,
@@ -263,8 +279,9 @@ impl<'t> Writer<'t> {
         index: usize,
         left: &Option<Ranges>,
         allowed: &Allowed,
+        numbers: &Option<Vec<Interval>>,
     ) -> Result<(), Refusal> {
-        if !allowed.is_missing || is_whole(left) {
+        if !allowed.is_missing || is_whole(left) || are_within(alloc, numbers, left)? {
             return Ok(());
         }
         self.remark(alloc, known, index, Remark::Gap)
@@ -302,6 +319,23 @@ fn is_name(known: &Known<'_, '_>, index: usize) -> bool {
         Some(node) => matches!(node.shape, Shape::Reference { .. }),
         None => false,
     }
+}
+
+/// Whether the numbers that a constraint allows are known, and are no others than those of ranges.
+fn are_within(
+    alloc: Global,
+    allowed: &Option<Vec<Interval>>,
+    ranges: &Option<Ranges>,
+) -> Result<bool, AllocError> {
+    let (Some(allowed), Some(ranges)) = (allowed, ranges) else {
+        return Ok(false);
+    };
+    let all = of_ranges(alloc, ranges)?;
+    Ok(
+        allowed
+            .iter()
+            .all(|interval| covers(all.as_slice(), *interval)),
+    )
 }
 
 /// Whether numbers have a lowest and a highest one.

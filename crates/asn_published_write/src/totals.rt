@@ -1,6 +1,8 @@
 //! How large the types are that are written, together: as `asn_module::read_within` counts a module, each type one, each
-//! item of an ENUMERATED one, and each name in them its octets, with references followed.
+//! item of an ENUMERATED one, and each name in them its octets, with references followed. Their constraints count too.
 use crate::settling::Settled;
+use crate::spliced::{is_other_word, is_own_word, without_comma};
+use crate::weights::weight_of;
 use asn_published_text::refusal::Why;
 use asn_published_types::info::State;
 use asn_published_types::report::{Note, Remark, Status};
@@ -36,14 +38,6 @@ fn is_name(word: &str) -> bool {
     }
 }
 
-/// The word without a comma behind it.
-fn without_comma(word: &str) -> &str {
-    match word.strip_suffix(",") {
-        Some(word) => word,
-        None => word,
-    }
-}
-
 impl Totals {
     /// No type is written yet, and each is to be.
     pub fn new(alloc: Global) -> Totals {
@@ -73,26 +67,34 @@ impl Totals {
         }
     }
 
+    /// Whether the types are no larger together than they may be.
+    pub fn are_within(&self, most: u32) -> bool {
+        let mut total = 0usize;
+        for size in &self.sizes {
+            total = total.saturating_add(*size);
+        }
+        total <= most as usize
+    }
+
+    /// Whether the type of a name is written and no larger than types may be together.
+    pub fn is_within(&self, name: &str, most: u32) -> bool {
+        match self.by_name.get(name) {
+            Some(size) => *size <= most as usize,
+            None => false,
+        }
+    }
+
     /// The size of the type that a word of capitals begins, or that it refers to.
     fn size_of_word(&self, word: &str) -> usize {
-        match word {
-            "OPTIONAL" | "OF" | "STRING" => 0,
-            "BOOLEAN"
-            | "NULL"
-            | "INTEGER"
-            | "ENUMERATED"
-            | "BIT"
-            | "OCTET"
-            | "UTF8String"
-            | "IA5String"
-            | "NumericString"
-            | "VisibleString"
-            | "SEQUENCE"
-            | "CHOICE" => 1,
-            name => match self.by_name.get(name) {
-                Some(size) => *size,
-                None => 0,
-            },
+        if is_other_word(word) {
+            return 0;
+        }
+        if is_own_word(word) {
+            return 1;
+        }
+        match self.by_name.get(word) {
+            Some(size) => *size,
+            None => 0,
         }
     }
 
@@ -155,6 +157,7 @@ impl Totals {
         let Some(size) = self.size_written(&settled.line) else {
             return Ok(settled);
         };
+        let size = size.saturating_add(weight_of(alloc, settled.trail.steps())?);
         if let Some(limit) = self.past(size) {
             return limit.refused(alloc, line, size, settled);
         }

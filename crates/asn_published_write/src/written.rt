@@ -22,6 +22,8 @@ pub struct Written {
     pub lines: Vec<Option<String>>,
     /// The assignments of types of cycles with fewer levels than are asked for.
     pub levels: Vec<String>,
+    /// The type that is wanted alone, with those that it refers to written out in it.
+    pub alone: Option<String>,
     pub reports: Vec<Option<TypeReport>>,
     /// The types that are written, those with fewer levels too, and which of them each type is.
     pub marked: Vec<Marked>,
@@ -42,6 +44,7 @@ fn nothing_written(alloc: Global, count: usize) -> Result<Written, AllocError> {
         states: Vec::new(alloc),
         lines: Vec::new(alloc),
         levels: Vec::new(alloc),
+        alone: None,
         reports: Vec::new(alloc),
         marked: Vec::new(alloc),
         places: Vec::new(alloc),
@@ -331,26 +334,9 @@ fn is_own_refusal(remark: Remark) -> bool {
     }
 }
 
-/// Writes all types but those that are refused. Where they come to more than they may, the largest are refused too.
-pub fn write_all(
-    alloc: Global,
-    sources: &Sources<'_>,
-    options: Options,
-    refused: &[bool],
-) -> Result<Written, AllocError> {
-    let (written, totals) = write_with(alloc, sources, options, refused, Totals::new(alloc))?;
-    match totals.limited(alloc, sources.most)? {
-        None => Ok(written),
-        Some(totals) => {
-            let (written, _totals) = write_with(alloc, sources, options, refused, totals)?;
-            Ok(written)
-        }
-    }
-}
-
 /// Writes all types but those that are refused, and those that pass a limit on what they come to; and gives the sizes of
 /// what is written.
-fn write_with(
+pub(crate) fn write_with(
     alloc: Global,
     sources: &Sources<'_>,
     options: Options,

@@ -87,7 +87,8 @@ one line for each type.
   per only  the same in PER, others in OER
 The module that is written does not say this: other commands know it only from
 the published modules themselves.
-With --type only that type is written, with those that it refers to.
+With --type only that type is written, with those that it refers to, or alone
+if these come to more than the limit (asn_tool --help).
 
 Exit status: 0 success; 1 a type was refused; 2 a text is not ASN.1 (standard
 error has file and line) or no type has the name; 3 reading, writing or memory

@@ -70,10 +70,37 @@ fn run_text<'a>(
         let is_all = text.len() == octets.len() && asking.messages.is_empty();
         tell_text(rt, text, options, job, is_all)?;
     }
+    if let Some(status) = print_constrained(rt, text, published)? {
+        return Ok(status);
+    }
     let mut lines = lines;
     match run_asked(rt, job, text, asking, published, &mut lines)? {
         Some(status) => Ok(status),
         None => run_on(rt, job, octets),
+    }
+}
+
+/// Prints the module of a text with the constraints of its types, where it is to be printed and a type has one. `None`, and
+/// nothing is done, where that is not so.
+fn print_constrained<'a>(
+    rt: &HostRuntime,
+    text: &[u8],
+    published: &Published,
+) -> Result<Option<u8>, Stop<'a>> {
+    let Some(lines) = &published.lines else {
+        return Ok(None);
+    };
+    if lines.is_empty() {
+        return Ok(None);
+    }
+    let Some(module) = module_of(rt.alloc(), text)? else {
+        return Ok(None);
+    };
+    let printed = module.print(rt.alloc())?;
+    let text = lines.put_into(rt.alloc(), printed.as_str())?;
+    match rt.print(text.as_str()) {
+        Ok(()) => Ok(Some(0)),
+        Err(fault) => Err(Stop::of_print(&fault)),
     }
 }
 
@@ -262,6 +289,9 @@ fn run_coming<'a>(
     let (text, _) = cut_input(head);
     if tells_of_module(rt, asking) {
         tell_text(rt, text, options, job, false)?;
+    }
+    if let Some(status) = print_constrained(rt, text, published)? {
+        return Ok(status);
     }
     if !is_plain(job, asking) || !Demands::of(asking, published).is_nothing() {
         let Ok(mut lines) = BufReader::new(rt.alloc(), rt.reader()) else {

@@ -1,5 +1,5 @@
--- Numbers that rise, each compared with the next, and numbers below others, compared by the highest.
-use Rattle.std.proofs.Common.{◌≡◌, ◌&&◌, ◌<◌, ℕ, zero, suc, ℤ, pos, negsuc, Bool, true, false, cond, List, [], ◌∷◌, get_or, drop, take, length, refl, sym, ap, ◌∙◌, arith}
+-- Numbers that rise, each compared with the next.
+use Rattle.std.proofs.Common.{◌≡◌, ◌&&◌, ◌<◌, ℕ, zero, suc, ℤ, pos, negsuc, Bool, true, false, List, [], ◌∷◌, get_or, drop, take, length, refl, sym, ap, ◌∙◌, arith}
 use Rattle.std.proofs.lemmas.Bool.{true≢false, and_parts, ltb-true, ltb-false, lt-ltb}
 use Rattle.std.specs.List.{list_all}
 use Rattle.std.specs.Int.RustNames.{int_lt}
@@ -70,34 +70,3 @@ pub rising_at : (xs : List Item) (i k : ℕ) (x : Item) → k ≡ suc i → i < 
 rising_at xs i k x e less is =
     ap (λ zs. is_rising (numbers_seen zs)) (from xs i x less is) ∙ rising_by_next x.number (numbers_seen (drop (suc i) xs))
     ∙ ap (λ m. list_all (int_lt x.number) (take 1 (numbers_seen (drop m xs))) && is_rising (numbers_seen (drop m xs))) (sym e)
-
--- ---- compared by the highest
-
-and_idle : (a b : Bool) → (b ≡ true → a ≡ true) → (a && b) ≡ b
-and_idle a false h = and_false a
-and_idle a true h = rw (h refl) refl
-
-idle_and : (a b : Bool) → (a ≡ true → b ≡ true) → (a && b) ≡ a
-idle_and false b h = refl
-idle_and true b h = h refl
-
--- what is above the higher of two is above both
-pub above_both : (x y : ℤ) (zs : List ℤ) → list_all (int_lt (cond (int_lt y x) x y)) zs ≡ (list_all (int_lt x) zs && list_all (int_lt y) zs)
-above_both x y zs = by_test (int_lt y x) refl
-  where
-    by_test : (b : Bool) → int_lt y x ≡ b → list_all (int_lt (cond b x y)) zs ≡ (list_all (int_lt x) zs && list_all (int_lt y) zs)
-    by_test true e = sym (idle_and (list_all (int_lt x) zs) (list_all (int_lt y) zs) (below_each y x zs (λ z. lower_too y x z e)))
-    by_test false e = sym (and_idle (list_all (int_lt x) zs) (list_all (int_lt y) zs) (below_each x y zs (λ z. as_low_too x y z e)))
-
-and_grouped : (a b c d : Bool) → (a && (b && c)) ≡ d → ((a && b) && c) ≡ d
-and_grouped true b c d e = e
-and_grouped false b c d e = e
-
--- one item more is compared with the highest so far
-pub highest_step : (xs : List Item) (i k : ℕ) (x : Item) (h m : ℤ) (zs : List ℤ) (all : Bool) → k ≡ suc i → i < length xs → x ≡ get_or xs i x
-    → m ≡ cond (int_lt x.number h) h x.number → (list_all (int_lt h) zs && list_all (λ y. list_all (int_lt y) zs) (numbers_seen (drop i xs))) ≡ all
-    → (list_all (int_lt m) zs && list_all (λ y. list_all (int_lt y) zs) (numbers_seen (drop k xs))) ≡ all
-highest_step xs i k x h m zs all e less is high so_far =
-    let next : numbers_seen (drop i xs) ≡ x.number ∷ numbers_seen (drop k xs) = ap numbers_seen (from xs i x less is) ∙ ap (λ j. x.number ∷ numbers_seen (drop j xs)) (sym e) in
-    let before = rw next at so_far in
-    rw (high, above_both h x.number zs) (and_grouped (list_all (int_lt h) zs) (list_all (int_lt x.number) zs) (list_all (λ y. list_all (int_lt y) zs) (numbers_seen (drop k xs))) all before)

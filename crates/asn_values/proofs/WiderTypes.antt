@@ -1,19 +1,18 @@
 -- Types of the profile under some limits are such under wider ones.
-use Rattle.std.proofs.Common.{◌≡◌, ◌≤◌, ◌<◌, ◌+◌, ◌&&◌, ◌||◌, not, ℕ, zero, suc, ℤ, ◌≤ℤ◌, Bool, true, false, List, [], ◌∷◌, length, Option, Some, None, nat_lt, refl, sym, ◌∙◌, ap, ⊎_elim, arith}
+use Rattle.std.proofs.Common.{◌≡◌, ◌≤◌, ◌+◌, ◌&&◌, ◌||◌, not, ℕ, ℤ, Bool, true, false, length, Option, Some, None, nat_lt, refl, sym, ◌∙◌, ap, arith}
 use Rattle.std.proofs.lemmas.Bool.{true≢false}
-use Rattle.std.specs.Prelude.{IsFalse}
 use Rattle.asn_values.specs.Fits.{at_least, at_most, in_range}
 use Rattle.std.specs.Int.RustNames.{int_le, int_lt}
 use Rattle.asn_values.specs.Datum.{Datum, truth, nothing, number, item, bit_list, octet_list, characters, unicode, components, elements, alternative, unknown_item, unknown_alternative}
-use Rattle.asn_values.specs.Shape.{Demand, must, optional, default, more_fields, more_labels, more_alternatives, count, Shape, boolean, null, integer, enumerated, bit_string, octet_string, restricted, utf8_string, sequence, sequence_of, choice, Fields, no_fields, field, MoreFields, closed, marked, Alternatives, no_alternatives, one_of, MoreAlternatives, closed_choice, marked_choice}
+use Rattle.asn_values.specs.Shape.{must, optional, default, more_fields, more_labels, more_alternatives, count, Shape, boolean, null, integer, enumerated, bit_string, octet_string, restricted, utf8_string, sequence, sequence_of, choice, Fields, no_fields, field, MoreFields, closed, marked, Alternatives, no_alternatives, one_of, MoreAlternatives, closed_choice, marked_choice}
 use Rattle.std.proofs.lemmas.Bool.{ltb-false, le-ltb}
 use Rattle.asn_values.specs.Measures.{nodes}
 use Rattle.asn_values.specs.Fits.{Limits, AreWider, lowest_integer}
 use Rattle.asn_values.proofs.Defaults.{le_also, le_true, not_below, le_not_below}
-use Rattle.asn_values.specs.Profile.{Condition, EmptyRange, SizeTooLarge, DuplicateName, BadEnumeration, UselessMark, BadDefault, ZeroWidthElement, AdditionNotOptional, TooMany, TooDeep, InProfileUnder, is_outside_under, low_above_high, empty_range_under, useless_mark_under, lowest_of, highest_of_under, good_default_under, bad_default_at_under, bad_default_under, too_many_here_under, has_under, most_items, somewhere, some_field, some_addition, some_alternative, some_more}
+use Rattle.asn_values.specs.Profile.{EmptyRange, SizeTooLarge, DuplicateName, BadEnumeration, UselessMark, BadDefault, ZeroWidthElement, AdditionNotOptional, TooMany, TooDeep, InProfileUnder, is_outside_under, low_above_high, empty_range_under, useless_mark_under, lowest_of, highest_of_under, good_default_under, bad_default_at_under, bad_default_under, too_many_here_under, most_items, somewhere, some_field, some_addition, some_alternative, some_more}
 
 -- a test that tells less at each node tells less of the whole
-abbrev Less : (Shape → Bool) → (Shape → Bool) → Type 0
+abbrev pub Less : (Shape → Bool) → (Shape → Bool) → Type 0
 Less f g = (t : Shape) → f t ≡ false → g t ≡ false
 
 or_parts_false : (a b : Bool) → (a || b) ≡ false → (a ≡ false) × (b ≡ false)
@@ -30,7 +29,7 @@ or_false true b e f = e
 
 module _ (f g : Shape → Bool) (less : Less f g) where
   mutual
-    less_somewhere : (t : Shape) → somewhere f t ≡ false → somewhere g t ≡ false
+    pub less_somewhere : (t : Shape) → somewhere f t ≡ false → somewhere g t ≡ false
     less_somewhere boolean h = less boolean h
     less_somewhere null h = less null h
     less_somewhere (integer b) h = less (integer b) h

@@ -1,5 +1,5 @@
 -- Which values a type has (X.680), within the limits of the profile.
-use Rattle.std.specs.Prelude.{◌≤◌, ◌<◌, ◌+◌, ◌-◌, ℕ, zero, suc, ℤ, pos, negsuc, ◌≤ℤ◌, Bool, true, ◌&&◌, ◌||◌, List, [], ◌∷◌, length, take, drop, Option, Some, None, IsTrue, nat_lt, nat_le, IsUtf8, MatchBool, ⊤, ◌==◌, unsigned_abs}
+use Rattle.std.specs.Prelude.{◌≤◌, ◌<◌, ◌+◌, ◌-◌, ℕ, zero, suc, ℤ, ◌≤ℤ◌, Bool, true, ◌&&◌, ◌||◌, List, [], ◌∷◌, length, take, drop, Option, Some, None, IsTrue, nat_lt, nat_le, IsUtf8, MatchBool, ⊤, ◌==◌}
 use Rattle.std.specs.List.{AllByRecursion}
 use Rattle.std.specs.Int.RustNames.{int_le}
 pub use Rattle.asn_limits.specs.Limits.{max_len, lowest_integer, highest_integer, highest_number, offset_of_zero, integer_count}

@@ -1,7 +1,10 @@
 -- The limits of the profiles that came before this one.
-use Rattle.std.specs.Prelude.{ℕ, suc, max, pos}
-use Rattle.asn_values.specs.Shape.{Shape, sequence, sequence_of, choice, Fields, no_fields, field, MoreFields, closed, marked, Alternatives, no_alternatives, one_of, MoreAlternatives, closed_choice, marked_choice}
+use Rattle.std.specs.Prelude.{◌≡◌, ℕ, ℤ, suc, max, pos, Bool, false, not, List, map, ◌++◌, ◌||◌}
+use Rattle.std.specs.List.{list_any, list_all}
+use Rattle.std.specs.Int.RustNames.{int_lt}
+use Rattle.asn_values.specs.Shape.{Shape, enumerated, more_labels, sequence, sequence_of, choice, Fields, no_fields, field, MoreFields, closed, marked, Alternatives, no_alternatives, one_of, MoreAlternatives, closed_choice, marked_choice}
 use Rattle.asn_values.specs.Fits.{Limits, highest_integer}
+use Rattle.asn_values.specs.Profile.{somewhere, int_eq, has_twice, is_not_32_bits, is_rising, bad_enumeration}
 
 -- ---- the types inside one another, a SEQUENCE OF counting one
 
@@ -52,3 +55,20 @@ oldest_limits = record {
   levels_of = nesting;
   levels = 32;
 }
+
+-- ---- numbers of items: those of additions were above all of the root
+
+abbrev pub older_bad_numbers : List ℤ → List ℤ → Bool
+older_bad_numbers root more =
+    has_twice int_eq root
+    || (list_any is_not_32_bits (root ++ more)
+    || (not (is_rising more) || not (list_all (λ x. list_all (int_lt x) more) root)))
+
+abbrev pub older_bad_enumeration : Shape → Bool
+older_bad_enumeration (enumerated root more) =
+    older_bad_numbers (map (λ l. l.number) root) (map (λ l. l.number) (more_labels more))
+older_bad_enumeration _ = false
+
+-- what was good so is good still
+abbrev pub NumbersStay : Type 0
+NumbersStay = (t : Shape) → somewhere older_bad_enumeration t ≡ false → somewhere bad_enumeration t ≡ false

@@ -6,7 +6,7 @@ pub use Rattle.asn_limits.specs.Limits.{largest_size_bound, most_items, most_com
 use Rattle.asn_values.specs.Datum.{Datum, truth, number, item}
 use Rattle.asn_values.specs.Shape.{Range, SizeRange, Shape, boolean, null, integer, enumerated, bit_string, octet_string, restricted, utf8_string, sequence, sequence_of, choice, Demand, must, optional, default, MoreLabels, closed_labels, marked_labels, more_labels, Fields, no_fields, field, MoreFields, closed, marked, more_fields, demands, field_names, Alternatives, no_alternatives, one_of, MoreAlternatives, closed_choice, marked_choice, more_alternatives, alternative_names, count}
 use Rattle.asn_values.specs.Measures.{nodes}
-use Rattle.asn_values.specs.Fits.{Limits, limits, lowest_integer, highest_integer, at_least, at_most, in_range}
+use Rattle.asn_values.specs.Fits.{Limits, limits, lowest_integer, at_least, at_most, in_range}
 
 -- ---- every node of a type
 
@@ -125,8 +125,8 @@ duplicate_name (sequence root more) = bad_names (field_names root ++ field_names
 duplicate_name (choice root more) = bad_names (alternative_names root ++ alternative_names (more_alternatives more))
 duplicate_name _ = false
 
--- ---- BadEnumeration: a number twice or outside 32 signed bits, or additions that do not rise above all before them
--- (X.680, enumerated types)
+-- ---- BadEnumeration: a number twice or outside 32 signed bits, or additions that do not rise (X.680, "enumerated type":
+-- an addition's number is above those of the additions before it, and no item of the root has it)
 
 abbrev pub int_eq : ℤ → ℤ → Bool
 int_eq x y = int_le x y && int_le y x
@@ -141,9 +141,7 @@ is_rising (x ∷ xs) = list_all (int_lt x) xs && is_rising xs
 
 abbrev pub bad_numbers : List ℤ → List ℤ → Bool
 bad_numbers root more =
-    has_twice int_eq root
-    || (list_any is_not_32_bits (root ++ more)
-    || (not (is_rising more) || not (list_all (λ x. list_all (int_lt x) more) root)))
+    has_twice int_eq (root ++ more) || (list_any is_not_32_bits (root ++ more) || not (is_rising more))
 
 abbrev pub bad_enumeration : Shape → Bool
 bad_enumeration (enumerated root more) = bad_numbers (map (λ l. l.number) root) (map (λ l. l.number) (more_labels more))

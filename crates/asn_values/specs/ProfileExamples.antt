@@ -163,7 +163,7 @@ additions_that_fall : has BadEnumeration
 additions_that_fall = refl
 
 an_addition_below_the_root : has BadEnumeration
-    (enumerated (label (codes "a") (pos 5) ∷ []) (marked_labels (label (codes "b") (pos 4) ∷ []))) ≡ true
+    (enumerated (label (codes "a") (pos 5) ∷ []) (marked_labels (label (codes "b") (pos 4) ∷ []))) ≡ false
 an_addition_below_the_root = refl
 
 an_addition_that_repeats_the_root : has BadEnumeration

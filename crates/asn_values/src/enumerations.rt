@@ -38,17 +38,16 @@ pub(crate) fn has_bad_names(alloc: Global, root: &[Item], ext: &Option<Vec<Item>
     names::are_bad(alloc, root, additions(ext))
 }
 
-/// Whether a number stands twice or is not of 32 signed bits, or an addition's is not above all
-/// those before it.
+/// Whether a number stands twice or is not of 32 signed bits, or an addition's is not above those of
+/// the additions before it.
 pub(crate) fn has_bad_numbers(alloc: Global, root: &[Item], ext: &Option<Vec<Item>>) -> bool
     ensures { result ≡ bad_enumeration (enumerated_seen root.now ext.now) }
 {
     let additions = additions(ext);
-    has_number_twice(alloc, root)
+    has_number_twice(alloc, root, additions)
         || has_large_number(root)
         || has_large_number(additions)
         || !is_rising(additions)
-        || !is_below(root, additions)
 }
 
 /// Whether there are more items than the profile allows.
@@ -77,24 +76,29 @@ pub(crate) fn is_good_item(root: &[Item], ext: &Option<Vec<Item>>, index: u32) -
 }
 
 /// Whether two of the items have the same number.
-fn has_number_twice(alloc: Global, items: &[Item]) -> bool
-    ensures { result ≡ has_twice int_eq (numbers_seen items.now) }
+fn has_number_twice(alloc: Global, root: &[Item], additions: &[Item]) -> bool
+    ensures { result ≡ has_twice int_eq (numbers_seen root.now ++ numbers_seen additions.now) }
 {
-    if MAX_ITEMS < items.len() {
+    if MAX_ITEMS < root.len() || MAX_ITEMS < additions.len() {
         // a list longer than the profile has; without memory for a table its numbers are compared by pairs
-        if let Ok(is_twice) = is_number_twice(alloc, items) {
+        if let Ok(is_twice) = is_number_twice(alloc, root, additions) {
             return is_twice;
         }
     }
-    has_number_twice_by_pairs(items)
+    has_number_twice_by_pairs(root, additions)
 }
 
 /// The same, each number being compared with those after it.
-fn has_number_twice_by_pairs(items: &[Item]) -> bool
-    ensures { result ≡ has_twice int_eq (numbers_seen items.now) }
+fn has_number_twice_by_pairs(root: &[Item], additions: &[Item]) -> bool
+    ensures { result ≡ has_twice int_eq (numbers_seen root.now ++ numbers_seen additions.now) }
 {
-    for (index, item) in items.iter().enumerate() {
-        if has_number(&items[index + 1..], item.number) {
+    for (index, item) in root.iter().enumerate() {
+        if has_number(&root[index + 1..], item.number) || has_number(additions, item.number) {
+            return true;
+        }
+    }
+    for (index, item) in additions.iter().enumerate() {
+        if has_number(&additions[index + 1..], item.number) {
             return true;
         }
     }
@@ -145,38 +149,4 @@ fn is_below_first(number: i64, items: &[Item]) -> bool
         Some(first) => number < first.number,
         None => true,
     }
-}
-
-/// Whether each number of the lower items is below each of the others.
-fn is_below(lower: &[Item], others: &[Item]) -> bool
-    ensures { result ≡ list_all (λ x. list_all (int_lt x) (numbers_seen others.now)) (numbers_seen lower.now) }
-{
-    match highest(lower) {
-        Some(number) => is_below_each(number, others),
-        None => true,
-    }
-}
-
-/// The highest number of the items: what is above it is above each.
-fn highest(items: &[Item]) -> Option<i64>
-    ensures { MatchOption result (numbers_seen items.now ≡ []) (λ high. (others : List ℤ) →
-        list_all (λ x. list_all (int_lt x) others) (numbers_seen items.now) ≡ list_all (int_lt high) others) }
-{
-    let mut highest = items.first()?.number;
-    for item in items {
-        highest = highest.max(item.number);
-    }
-    Some(highest)
-}
-
-/// Whether the number is below that of each item.
-fn is_below_each(number: i64, items: &[Item]) -> bool
-    ensures { result ≡ list_all (int_lt number) (numbers_seen items.now) }
-{
-    for item in items {
-        if item.number <= number {
-            return false;
-        }
-    }
-    true
 }

@@ -19,7 +19,7 @@ pub enum TypeFault {
     #[error("duplicate name")]
     DuplicateName = 3,
     /// A number twice in an ENUMERATED, one that is no integer of 32 signed bits, or an addition
-    /// whose number is not above all before it.
+    /// whose number is not above those of the additions before it.
     #[error("bad enumeration")]
     BadEnumeration = 4,
     /// An extension marker on an INTEGER whose root is already every integer of the profile, or on

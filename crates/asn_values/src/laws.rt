@@ -2,7 +2,7 @@
 ghost use Rattle.asn_values.specs.Datum.{Datum};
 ghost use Rattle.asn_values.specs.Defaults.{DefaultsAreJudged};
 ghost use Rattle.asn_values.specs.Fits.{Limits, AreWider, limits, FitsUnder, Fits};
-ghost use Rattle.asn_values.specs.Older.{older_limits, oldest_limits};
+ghost use Rattle.asn_values.specs.Older.{older_limits, oldest_limits, NumbersStay};
 ghost use Rattle.asn_values.specs.Profile.{InProfileUnder, InProfile};
 ghost use Rattle.asn_values.specs.Shape.{Shape};
 
@@ -24,11 +24,13 @@ pub fn types_keep_under_wider_limits()
 {}
 
 /// No limit of the profile is below that of the one before it. So each type of that profile is one of this, and each
-/// value of it is a value of it here. The same holds between that profile and the one before it. The call does nothing:
-/// its clauses are what proofs cite.
+/// value of it is a value of it here. The same holds between that profile and the one before it. Both had additions of an
+/// ENUMERATED numbered above its root: by `numbers` what was good so is good still. The call does nothing: its clauses are
+/// what proofs cite.
 pub fn older_types_and_values_stay()
     ensures wider { AreWider older_limits limits }
     ensures types { (t : Shape) → InProfileUnder older_limits t → InProfile t }
+    ensures numbers { NumbersStay }
     ensures values { (t : Shape) (v : Datum) → FitsUnder older_limits t v → Fits t v }
     ensures older { AreWider oldest_limits older_limits }
     ensures older_types { (t : Shape) → InProfileUnder oldest_limits t → InProfileUnder older_limits t }

@@ -42,14 +42,25 @@ pub(crate) fn is_name_twice<T: Named>(
 ///
 /// # Errors
 /// `AllocError` where an allocation failed.
-pub(crate) fn is_number_twice(alloc: Global, items: &[Item]) -> Result<bool, AllocError>
-    ensures { IfOk result (λ twice. twice ≡ has_twice int_eq (numbers_seen items.now)) }
+pub(crate) fn is_number_twice(
+    alloc: Global,
+    root: &[Item],
+    additions: &[Item],
+) -> Result<bool, AllocError>
+    ensures { IfOk result (λ twice. twice ≡ has_twice int_eq (numbers_seen root.now ++ numbers_seen additions.now)) }
 {
     let mut later = HashSet::new(alloc);
-    let mut index = items.len();
-    'items: while index > 0 {
+    let mut index = additions.len();
+    'additions: while index > 0 {
         index -= 1;
-        if !later.insert(items[index].number)? {
+        if !later.insert(additions[index].number)? {
+            return Ok(true);
+        }
+    }
+    index = root.len();
+    'root: while index > 0 {
+        index -= 1;
+        if !later.insert(root[index].number)? {
             return Ok(true);
         }
     }

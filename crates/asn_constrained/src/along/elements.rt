@@ -114,8 +114,10 @@ fn asked_of_elements<'c>(constraint: &'c Constraint) -> Option<Elements<'c>>
 /// What two constraints ask of elements; `None` where both ask the same.
 #[inline(always)]
 fn of_both<'c>(first: Elements<'c>, second: Elements<'c>) -> Option<Elements<'c>>
-    ensures of_first { IfSome result (λ row. (ds : List Datum) → MeetAskedOfEach row ds → MeetAskedOfEach first.entry ds) }
-    ensures of_second { IfSome result (λ row. (ds : List Datum) → MeetAskedOfEach row ds → MeetAskedOfEach second.entry ds) }
+    ensures of_first { IfSome result (λ row. (ds : List Datum) → MeetAskedOfEach row ds
+        → MeetAskedOfEach first.entry ds) }
+    ensures of_second { IfSome result (λ row. (ds : List Datum) → MeetAskedOfEach row ds
+        → MeetAskedOfEach second.entry ds) }
 {
     let each = each_of_both(first.each, second.each)?;
     let lengths = lengths_of_both(first.lengths, second.lengths)?;

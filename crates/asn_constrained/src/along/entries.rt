@@ -31,7 +31,7 @@ impl<'c> Entries<'c> {
                 some_due: false,
             });
         };
-        let asked = asked_of_components(constraint)?;
+        let asked = asked_of(constraint)?;
         *due = due_of_first(asked.rest);
         Some(Entries {
             rest: asked.rest,
@@ -102,8 +102,29 @@ fn due_of_first<'c>(components: &'c [Component]) -> Option<&'c Constraint>
     }
 }
 
+/// What the constraint on a SEQUENCE asks of its components, as `asked_of_components` does, which is called only where
+/// the constraint is put together of others.
+#[inline(always)]
+fn asked_of<'c>(constraint: &'c Constraint) -> Option<Entries<'c>>
+    ensures { IfSome result (λ entries. (es : List (Option Datum)) → MeetAsked entries es
+        → meets (constraint_of constraint.now) (components (components_of es)) ≡ true) }
+{
+    match constraint {
+        Constraint::Components(components) => Some(Entries {
+            rest: components.as_slice(),
+            some_due: false,
+        }),
+        Constraint::SomePresent => Some(Entries {
+            rest: &[],
+            some_due: true,
+        }),
+        other => asked_of_components(other),
+    }
+}
+
 /// What the constraint on a SEQUENCE asks of its components; `None` where it can only be judged of the whole value, or
 /// where two constraints ask of components one after the other.
+#[inline(never)]
 fn asked_of_components<'c>(constraint: &'c Constraint) -> Option<Entries<'c>>
     ensures { IfSome result (λ entries. (es : List (Option Datum)) → MeetAsked entries es
         → meets (constraint_of constraint.now) (components (components_of es)) ≡ true) }
@@ -143,7 +164,8 @@ fn asked_of_components<'c>(constraint: &'c Constraint) -> Option<Entries<'c>>
 /// What two constraints ask of components; `None` where both ask of them one after the other.
 #[inline(always)]
 fn of_both<'c>(first: Entries<'c>, second: Entries<'c>) -> Option<Entries<'c>>
-    ensures of_first { IfSome result (λ entries. (es : List (Option Datum)) → MeetAsked entries es → MeetAsked first.entry es) }
+    ensures of_first { IfSome result (λ entries. (es : List (Option Datum)) → MeetAsked entries es
+        → MeetAsked first.entry es) }
     ensures of_second { IfSome result (λ entries. (es : List (Option Datum)) → MeetAsked entries es
         → MeetAsked second.entry es) }
 {

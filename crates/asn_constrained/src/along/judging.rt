@@ -11,13 +11,15 @@ ghost use Rattle.asn_constrained.specs.Under.{IsEncodingUnder};
 use crate::along::choices::choose;
 use crate::along::elements::Elements;
 use crate::along::entries::Entries;
-use asn_constraints::{Constraint, judge};
-use asn_plan::{Build, FixedString, PlanRules, Planned};
+use crate::along::leaves::{item_met, met, number_met, string_met, truth_met};
+use asn_bits::BitCursor;
+use asn_constraints::Constraint;
+use asn_plan::{Build, FixedString, Kind, Node, Nothing, PlanLeaves, PlanRules, Planned, build_at};
 use asn_values::Value;
 use std::alloc::Global;
 
-/// Judges what is due of each part, and builds nothing. It gives up where a constraint is broken, or can only be judged of
-/// a whole value.
+/// Judges what is due of each part, and builds nothing. It gives up where a constraint is broken, or can only be
+/// judged of a whole value.
 pub struct Along<'c> {
     pub due: Option<&'c Constraint>,
 }
@@ -46,7 +48,7 @@ impl<'c> Build for Along<'c> {
         let Some(constraint) = *room else {
             return Some(());
         };
-        met(constraint, &Value::Int(integer))
+        number_met(constraint, integer)
     }
 
     #[inline(always)]
@@ -54,7 +56,7 @@ impl<'c> Build for Along<'c> {
         let Some(constraint) = *room else {
             return Some(());
         };
-        met(constraint, &Value::Bool(is_true))
+        truth_met(constraint, is_true)
     }
 
     #[inline(always)]
@@ -62,7 +64,7 @@ impl<'c> Build for Along<'c> {
         let Some(constraint) = *room else {
             return Some(());
         };
-        met(constraint, &Value::Enum(position))
+        item_met(constraint, position)
     }
 
     #[inline(always)]
@@ -76,11 +78,11 @@ impl<'c> Build for Along<'c> {
     }
 
     #[inline(always)]
-    fn string(room: &mut Option<&'c Constraint>, _fixed: &FixedString, _number: u64) -> Option<()> {
-        if room.is_some() {
-            return None;
-        }
-        Some(())
+    fn string(room: &mut Option<&'c Constraint>, fixed: &FixedString, number: u64) -> Option<()> {
+        let Some(constraint) = *room else {
+            return Some(());
+        };
+        string_met(constraint, fixed, number)
     }
 
     #[inline(always)]
@@ -110,6 +112,26 @@ impl<'c> Build for Along<'c> {
             return Some(());
         };
         met(constraint, value)
+    }
+
+    #[inline(always)]
+    fn passes(room: &Option<&'c Constraint>) -> bool {
+        room.is_none()
+    }
+
+    #[inline(always)]
+    fn pass_over<R: PlanLeaves>(
+        alloc: Global,
+        nodes: &[Node],
+        kind: &Kind,
+        units: &mut BitCursor<'_>,
+        room: &Option<&'c Constraint>,
+    ) -> Option<()> {
+        if room.is_some() {
+            return None;
+        }
+        build_at::<R, Nothing>(alloc, nodes, kind, units, &mut ())?;
+        Some(())
     }
 
     #[inline(always)]
@@ -172,19 +194,8 @@ impl<'c> Build for Along<'c> {
     }
 }
 
-/// Judges the value; `None` where it breaks the constraint.
-#[inline(never)]
-fn met(constraint: &Constraint, value: &Value) -> Option<()>
-    ensures { IsSome result → meets (constraint_of constraint.now) (datum_of value.now) ≡ true }
-{
-    if judge(constraint, value) {
-        return Some(());
-    }
-    None
-}
-
-/// Whether the octets are the complete encoding by the rules R of a value of the type that meets the constraint. No value is
-/// built. Where it is false, nothing is claimed: the constraint may be one that only a whole value shows.
+/// Whether the octets are the complete encoding by the rules R of a value of the type that meets the constraint. No
+/// value is built. Where it is false, nothing is claimed: the constraint may be one that only a whole value shows.
 pub(crate) fn check_along<'c, R: PlanRules>(
     alloc: Global,
     planned: &Planned,

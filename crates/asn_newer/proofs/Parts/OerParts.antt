@@ -1,6 +1,6 @@
 -- What OER says of the parts.
-use Rattle.std.proofs.Common.{◌≡◌, ◌+◌, ◌-◌, ◌<◌, ◌≤◌, ℕ, zero, suc, ℤ, Bool, true, false, not, nat_lt, IsTrue, List, [], ◌∷◌, ◌++◌, length, length-append, refl, sym, ap, subst, ◌∙◌, arith, inl, inr}
-use Rattle.std.proofs.lemmas.Bool.{ltb-true, ltb-false, and_parts, or_parts, not-false}
+use Rattle.std.proofs.Common.{◌≡◌, ◌≢◌, ◌+◌, ◌-◌, ◌<◌, ◌≤◌, ℕ, zero, suc, ℤ, Bool, true, false, nat_lt, IsTrue, List, [], ◌∷◌, ◌++◌, length, length-append, refl, sym, ap, subst, ◌∙◌, arith, inl, inr}
+use Rattle.std.proofs.lemmas.Bool.{true≢false, ltb-true, ltb-false, and_parts, or_parts, not-false}
 use Rattle.std.proofs.lemmas.List.{append-nil}
 use Rattle.std.specs.List.{AllByRecursion, list_all, list_any}
 use Rattle.std.specs.Int.RustNames.{int_lt}
@@ -11,7 +11,7 @@ use Rattle.asn_values.specs.Profile.{InProfile, BadEnumeration, is_rising, is_no
 use Rattle.asn_rules.specs.Chunks.{open_field, ones, flat}
 use Rattle.asn_rules.specs.Components.{number_at}
 use Rattle.asn_rules.specs.Laws.{AreOctets}
-use Rattle.asn_rules.proofs.Law.Items.{numbers, good_items}
+use Rattle.asn_rules.proofs.Law.Items.{numbers, int_eq_refl, good_items}
 use Rattle.asn_rules.specs.Fields.{spelled}
 use Rattle.asn_walk.specs.Laws.{Laws}
 use Rattle.asn_walk.specs.WriteLaws.{WriteLaws}
@@ -92,12 +92,16 @@ above_added a b (x ∷ ls) (y ∷ more) (suc k) w g f r =
     let parts = and_parts (list_all (int_lt x.number) (numbers ls)) (is_rising (numbers ls)) r in
     (subst (λ (z : Label). int_lt z.number (number_at ls k) ≡ true) w.0 (all_at (int_lt x.number) ls k parts.0 (omega arith)), above_added a b ls more k w.1 (omega arith) (omega arith) parts.1)
 
-above_root : (root ls more : List Label) (k : ℕ) → list_all (λ x. list_all (int_lt x) (numbers ls)) (numbers root) ≡ true → k < length ls → AllByRecursion (λ known. IsTrue (int_lt known.number (number_at ls k))) more
-    → AllByRecursion (λ known. IsTrue (int_lt known.number (number_at ls k))) (root ++ more)
-above_root [] ls more k h f rest = rest
-above_root (r ∷ root) ls more k h f rest =
-    let parts = and_parts (list_all (int_lt r.number) (numbers ls)) (list_all (λ x. list_all (int_lt x) (numbers ls)) (numbers root)) h in
-    (all_at (int_lt r.number) ls k parts.0 f, above_root root ls more k parts.1 f rest)
+-- and one that no item of the root has
+other_at : (x : ℤ) (zs : List ℤ) (ls : List Label) (k : ℕ) → list_any (int_eq x) (zs ++ numbers ls) ≡ false → k < length ls → x ≢ number_at ls k
+other_at x [] ls k h f = λ e. true≢false (sym (subst (λ (z : ℤ). int_eq x z ≡ true) e (int_eq_refl x)) ∙ none_at (int_eq x) ls k h f)
+other_at x (z ∷ zs) ls k h f = other_at x zs ls k (or_parts (int_eq x z) (list_any (int_eq x) (zs ++ numbers ls)) h).1 f
+
+other_root : (root ls : List Label) (k : ℕ) → has_twice int_eq (numbers root ++ numbers ls) ≡ false → k < length ls → AllByRecursion (λ known. known.number ≢ number_at ls k) root
+other_root [] ls k h f = tt
+other_root (r ∷ root) ls k h f =
+    let parts = or_parts (list_any (int_eq r.number) (numbers root ++ numbers ls)) (has_twice int_eq (numbers root ++ numbers ls)) h in
+    (other_at r.number (numbers root) ls k parts.0 f, other_root root ls k parts.1 f)
 
 oer_items : (a b : Bool) (root ls more : List Label) (p : ℕ) → InProfile (enumerated root (marked_labels ls)) → LabelVersions a b ls more → p < length root + length ls
     → AnyItem oer_loose root more (item_received oer_loose root ls root more p) (oer_loose.coding.code (enumerated root (marked_labels ls)) (item p))
@@ -115,17 +119,16 @@ oer_items a b root ls more p h w f = go (nat_lt p (length root + length more)) r
         let here : k < length ls = omega (arith, above, f) in
         let past : length more ≤ k = omega (arith, above) in
         let bad = h BadEnumeration in
-        let s = or_parts (has_twice int_eq (numbers root)) _ bad in
+        let s = or_parts (has_twice int_eq (numbers root ++ numbers ls)) _ bad in
         let u = or_parts (list_any is_not_32_bits (numbers root ++ numbers ls)) _ s.1 in
-        let v = or_parts (not (is_rising (numbers ls))) (not (list_all (λ x. list_all (int_lt x) (numbers ls)) (numbers root))) u.1 in
-        let rising = not-false (is_rising (numbers ls)) v.0 in
-        let over = not-false (list_all (λ x. list_all (int_lt x) (numbers ls)) (numbers root)) v.1 in
+        let rising = not-false (is_rising (numbers ls)) u.1 in
         let number : number_at ls k ≡ number_at (root ++ ls) p = sym (past_root root ls p (omega (arith, above))) in
         inr (record {
           source = number_at (root ++ ls) p;
           spelt = record {
             fits = record {
-              above = subst (λ (z : ℤ). AllByRecursion (λ known. IsTrue (int_lt known.number z)) (root ++ more)) number (above_root root ls more k over here (above_added a b ls more k w past here rising));
+              above = subst (λ (z : ℤ). AllByRecursion (λ known. IsTrue (int_lt known.number z)) more) number (above_added a b ls more k w past here rising);
+              other = subst (λ (z : ℤ). AllByRecursion (λ known. known.number ≢ z) root) number (other_root root ls k s.0 here);
               narrow = none_at is_not_32_bits (root ++ ls) p (good_items root (marked_labels ls) bad).bits_32 (omega (arith, f, length-append root ls));
             };
             same = refl;

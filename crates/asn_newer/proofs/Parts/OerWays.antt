@@ -1,5 +1,5 @@
 -- In OER a presence bitmap of any count of additions, and an item that may be unknown, are told by their octets.
-use Rattle.std.proofs.Common.{◌≡◌, ◌^◌, ◌<◌, ◌≤◌, ℕ, zero, suc, ℤ, true, IsTrue, List, [], ◌∷◌, ◌++◌, length, length-append, refl, sym, ap, subst, ◌∙◌, arith}
+use Rattle.std.proofs.Common.{◌≡◌, ◌≢◌, ◌+◌, ◌^◌, ◌<◌, ◌≤◌, ℕ, zero, suc, ℤ, true, IsTrue, List, [], ◌∷◌, ◌++◌, length, sym, ap, subst, ◌∙◌, arith}
 use Rattle.std.proofs.lemmas.Bool.{true≢false}
 use Rattle.std.specs.List.{AllByRecursion}
 use Rattle.std.specs.Int.RustNames.{int_lt}
@@ -59,14 +59,19 @@ oer_bitmap = code_way (λ p. variable_bits (bits p.0 p.1)) bitmap_code
 
 -- ---- items
 
--- a number above all is none of them
-none_above : (ls : List Label) (p : ℕ) → p < length ls → AllByRecursion (λ known. IsTrue (int_lt known.number (number_at ls p))) ls → ⊥
-none_above ls p h all = go ls p (number_at ls p) h refl all
+-- an unknown number is that of no item
+none_unknown : (root additions : List Label) (p : ℕ) (z : ℤ) → IsUnknownNumber root additions z → p < length root + length additions → number_at (root ++ additions) p ≡ z → ⊥
+none_unknown root additions p z h l e = in_root root p h.other l e
   where
-    go : (ks : List Label) (k : ℕ) (z : ℤ) → k < length ks → number_at ks k ≡ z → AllByRecursion (λ known. IsTrue (int_lt known.number z)) ks → ⊥
-    go [] k z h e all = absurd (omega (arith, h))
-    go (x ∷ ks) zero z h e all = true≢false (sym (subst (λ (y : ℤ). int_lt y z ≡ true) e all.0) ∙ lt_not_self z)
-    go (x ∷ ks) (suc k) z h e all = go ks k z (omega (arith, h)) e all.1
+    in_additions : (ks : List Label) (k : ℕ) → AllByRecursion (λ known. IsTrue (int_lt known.number z)) ks → k < length ks → number_at ks k ≡ z → ⊥
+    in_additions [] k all l e = absurd (omega (arith, l))
+    in_additions (x ∷ ks) zero all l e = true≢false (sym (subst (λ (y : ℤ). int_lt y z ≡ true) e all.0) ∙ lt_not_self z)
+    in_additions (x ∷ ks) (suc k) all l e = in_additions ks k all.1 (omega (arith, l)) e
+
+    in_root : (ks : List Label) (k : ℕ) → AllByRecursion (λ known. known.number ≢ z) ks → k < length ks + length additions → number_at (ks ++ additions) k ≡ z → ⊥
+    in_root [] k all l e = in_additions additions k h.above (omega (arith, l)) e
+    in_root (x ∷ ks) zero all l e = all.0 e
+    in_root (x ∷ ks) (suc k) all l e = in_root ks k all.1 (omega (arith, l)) e
 
 unknown_code : (root additions : List Label) → IsCode (IsUnknownNumber root additions) (λ z. item_number z)
 unknown_code root additions y z r s f g e = item_code y z r s e
@@ -76,7 +81,7 @@ apart : (root additions : List Label) (d : Datum) (z : ℤ) (r s : List ℕ) →
 apart root additions (item p) z r s f g e =
     let n = number_at (root ++ additions) p in
     let w = item_code n z r s (ap (λ (l : List ℕ). l ++ r) (sym (flat-ones oer_fields.spelled (item_number n))) ∙ e) in
-    none_above (root ++ additions) p (omega (arith, f, length-append root additions)) (subst (λ (y : ℤ). AllByRecursion (λ known. IsTrue (int_lt known.number y)) (root ++ additions)) (sym w.0) g.above)
+    none_unknown root additions p z g (omega (arith, f)) w.0
 apart root additions _ z r s f g e = absurd f
 
 oer_items : (root additions : List Label) → InProfile (enumerated root (marked_labels additions)) → OneWay oer_loose.coding.ruling.fielding (AnyItem oer_loose root additions)

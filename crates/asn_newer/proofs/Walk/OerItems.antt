@@ -1,13 +1,13 @@
 -- Where the reader of the number of an item in OER stands.
-use Rattle.std.proofs.Common.{◌≡◌, ◌+◌, ◌-◌, ◌*◌, ◌<◌, ◌≤◌, ◌^◌, ◌%◌, ℕ, zero, suc, ℤ, pos, negsuc, Bool, true, false, IsFalse, IsTrue, map, List, [], ◌∷◌, ◌++◌, length, length-append, append_assoc, nat_le, nat_lt, refl, sym, ap, subst, ◌∙◌, arith, to_z, of_z, ◌-ℤ◌, ◌≤ℤ◌, ◌&&◌, ◌||◌}
+use Rattle.std.proofs.Common.{◌≡◌, ◌≢◌, ◌+◌, ◌-◌, ◌*◌, ◌<◌, ◌≤◌, ◌^◌, ◌%◌, ℕ, zero, suc, ℤ, pos, negsuc, Bool, true, false, IsFalse, IsTrue, map, List, [], ◌∷◌, ◌++◌, length, length-append, append_assoc, nat_le, nat_lt, refl, sym, ap, subst, ◌∙◌, arith, to_z, of_z, ◌-ℤ◌, ◌≤ℤ◌, ◌&&◌, ◌||◌}
 use Rattle.std.proofs.lemmas.Int.{ints}
 use mir.Syntax.{w128}
 use Rattle.asn_values.specs.Fits.{lowest_integer, highest_integer}
-use Rattle.std.proofs.lemmas.Bool.{true≢false, and_parts, ltb-true, ltb-false, lt-ltb, le-leb, or_parts}
-use Rattle.std.specs.List.{AllByRecursion, list_all}
+use Rattle.std.proofs.lemmas.Bool.{true≢false, and_parts, ltb-true, ltb-false, lt-ltb, le-leb, leb-true, or_parts, or_from, false_from_ne_true}
+use Rattle.std.specs.List.{AllByRecursion, list_all, list_any}
 use Rattle.std.specs.Int.RustNames.{int_le, int_lt}
 use Rattle.asn_values.specs.Shape.{Label}
-use Rattle.asn_values.specs.Profile.{is_not_32_bits}
+use Rattle.asn_values.specs.Profile.{is_not_32_bits, int_eq}
 use Rattle.asn_bits.specs.Numbers.{bits, octets, packed, magnitude, signed_octet_count, least_signed}
 use Rattle.asn_bits.proofs.Digits.{digits_code}
 use Rattle.asn_bits.proofs.Octets.{residue, signed_is, residue_fits, length-least_signed, length-digits, signed_count_below, signed_count_some, signed_fits, all_octets, octet_power, half}
@@ -23,10 +23,11 @@ use Rattle.asn_rules.specs.Chunks.{Chunk, ones, flat}
 use Rattle.asn_rules.specs.Languages.{Spells, NoSpelling}
 use Rattle.asn_rules.proofs.Live.Flat.{flat-ones}
 use Rattle.asn_rules.proofs.Languages.Parts.{contents-ones}
+use Rattle.asn_rules.proofs.Law.Items.{int_eq_refl}
 use Rattle.asn_oer.specs.Oer.{item_number}
 use Rattle.asn_oer.specs.Walk.{oer_coding}
 use Rattle.asn_oer.proofs.Law.Leaves.{item_code}
-use Rattle.asn_newer.specs.Rules.{oer_loose}
+use Rattle.asn_newer.specs.Rules.{oer_loose, IsUnknownNumber}
 use Rattle.asn_newer.specs.Walking.{UnknownItem}
 use Rattle.asn_newer.specs.Halting.{NoBeginning, Halts}
 use Rattle.asn_newer.specs.ItemNumbers.{IsItemNumber, NoItemNumber, TellsItemNumber}
@@ -260,40 +261,50 @@ above_each : (z : ℤ) (ls : List Label) → list_all (λ (x : ℤ). int_lt x z)
 above_each z [] h = tt
 above_each z (l ∷ ls) h = (let p = and_parts (int_lt l.number z) (list_all (λ (x : ℤ). int_lt x z) (map (λ (l : Label). l.number) ls)) h in (p.0, above_each z ls p.1))
 
-above_all : (z : ℤ) (root ls : List Label) → list_all (λ (x : ℤ). int_lt x z) (map (λ (l : Label). l.number) root) ≡ true → AllByRecursion (λ (l : Label). IsTrue (int_lt l.number z)) ls → AllByRecursion (λ (l : Label). IsTrue (int_lt l.number z)) (root ++ ls)
-above_all z [] ls h rest = rest
-above_all z (l ∷ root) ls h rest = (let p = and_parts (int_lt l.number z) (list_all (λ (x : ℤ). int_lt x z) (map (λ (l : Label). l.number) root)) h in (p.0, above_all z root ls p.1 rest))
-
 all_above : (z : ℤ) (ls : List Label) → AllByRecursion (λ (l : Label). IsTrue (int_lt l.number z)) ls → list_all (λ (x : ℤ). int_lt x z) (map (λ (l : Label). l.number) ls) ≡ true
 all_above z [] h = refl
 all_above z (l ∷ ls) h = rw (h.0, all_above z ls h.1) refl
 
-fronts_above : (z : ℤ) (root ls : List Label) → AllByRecursion (λ (l : Label). IsTrue (int_lt l.number z)) (root ++ ls) → AllByRecursion (λ (l : Label). IsTrue (int_lt l.number z)) root × AllByRecursion (λ (l : Label). IsTrue (int_lt l.number z)) ls
-fronts_above z [] ls h = (tt, h)
-fronts_above z (l ∷ root) ls h = (let p = fronts_above z root ls h.1 in ((h.0, p.0), p.1))
+-- none has the number
+other_each : (z : ℤ) (ls : List Label) → list_any (int_eq z) (map (λ (l : Label). l.number) ls) ≡ false → AllByRecursion (λ (l : Label). l.number ≢ z) ls
+other_each z [] h = tt
+other_each z (l ∷ ls) h =
+    let p = or_parts (int_eq z l.number) (list_any (int_eq z) (map (λ (k : Label). k.number) ls)) h in
+    ((λ e. true≢false (sym (int_eq_refl z) ∙ subst (λ (y : ℤ). int_eq z y ≡ false) e p.0)), other_each z ls p.1)
+
+equal_is : (x y : ℤ) → int_eq x y ≡ true → x ≡ y
+equal_is (pos a) (pos b) e = let p = and_parts (nat_le a b) (nat_le b a) e in ap pos (omega (arith, leb-true a b p.0, leb-true b a p.1))
+equal_is (pos a) (negsuc b) e = absurd (true≢false (sym e))
+equal_is (negsuc a) (pos b) e = absurd (true≢false (sym e))
+equal_is (negsuc a) (negsuc b) e = let p = and_parts (nat_le b a) (nat_le a b) e in ap negsuc (omega (arith, leb-true b a p.0, leb-true a b p.1))
+
+no_other : (z : ℤ) (ls : List Label) → AllByRecursion (λ (l : Label). l.number ≢ z) ls → list_any (int_eq z) (map (λ (l : Label). l.number) ls) ≡ false
+no_other z [] h = refl
+no_other z (l ∷ ls) h =
+    or_from (int_eq z l.number) (list_any (int_eq z) (map (λ (k : Label). k.number) ls)) (false_from_ne_true (int_eq z l.number) (λ e. h.0 (sym (equal_is z l.number e)))) (no_other z ls h.1)
 
 module _ (root additions : List Label) where
   -- the number of one
-  pub number_read : (z y : ℤ) (us r : List ℕ) → IsItemNumber z us r → y ≡ to_z w128 (of_z w128 z) → list_all (λ (x : ℤ). int_lt x y) (map (λ (l : Label). l.number) root) ≡ true → list_all (λ (x : ℤ). int_lt x y) (map (λ (l : Label). l.number) additions) ≡ true
+  pub number_read : (z y : ℤ) (us r : List ℕ) → IsItemNumber z us r → y ≡ to_z w128 (of_z w128 z) → list_all (λ (x : ℤ). int_lt x y) (map (λ (l : Label). l.number) additions) ≡ true → list_any (int_eq y) (map (λ (l : Label). l.number) root) ≡ false
       → Spells oer_coding.ruling.fielding (UnknownItem oer_loose root additions) y us r
   unfolding oer_loose
   number_read z y us r h e f g =
       let k : y ≡ z = e ∙ kept_32 z (narrow_is z h.narrow) in
       record {
         chunks = ones (item_number y);
-        spelt = record { fits = record { above = above_all y root additions f (above_each y additions g); narrow = subst (λ (x : ℤ). IsFalse (is_not_32_bits x)) (sym k) h.narrow }; same = refl };
+        spelt = record { fits = record { above = above_each y additions f; other = other_each y root g; narrow = subst (λ (x : ℤ). IsFalse (is_not_32_bits x)) (sym k) h.narrow }; same = refl };
         contents = contents-ones oer_coding.ruling.fielding (item_number y);
         split = h.split ∙ ap (λ (x : ℤ). item_number x ++ r) (sym k) ∙ ap (λ (l : List ℕ). l ++ r) (sym (flat-ones oer_coding.ruling.fielding.spelled (item_number y)));
       }
 
-  number_of : (z : ℤ) (us r : List ℕ) → Spells oer_coding.ruling.fielding (UnknownItem oer_loose root additions) z us r → IsItemNumber z us r × AllByRecursion (λ (l : Label). IsTrue (int_lt l.number z)) (root ++ additions)
+  number_of : (z : ℤ) (us r : List ℕ) → Spells oer_coding.ruling.fielding (UnknownItem oer_loose root additions) z us r → IsItemNumber z us r × IsUnknownNumber root additions z
   unfolding oer_loose
   number_of z us r k = (
     record {
       narrow = k.spelt.fits.narrow;
       split = k.split ∙ ap (λ (cs : List Chunk). flat oer_coding.ruling.fielding.spelled cs ++ r) k.spelt.same ∙ ap (λ (l : List ℕ). l ++ r) (flat-ones oer_coding.ruling.fielding.spelled (item_number z));
     },
-    k.spelt.fits.above,
+    k.spelt.fits,
   )
 
   -- no number stands there
@@ -306,12 +317,12 @@ module _ (root additions : List Label) where
   number_halts us halt.TooMany n = record { told = λ after. no_number (us ++ after) (n after) }
   number_halts us halt.Memory n = record { told = tt }
 
-  -- that of an item of the type, or one below
-  pub not_above : (z x : ℤ) (us r : List ℕ) → IsItemNumber z us r → x ≡ to_z w128 (of_z w128 z) → (list_all (λ (k : ℤ). int_lt k x) (map (λ (l : Label). l.number) root) ≡ true → list_all (λ (k : ℤ). int_lt k x) (map (λ (l : Label). l.number) additions) ≡ true → ⊥)
+  -- that of an item of the type, or one below an addition's
+  pub not_unknown : (z x : ℤ) (us r : List ℕ) → IsItemNumber z us r → x ≡ to_z w128 (of_z w128 z) → (list_all (λ (k : ℤ). int_lt k x) (map (λ (l : Label). l.number) additions) ≡ true → list_any (int_eq x) (map (λ (l : Label). l.number) root) ≡ false → ⊥)
       → NoBeginning oer_coding.ruling.fielding (UnknownItem oer_loose root additions) us
-  not_above z x us r h f never = λ after y s k.
+  not_unknown z x us r h f never = λ after y s k.
       let n = number_of y (us ++ after) s k in
       let here : us ++ after ≡ item_number z ++ (r ++ after) = ap (λ (t : List ℕ). t ++ after) h.split ∙ append_assoc (item_number z) r after in
       let e : y ≡ x = (item_code y z s (r ++ after) (sym n.0.split ∙ here)).0 ∙ sym (f ∙ kept_32 z (narrow_is z h.narrow)) in
-      let p = fronts_above x root additions (subst (λ (i : ℤ). AllByRecursion (λ (l : Label). IsTrue (int_lt l.number i)) (root ++ additions)) e n.1) in
-      never (all_above x root p.0) (all_above x additions p.1)
+      let unknown : IsUnknownNumber root additions x = subst (IsUnknownNumber root additions) e n.1 in
+      never (all_above x additions unknown.above) (no_other x root unknown.other)

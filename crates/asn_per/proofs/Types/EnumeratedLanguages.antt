@@ -13,7 +13,7 @@ use Rattle.asn_rules.specs.Components.{number_at}
 use Rattle.asn_rules.specs.Languages.{Map}
 use Rattle.asn_rules.specs.Forks.{Same}
 use Rattle.asn_rules.specs.Spellings.{SpelledBy, FitsEither, either_code}
-use Rattle.asn_rules.proofs.Law.Items.{numbers}
+use Rattle.asn_rules.proofs.Law.Items.{numbers, good_items}
 use Rattle.asn_rules.proofs.Languages.Spellings.{same_after, same_map, same_fork, same_spelled, map_spelled, fork_spelled}
 use Rattle.asn_per.specs.Per.{per, constrained, small, rank}
 use Rattle.asn_per.specs.Kinds.{Values, SmallBelow, of_either, position_of, RootItems, Items}
@@ -99,7 +99,7 @@ closed_is root _ h = absurd h
 
 -- the numbers of the root are distinct
 pub root_once : (root : List Label) (more : MoreLabels) → InProfile (enumerated root more) → has_twice int_eq (numbers root) ≡ false
-root_once root more good = left_false _ _ (good BadEnumeration)
+root_once root more good = (good_items root more (good BadEnumeration)).root_once
 
 -- and there are few additions
 pub few_additions : (root : List Label) (more : MoreLabels) → InProfile (enumerated root more) → length (more_labels more) ≤ most_item_additions

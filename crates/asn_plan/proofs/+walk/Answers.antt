@@ -212,8 +212,8 @@ extensions::build_addition-returns-clause-some g t c some s =
 
 -- ---- SEQUENCE OF
 
-pub lists::build_elements-returns-then-parts-clause-some : goal.lists::build_elements-returns-then-parts-clause-some
-lists::build_elements-returns-then-parts-clause-some g t c some s x good p =
+pub lists::build_elements-returns-then-not-passes-clause-some : goal.lists::build_elements-returns-then-not-passes-clause-some
+lists::build_elements-returns-then-not-passes-clause-some g t c some s x good p =
     c.build_sequences.ensures.some some s x good (rw c.in-Sequence.is at p)
 
 pub lists::build_elements-loop-i-init : goal.lists::build_elements-loop-i-init

@@ -1,4 +1,4 @@
-use Rattle.std.proofs.Common.{◌≡◌, ◌<◌, ◌≤◌, drop}
+use Rattle.std.proofs.Common.{drop}
 use Rattle.asn_plan.proofs.Nothings.{CountedUpTo}
 use Rattle.asn_plan.proofs.nothing.entries_of.Given as goal
 

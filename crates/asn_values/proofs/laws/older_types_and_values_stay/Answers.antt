@@ -1,6 +1,7 @@
 use Rattle.asn_values.specs.Fits.{limits}
 use Rattle.asn_values.specs.Older.{older_limits, oldest_limits}
 use Rattle.asn_values.proofs.Older.{limits_wider, older_wider}
+use Rattle.asn_values.proofs.OlderNumbers.{enumerations_stay}
 use Rattle.asn_values.proofs.Wider.{values_wider}
 use Rattle.asn_values.proofs.WiderTypes.{types_wider}
 use Rattle.asn_values.proofs.laws.older_types_and_values_stay.Goals as goal
@@ -10,6 +11,9 @@ returns-clause-wider c = limits_wider
 
 pub returns-clause-types : goal.returns-clause-types
 returns-clause-types c = types_wider older_limits limits limits_wider
+
+pub returns-clause-numbers : goal.returns-clause-numbers
+returns-clause-numbers c = enumerations_stay
 
 pub returns-clause-values : goal.returns-clause-values
 returns-clause-values c = values_wider older_limits limits limits_wider

@@ -1,4 +1,3 @@
-use Rattle.std.proofs.Common.{◌≡◌}
 use Rattle.asn_values.specs.View.{shape_of}
 use Rattle.asn_constraints.specs.View.{constraint_of}
 use Rattle.asn_constrained.proofs.Reading.{judged_read}

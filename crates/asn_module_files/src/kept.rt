@@ -1,0 +1,173 @@
+//! The constraints of the types of a module, which its text has on lines of its own, where it is printed.
+use crate::published::fault_of_constraints;
+use crate::sources::own_of;
+use asn_constraint_text::{
+    ConstrainedModule, MOST_PARTS, WholeFault, constraint_text, with_constraints,
+};
+use asn_constraints::Constraint;
+use asn_published::{Flattened, PublishedFault};
+use asn_values::AsnType;
+use std::alloc::{AllocError, Global};
+
+/// How many octets the constraints of the types of a module may have as text.
+const MOST_OCTETS: u32 = 80_000_000;
+
+/// The constraints of types by their names, as lines of a text have them.
+#[derive(Drop)]
+pub struct Lines {
+    names: Vec<String>,
+    texts: Vec<String>,
+    octets: usize,
+}
+
+impl Lines {
+    /// No constraint.
+    pub fn new(alloc: Global) -> Lines {
+        Lines {
+            names: Vec::new(alloc),
+            texts: Vec::new(alloc),
+            octets: 0,
+        }
+    }
+
+    /// Whether no type has a constraint.
+    pub fn is_empty(&self) -> bool {
+        self.names.is_empty()
+    }
+
+    /// Takes the constraint of the type of a name, unless each value meets it.
+    ///
+    /// # Errors
+    /// `TooLarge` if the constraints have more octets than `MOST_OCTETS`, and `Memory` if an allocation failed.
+    fn push(
+        &mut self,
+        alloc: Global,
+        name: &str,
+        ty: &AsnType,
+        constraint: &Constraint,
+    ) -> Result<(), PublishedFault> {
+        if let Constraint::Free = constraint {
+            return Ok(());
+        }
+        let name = String::from_str(alloc, name)?;
+        let text = constraint_text(alloc, ty, constraint)?;
+        self.octets = self.octets.saturating_add(text.len());
+        if self.octets > MOST_OCTETS as usize {
+            return Err(PublishedFault::TooLarge {
+                most: MOST_OCTETS,
+                name,
+            });
+        }
+        self.names.push(name)?;
+        self.texts.push(text)?;
+        Ok(())
+    }
+
+    /// The text of the module with a line for each constraint.
+    ///
+    /// # Errors
+    /// `AllocError` where an allocation failed.
+    pub fn put_into(&self, alloc: Global, text: &str) -> Result<String, AllocError> {
+        let mut lines = Vec::new(alloc);
+        for (name, text) in self.names.iter().zip(&self.texts) {
+            lines.push((name.as_str(), text.as_str()))?;
+        }
+        with_constraints(alloc, text, lines.as_slice())
+    }
+}
+
+/// The constraints of a module of the profile, with references written out.
+pub(crate) fn lines_of_own(
+    alloc: Global,
+    own: &ConstrainedModule,
+) -> Result<Lines, PublishedFault> {
+    let mut lines = Lines::new(alloc);
+    for name in own.module.type_names() {
+        if let Some(ty) = own.module.type_named(name) {
+            let constraint = constraint_in(alloc, own, name)?;
+            lines.push(alloc, name, ty.get(), &constraint)?;
+        }
+    }
+    Ok(lines)
+}
+
+/// The constraints of the module that published ones become, and those that the text has where it is a module of the
+/// profile.
+pub(crate) fn lines_of_flattened(
+    alloc: Global,
+    flattened: &Flattened,
+    own: &Option<ConstrainedModule>,
+) -> Result<Lines, PublishedFault> {
+    let mut lines = Lines::new(alloc);
+    for (index, one) in flattened.report.iter().enumerate() {
+        let name = one.name.as_str();
+        if let Some(ty) = flattened.module.type_named(name) {
+            let published = flattened.constraint_at(alloc, index)?;
+            let constraint = match own {
+                Some(own) => both(alloc, constraint_in(alloc, own, name)?, published)?,
+                None => published,
+            };
+            lines.push(alloc, name, ty.get(), &constraint)?;
+        }
+    }
+    Ok(lines)
+}
+
+/// Both constraints, or one where the other is free.
+fn both(alloc: Global, one: Constraint, other: Constraint) -> Result<Constraint, AllocError> {
+    match one {
+        Constraint::Free => Ok(other),
+        one => match other {
+            Constraint::Free => Ok(one),
+            other => Ok(Constraint::Both(Box::new(alloc, one)?, Box::new(alloc, other)?)),
+        },
+    }
+}
+
+/// The constraint of the type of a name; `Free` where there is no such type.
+///
+/// # Errors
+/// `TooLarge` if it is too large, and `Memory` if an allocation failed.
+pub(crate) fn constraint_in(
+    alloc: Global,
+    own: &ConstrainedModule,
+    name: &str,
+) -> Result<Constraint, PublishedFault> {
+    match own.constraint_named(alloc, name) {
+        Ok(constraint) => Ok(constraint.unwrap_or(Constraint::Free)),
+        Err(WholeFault::TooLarge) => Err(PublishedFault::TooLarge {
+            most: u32::try_from(MOST_PARTS).unwrap_or(u32::MAX),
+            name: String::from_str(alloc, name)?,
+        }),
+        Err(WholeFault::Memory) => Err(PublishedFault::Memory),
+    }
+}
+
+/// Whether a text has the line of a constraint, if it is a module of the profile.
+pub(crate) fn has_lines(text: &str) -> bool {
+    text.lines().any(|line| line.starts_with("--:"))
+}
+
+/// The module of the profile that the only text is, with the constraints that it has on lines of its own, if it is one
+/// and has such lines.
+///
+/// # Errors
+/// As of the commands on messages.
+pub(crate) fn constrained_of(
+    alloc: Global,
+    texts: &[&str],
+) -> Result<Option<ConstrainedModule>, PublishedFault> {
+    let [text] = texts else {
+        return Ok(None);
+    };
+    if !has_lines(*text) {
+        return Ok(None);
+    }
+    let Some(own) = own_of(alloc, *text)? else {
+        return Ok(None);
+    };
+    match ConstrainedModule::new(alloc, own, *text) {
+        Ok(own) => Ok(Some(own)),
+        Err(fault) => Err(fault_of_constraints(fault)),
+    }
+}

@@ -149,6 +149,7 @@ bad_enumeration _ = false
 
 -- ---- UselessMark: an extension marker on a root that is already every value of the profile
 
+-- no length of the profile is above the high bound
 abbrev pub is_no_limit : Option ℕ → Bool
 is_no_limit None = true
 is_no_limit (Some high) = nat_le largest_size_bound high

@@ -44,7 +44,7 @@ within_empty : (low high : ℕ) (items : List (List Chunk)) → high < 65536 →
 within_empty low high items few e f =
     let count = constrained (suc (high - low)) (length items - low) in
     let g : count ≡ [] = constrained_empty (suc (high - low)) _ (omega arith) in
-    ap (λ b. elim b [ true ↦ ones count ++ joined items | false ↦ general one items ]) (lt-ltb high 65536 few) ∙ ap (λ us. ones us ++ joined items) g ∙ f
+    ap (λ (b : Bool). elim b [ true ↦ ones count ++ joined items | false ↦ general one items ]) (lt-ltb high 65536 few) ∙ ap (λ us. ones us ++ joined items) g ∙ f
 
 -- no elements
 no_items : {A : Type 0} (xs : List A) → length xs ≤ 0 → xs ≡ []

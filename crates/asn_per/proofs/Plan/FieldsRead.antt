@@ -55,7 +55,7 @@ root_count low high k vs few inside =
     let values = suc (high - low) in
     let told = set_spelt 2 (width values) {S = λ n. n < values} k inside (width_fits values k inside) in
     let read : Spells per_fields (StartForm true low high) (items (low + k)) (constrained values k ++ vs) vs = map_spells {f = items} (map_spells {f = λ n. low + n} (plain_spells per_fields k (bits (width values) k) vs told)) in
-    subst (λ b. Spells per_fields (StartForm b low high) (items (low + k)) (constrained values k ++ vs) vs) (sym (lt-ltb high 65536 few)) read
+    subst (λ (b : Bool). Spells per_fields (StartForm b low high) (items (low + k)) (constrained values k ++ vs) vs) (sym (lt-ltb high 65536 few)) read
 
 start_first : (low high k : ℕ) (m : Bool) (us vs : List ℕ) → high < 65536 → k < suc (high - low)
     → us ≡ bits (bit_of m + width (suc (high - low))) k ++ vs

@@ -53,7 +53,7 @@ only_inside n m = rw (le-leb n n (omega arith)) refl
 count_contents : (n : ℕ) (xs : List (List Chunk)) → n < 65536 → AllContents per_fields (joined xs) → AllContents per_fields (within n (Some n) xs)
 count_contents n xs few h =
     let count = constrained (suc (n - n)) (length xs - n) in
-    subst (λ b. AllContents per_fields (elim b [ true ↦ ones count ++ joined xs | false ↦ general one xs ])) (sym (lt-ltb n 65536 few)) (contents-append per_fields (ones count) (joined xs) (contents-ones per_fields count) h)
+    subst (λ (b : Bool). AllContents per_fields (elim b [ true ↦ ones count ++ joined xs | false ↦ general one xs ])) (sym (lt-ltb n 65536 few)) (contents-append per_fields (ones count) (joined xs) (contents-ones per_fields count) h)
 
 -- the items follow the extension bit
 only_contents : (m : Bool) (xs : List (List Chunk)) → length xs < 65536 → AllContents per_fields (joined xs) → AllContents per_fields (sized (only_size (length xs) m) xs)

@@ -359,12 +359,12 @@ root_leads low high above values us few e f =
     let set = same_set {S = λ n. Admits (root_set (high - low)) n} {T = λ n. n < suc (high - low)} 2 w (λ c h. omega (arith, h.1)) (λ c h. (omega arith, omega (arith, h), tt)) in
     let leads : Leads per_fields (Plain (InSet w (λ n. Admits (root_set (high - low)) n))) us (λ k. items (low + k)) (StartForm true low high) us =
     leads_on (leads_on (leads_same per_fields us set) (leads_map per_fields (λ k. low + k) (Below w (suc (high - low))) us)) (leads_map per_fields items (CountWithin low high) us) in
-    subst (λ b. Leads per_fields (Plain (InSet (width values) (λ n. Admits (root_set above) n))) us (λ k. items (low + k)) (StartForm b low high) us) (sym (lt-ltb high 65536 few)) (rw (v, e) leads)
+    subst (λ (b : Bool). Leads per_fields (Plain (InSet (width values) (λ n. Admits (root_set above) n))) us (λ k. items (low + k)) (StartForm b low high) us) (sym (lt-ltb high 65536 few)) (rw (v, e) leads)
 
 -- from an upper bound of 65,536 on a length is ahead
 pub root_general : (low high : ℕ) (us : List ℕ) → 65536 ≤ high → Spells per_fields (RootStart low (Some high)) (lengths ((low, Some high) ∷ []) 0 false) us us
 root_general low high us many =
-    subst (λ b. Spells per_fields (StartForm b low high) (lengths ((low, Some high) ∷ []) 0 false) us us) (sym (le-ltb high 65536 many)) (nothing_spells per_fields (lengths ((low, Some high) ∷ []) 0 false) us)
+    subst (λ (b : Bool). Spells per_fields (StartForm b low high) (lengths ((low, Some high) ∷ []) 0 false) us us) (sym (le-ltb high 65536 many)) (nothing_spells per_fields (lengths ((low, Some high) ∷ []) 0 false) us)
 
 -- ---- where a reader of a list stands
 

@@ -90,7 +90,7 @@ fixed_form {A} L n = record {
 }
 
 pub fixed_sized : {A : Type 0} (L : A → List Chunk → Type 0) (n : ℕ) → n < 65536 → Same (Row L n) (RootSized n (Some n) L)
-fixed_sized L n few = subst (λ b. Same (Row L n) (RootForm b n n L)) (sym (lt-ltb n 65536 few)) (fixed_form L n)
+fixed_sized L n few = subst (λ (b : Bool). Same (Row L n) (RootForm b n n L)) (sym (lt-ltb n 65536 few)) (fixed_form L n)
 
 -- ---- lists of items that are spelt by a function
 

@@ -42,7 +42,7 @@ root_room low high count w h m e i f =
 plain_bits : (low high : ℕ) (xs : List (List Chunk)) → high < 65536 → flat spelled (within low (Some high) xs) ≡ bits (width (suc (high - low))) (length xs - low) ++ row_bits xs
 plain_bits low high xs few =
     let front = constrained (suc (high - low)) (length xs - low) in
-    ap (λ b. flat spelled (elim b [ true ↦ ones front ++ joined xs | false ↦ general one xs ])) (lt-ltb high 65536 few)
+    ap (λ (b : Bool). flat spelled (elim b [ true ↦ ones front ++ joined xs | false ↦ general one xs ])) (lt-ltb high 65536 few)
     ∙ flat-append spelled (ones front) (joined xs) ∙ ap (λ (t : List ℕ). t ++ row_bits xs) (flat-ones spelled front)
 
 pub root_bits : (low high : ℕ) (m : Bool) → high < 65536 → (xs : List (List Chunk)) → in_size (sizing low (Some high) m) (length xs) ≡ true
@@ -72,7 +72,7 @@ no_bound low h e xs = ap (λ k. within low k xs) e
 pub large_bound : (low high : ℕ) (h : Option ℕ) → h ≡ Some high → 65536 ≤ high → IsGeneral low h
 large_bound low high h e many xs =
     ap (λ k. within low k xs) e
-    ∙ ap (λ b. elim b [ true ↦ ones (constrained (suc (high - low)) (length xs - low)) ++ joined xs | false ↦ general one xs ]) (le-ltb high 65536 many)
+    ∙ ap (λ (b : Bool). elim b [ true ↦ ones (constrained (suc (high - low)) (length xs - low)) ++ joined xs | false ↦ general one xs ]) (le-ltb high 65536 many)
 
 -- and else the items follow under their general length
 pub other_written : (low count : ℕ) (h : Option ℕ) (m i : Bool) → i ≡ in_size (sizing low h m) count → IsTrue (m || i) → IsGeneral low h ⊎ (i ≡ false)

@@ -58,7 +58,9 @@ RULES = {"per": PER, "uper": PER, "oer": OER, PER: PER, OER: OER}
 
 # the reasons, by their numbers: of octets that are refused, and of a text that is no module
 WHY = ("", "sealed", "default", "length", "extension", "character", "padding", "number")
-WHY_NO_MODULE = ("", "bad character", "unexpected", "unknown", "cycle", "twice", "bad type", "out of profile")
+WHY_NO_MODULE = (
+    "", "bad character", "unexpected", "unknown", "cycle", "twice", "bad type", "out of profile", "too large",
+)
 REASONS = {REFUSED: WHY, NO_MODULE: WHY_NO_MODULE}
 
 
@@ -160,8 +162,8 @@ class TulvornError(Exception):
 
 
 class ModuleError(TulvornError):
-    """A text is no module. Where `why` is `bad character`, `unexpected` or `out of profile`, `at` is the place in its
-    octets, from 0; else it is 0. The words have the line, with a mark."""
+    """A text is no module, or a larger one than is read (`too large`). Where `why` is `bad character`, `unexpected` or
+    `out of profile`, `at` is the place in its octets, from 0; else it is 0. The words have the line, with a mark."""
 
 
 class DecodeError(TulvornError):

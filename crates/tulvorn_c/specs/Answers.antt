@@ -11,7 +11,8 @@ use Rattle.asn_values.specs.declared.value.Value.{Value}
 use Rattle.asn_view.specs.Typed.{Typed, typed}
 use Rattle.asn_module.specs.Accepted.{ModuleTypes, Accepted, type_in}
 use Rattle.asn_module.specs.declared.fault.ModuleFault.{ModuleFault}
-use Rattle.asn_module.specs.declared.fault.ModuleFault.TheVariants as module_fault
+use Rattle.asn_module.specs.Bounded.{TellsRead}
+use Rattle.asn_module.specs.Sizes.{most_size, types_size}
 use Rattle.asn_rules.specs.Answer.{Ruling, IsEncoding, max_octets}
 use Rattle.asn_rules.specs.Codec.{Decoded, NotEncoded}
 use Rattle.asn_rules.specs.Measured.{IsLength, NotMeasured, Placed, NotPlaced}
@@ -59,7 +60,7 @@ IsModuleRead text new = (m : ModuleTypes) × (held_module new ≡ Some m) × Acc
 abbrev pub IsNoModule : List ℕ → Fault → Type 0
 IsNoModule text fault =
     (why : ModuleFault) × (fault ≡ of_module why)
-    × ((why ≡ module_fault.Memory → ⊥) → (m : ModuleTypes) → Accepted text m → ⊥)
+    × TellsRead text why
 
 abbrev pub ReadsText : List ℕ → Option Object → Option Object → Fault → Type 0
 ReadsText text old new fault =
@@ -73,12 +74,12 @@ ReadsModule text old new fault =
 abbrev pub HoldsNoRefusal : List ℕ → Option Object → Type 0
 HoldsNoRefusal text new = (held_octets new ≡ Some []) × (m : ModuleTypes) × Accepted text m
 
--- the handle then holds words, since the text is no module
+-- the handle then holds words, since the text is no module, or one that is larger than is read
 pub record HoldsRefusal (text : List ℕ) (new : Option Object) : Type 0 where
   pub words : List ℕ
   pub held : held_octets new ≡ Some words
   pub not_empty : words ≡ [] → ⊥
-  pub refused : (m : ModuleTypes) → Accepted text m → ⊥
+  pub refused : (m : ModuleTypes) → Accepted text m → most_size < types_size m.types
 
 abbrev pub TellsText : List ℕ → Option Object → Option Object → Fault → Type 0
 TellsText text old new fault =

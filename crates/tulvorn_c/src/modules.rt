@@ -17,7 +17,7 @@ ghost use Rattle.tulvorn_c.specs.Answers.{
 };
 ghost use Rattle.tulvorn_c.specs.Held.{held_module, held_type};
 ghost use Rattle.tulvorn_c.specs.Faults.{plain};
-ghost use Rattle.asn_module.specs.Accepted.{Accepted, ModuleTypes};
+ghost use Rattle.asn_module.specs.Bounded.{TellsRead};
 
 use crate::fault::{DONE, Fault, MISUSE, NO_MEMORY, NO_NAME, NOT_TEXT};
 use crate::handle::Handle;
@@ -67,8 +67,7 @@ fn put_module(alloc: Global, text: &str, out: &mut Handle) -> Fault
 /// A handle of the module that a text is.
 fn module_read(alloc: Global, text: &str) -> Result<Handle, ModuleFault>
     ensures read { IfOk result (λ h. IsModuleRead text.now h.kept) }
-    ensures refused { IfErr result (λ e. (e ≡ ModuleFault.Memory → ⊥) → (m : ModuleTypes) →
-        Accepted text.now m → ⊥) }
+    ensures refused { IfErr result (TellsRead text.now) }
 {
     let Ok(module) = Box::new(alloc, read(alloc, text)?) else {
         return Err(ModuleFault::Memory);
@@ -130,7 +129,8 @@ fn refusal_words(alloc: Global, refused: RefusedText) -> Result<String, AllocErr
         | ModuleFault::Cycle { .. }
         | ModuleFault::Twice { .. }
         | ModuleFault::BadType { .. }
-        | ModuleFault::OutOfProfile { .. } => some_words(alloc, words),
+        | ModuleFault::OutOfProfile { .. }
+        | ModuleFault::TooLarge { .. } => some_words(alloc, words),
         ModuleFault::Memory => Err(AllocError),
     }
 }

@@ -133,6 +133,13 @@ def with_cmake(room):
         expect(ran([f"made/{name}"], folder), room.wanted)
 
 
+def with_musl(room):
+    folder = room.fresh("musl", "c")
+    archive = [f"-I{room.library}", f"{room.library}/libtulvorn.a"]
+    ran(["musl-gcc", "-static", "first.c", *archive, "-o", "first"], folder)
+    expect(ran(["./first"], folder), room.wanted)
+
+
 def with_program(room):
     folder = room.fresh("program")
     ran(["make", "-C", TOP, "install-program", f"DESTDIR={folder}/root", "PREFIX=/usr"], folder, **room.given)
@@ -266,6 +273,7 @@ C = ["make", "gcc", "g++", "readelf"]
 STEPS = (
     ("make install, by pkg-config", [*C, "pkg-config"], with_make),
     ("make install, by CMake", [*C, "cmake"], with_cmake),
+    ("a static program with musl", ["musl-gcc"], with_musl),
     ("make install-program", ["make"], with_program),
     ("the crate, with an archive", ["cargo"], with_cargo),
     ("the crate, with the library that is installed", ["cargo", "make", "pkg-config", "readelf"], with_cargo_installed),

@@ -107,6 +107,7 @@ def steps_of_programs(room):
     steps = [["tests/memory/refused_allocations.sh", room], *([f"tests/program/{it}.py", TOOL] for it in SCRIPTS)]
     steps += [["examples/run.sh", TOOL], ["tests/program/first.py", FIRST], ["tests/program/installed.sh", TOOL]]
     steps.append(["tests/program/guide.py", TOOL, f"{room}/library"])
+    steps.insert(0, ["bindings/tests/installs.py", f"{room}/library", TOOL])
     with ThreadPoolExecutor(rt.processors()) as pool:
         [*pool.map(lambda words: step("programs", words), steps)]
 

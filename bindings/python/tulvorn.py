@@ -8,7 +8,7 @@
     {'id': 5}
 
 Only the standard library is needed, and the library: the file that TULVORN_LIBRARY names, or libtulvorn.so in this
-file's folder, or libtulvorn.so.1 where the system's linker finds it. `compile_string`, `compile_files`, `encode`,
+file's folder, or libtulvorn.so.2 where the system's linker finds it. `compile_string`, `compile_files`, `encode`,
 `decode` and `decode_with_length` have the names that asn1tools gives them; bindings/README.md lists the differences.
 
 Values are as in JSON, with the kinds of Python where it has them: BOOLEAN is a bool, NULL None, INTEGER an int,
@@ -136,7 +136,7 @@ INTERFACE = 2
 def _loaded():
     named = os.environ.get("TULVORN_LIBRARY")
     beside = os.path.join(os.path.dirname(os.path.abspath(__file__)), "libtulvorn.so")
-    library = ctypes.CDLL(named or (beside if os.path.exists(beside) else "libtulvorn.so.1"))
+    library = ctypes.CDLL(named or (beside if os.path.exists(beside) else f"libtulvorn.so.{INTERFACE}"))
     for name, kinds in FUNCTIONS.items():
         given, _, result = kinds.partition(":")
         function = getattr(library, name)

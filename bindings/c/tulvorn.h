@@ -18,6 +18,7 @@
  *     its size. No call is made from a signal handler, or from the child that a program with threads has forked.
  *   - The processor is an x86-64 of level v2 or above. A call has enough stack: 512 KiB for a library that LLVM
  *     compiled, 1 MiB for one that Rattle's own compiler did, and half for types of 32 levels (bindings/README.md).
+ *     tulvorn_module and tulvorn_explain_module of a text with constraints take up to 1 MiB and 3 MiB.
  * THREADS. Calls that take a handle as `const` write neither the handle nor its object: threads may pass one handle to
  * them at once, without a lock. Any other use of a handle is by one thread at a time. It may go to another thread, as
  * by a lock, or by starting or joining that thread. tulvorn_share is for threads that each close a handle of their own.
@@ -92,7 +93,8 @@ enum {
     /* of tulvorn_check_within and tulvorn_decode_within alone: */
     TULVORN_OVER_BUDGET = 22,       /* the octets are the encoding of a value that takes more than the budget */
     /* of tulvorn_type alone: */
-    TULVORN_LARGE_CONSTRAINT = 23   /* the constraint of the type has more than 1,000,000 parts */
+    TULVORN_LARGE_CONSTRAINT = 23   /* the constraint of the type has more than 1,000,000 parts, or more than 256 names
+                                       that refer one to the next have one */
 };
 
 /* ---- why, where octets are TULVORN_REFUSED: what was being read */

@@ -1,5 +1,9 @@
 -- The words are those of a refusal, so the text is no module; or the text is one, and its lines are looked at.
-use Rattle.std.proofs.Common.{inl, inr, ⊎_elim, Result, Ok, Err, IfOk}
+use Rattle.std.proofs.Common.{◌≡◌, ◌⊎◌, inl, inr, ℕ, List, Option, Result, Ok, Err, IfOk}
+use Rattle.asn_module.specs.declared.fault.ModuleFault.TheVariants as module_fault
+use Rattle.tulvorn_c.specs.Answers.{HoldsNoRefusal, HoldsRefusal, HoldsBadLine}
+use Rattle.tulvorn_c.specs.Misfits.{HoldsWords}
+use Rattle.tulvorn_c.specs.declared.object.Object.{Object}
 use Rattle.tulvorn_c.proofs.modules.text_explained.Goals as goal
 
 under_ok : {A E : Type 0} (r : Result A E) (P Q : A → Type 0) → ((x : A) → P x → Q x) → IfOk r P → IfOk r Q
@@ -10,17 +14,26 @@ both_ok : {A E : Type 0} (r : Result A E) (P : A → Type 0) (Q : Type 0) (R : A
 both_ok (Ok x) P Q R f p q = f x p q
 both_ok (Err e) P Q R f p q = tt
 
+of_lines : (text : List ℕ) (new : Option Object) → HoldsNoRefusal text new ⊎ HoldsBadLine text new → HoldsNoRefusal text new ⊎ HoldsRefusal text new ⊎ HoldsBadLine text new
+of_lines text new (inl none) = inl none
+of_lines text new (inr bad) = inr (inr bad)
+
 pub returns-in-Ok : goal.returns-in-Ok
 returns-in-Ok c =
-    under_ok c.lines_explained.result _ _ (λ h. ⊎_elim (λ x. inl x) (λ y. inr (inr y)))
-    (c.lines_explained.ensures c.in-Ok.ensures.accepted)
+    under_ok c.lines_explained.result
+    (λ h. HoldsNoRefusal c.args.text.now h.kept ⊎ HoldsBadLine c.args.text.now h.kept)
+    (λ h. HoldsNoRefusal c.args.text.now h.kept ⊎ HoldsRefusal c.args.text.now h.kept ⊎ HoldsBadLine c.args.text.now h.kept)
+    (λ h. of_lines c.args.text.now h.kept) (c.lines_explained.ensures c.in-Ok.ensures.accepted)
 
 pub returns-in-Err : goal.returns-in-Err
 returns-in-Err c =
-    both_ok c.refusal_explained.result _ _ _ (λ h w told.
+    both_ok c.refusal_explained.result (λ h. HoldsWords h.kept)
+    (c.in-Err.refused.fault ≡ module_fault.Memory → ⊥)
+    (λ h. HoldsNoRefusal c.args.text.now h.kept ⊎ HoldsRefusal c.args.text.now h.kept ⊎ HoldsBadLine c.args.text.now h.kept)
+    (λ h told memory.
     inr (inl (record {
-      words = w.words;
-      held = w.held;
-      not_empty = w.some;
-      refused = c.in-Err.ensures.refused told;
+      words = told.words;
+      held = told.held;
+      not_empty = told.some;
+      refused = c.in-Err.ensures.refused memory;
     }))) c.refusal_explained.ensures.words c.refusal_explained.ensures.told

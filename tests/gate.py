@@ -66,8 +66,7 @@ def run(words, hear, is_shown, **how):
 
 def reasons(said):
     """What a step says of what failed: each crate that is not proved with the first line that says why, and the rest."""
-    lines = {name: text.splitlines() or [""] for name, text in REFUSED.findall(said)}
-    why = [f"{name} NOT PROVED: {next(filter(WHY.search, them), them[0])}" for name, them in lines.items()]
+    why = [f"{name} NOT PROVED: {next(filter(WHY.search, it.splitlines()), '')}" for name, it in REFUSED.findall(said)]
     return [it[:200] for it in (*why, *re.findall(TOLD, said, re.M))][:4]
 
 

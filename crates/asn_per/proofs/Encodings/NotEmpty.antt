@@ -91,7 +91,7 @@ within_not_empty {A} code a low (Some n) items e h z f = go (nat_lt n 65536) f
     count : List ℕ
     count = constrained (suc (n - low)) (length items - low)
 
-    go : (b : Bool) → (is_fixed_size (record { low = low; high = Some n; extensible = false }) ≡ false) ⊎ (code a ≢ []) → elim b [ true ↦ ones count ++ joined items | false ↦ general one items ] ≢ []
+    go : (b : Bool) → (is_fixed_size (record { low = low; high = Some n; extensible = false }) ≡ false) ⊎ (code a ≢ []) → ◌≢◌ {A = List Chunk} (elim b [ true ↦ ones count ++ joined items | false ↦ general one items ]) []
     go false f = general_not_empty one items
     go true (inl f) =
         let above : low ≤ n = ltb-false n low h in

@@ -237,7 +237,7 @@ root_start_lawful low (Some high) = form_lawful (nat_lt high 65536) low high
 root_start_lawful low None = form_lawful false low max_len
 
 -- the low bound of the first counts that are ahead
-first_low : Ahead → ℕ
+abbrev first_low : Ahead → ℕ
 first_low (lengths (i ∷ is) so_far closed) = i.0
 first_low _ = 0
 

@@ -185,7 +185,7 @@ class Per:
         if mark and not (low <= len(items) and (high is None or len(items) <= high)):
             return '1' + self.general(items)
         front = '0' if mark else ''
-        if high is None:
+        if high is None or high >= 65536:
             return front + self.general(items)
         return front + self.number(len(items) - low, high - low + 1) + ''.join(items)
 

@@ -2,6 +2,8 @@
 ghost use Rattle.std.specs.Prelude.{◌≡◌, ◌≤◌, ◌<◌, true, length, IfOk, IfSome};
 
 use crate::fault::ConstraintTextFault;
+use crate::strings::hexadecimal_value;
+use std::collections::HashMap;
 
 /// A text, and how far it is read.
 #[derive(Drop)]
@@ -9,6 +11,8 @@ pub(crate) struct Cursor<'t> {
     rest: &'t [u8],
     /// the length of the whole text
     total: usize,
+    /// the names of types that CONTAINING may have, with the position of each
+    names: Option<&'t HashMap<String, usize>>,
 }
 
 fn is_blank(octet: u8) -> bool {
@@ -96,7 +100,13 @@ impl<'t> Cursor<'t> {
         Cursor {
             rest: text.as_bytes(),
             total: text.len(),
+            names: None,
         }
+    }
+
+    /// Takes the names of types that CONTAINING may have.
+    pub fn take_names(&mut self, names: &'t HashMap<String, usize>) {
+        self.names = Some(names);
     }
 
     /// The octet of the text that comes next, counted from 0.
@@ -197,6 +207,19 @@ impl<'t> Cursor<'t> {
         let (word, rest) = self.rest.split_at(word_len(self.rest));
         self.rest = rest;
         word
+    }
+
+    /// Reads the name of a type, if one comes next, and returns its position.
+    pub fn type_name(&mut self) -> Option<usize>
+        ensures within { length self.new.rest.now ≤ length self.old.rest.now }
+    {
+        let names = self.names?;
+        let Ok(name) = std::str::from_utf8(self.word()) else {
+            return None;
+        };
+        let position = *names.get(name)?;
+        let _ = self.take_word();
+        Some(position)
     }
 
     /// Reads this word, if it comes next.
@@ -366,16 +389,5 @@ impl<'t> Cursor<'t> {
             }
             [] => None,
         }
-    }
-}
-
-/// The value of a hexadecimal digit.
-fn hexadecimal_value(octet: u8) -> Option<u8>
-    ensures { IfSome result (λ d. d < 16) }
-{
-    match octet {
-        b'0'..=b'9' => Some(octet - b'0'),
-        b'A'..=b'F' => Some(octet - b'A' + 10),
-        _ => None,
     }
 }

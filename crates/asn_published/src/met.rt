@@ -17,6 +17,7 @@ pub(crate) fn is_met(remark: Remark, ty: &AsnType, value: &Value, is_oer: bool) 
         | Remark::Dropped
         | Remark::Default
         | Remark::Characters
+        | Remark::Contents
         | Remark::OpenType
         | Remark::Content(_)
         | Remark::Real => true,

@@ -5,8 +5,10 @@ use Rattle.asn_published_types.specs.declared.report.Status.TheVariants as statu
 use Rattle.asn_published_types.specs.declared.report.Remark.{Remark}
 use Rattle.asn_published_types.specs.declared.report.Remark.TheVariants as remark
 
--- others are taken too
 abbrev pub status_of : Remark → Status
+-- the octets that are encodings are known
+status_of remark.Contents = status.Same
+-- others are taken too
 status_of remark.Gap = status.Wider
 status_of remark.Dropped = status.Wider
 status_of remark.Default = status.Wider

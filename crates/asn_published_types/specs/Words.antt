@@ -12,6 +12,7 @@ words_of remark.Dropped = codes "a constraint is not looked at"
 words_of remark.Default = codes "the default may be written out"
 words_of remark.SizeToMax = codes "sizes have no highest"
 words_of remark.Characters = codes "other characters are taken too"
+words_of remark.Contents = codes "contents"
 words_of remark.OpenType = codes "the value of the open type is not looked at"
 words_of (remark.Content what) = codes "the " ++ (what.now ++ codes " is not looked at")
 words_of remark.Real = codes "the REAL is not looked at, and OER may have no length"

@@ -2,12 +2,14 @@
 #![tactic(auto)]
 
 pub mod allowed;
+mod among;
 mod bounding;
 pub mod bounds;
 pub mod building;
 mod classes;
 mod constraints;
 mod contained;
+mod containing;
 mod elements;
 mod expansion;
 pub mod info;

@@ -40,6 +40,10 @@ impl fmt::Display for Status {
     }
 }
 
+/// Whether octets that are encodings are judged wherever the constraint of a type is. If they are not, `Remark::Contents` is said
+/// of each value that has such octets.
+pub const ARE_CONTENTS_JUDGED: bool = false;
+
 /// What is to be said of a component.
 #[derive(Clone, Copy, PartialEq, Eq)]
 pub enum Remark {
@@ -48,6 +52,7 @@ pub enum Remark {
     Default,
     SizeToMax,
     Characters,
+    Contents,
     OpenType,
     Content(&'static str),
     Real,
@@ -77,6 +82,7 @@ impl fmt::Display for Remark {
             Remark::Default => "the default may be written out",
             Remark::SizeToMax => "sizes have no highest",
             Remark::Characters => "other characters are taken too",
+            Remark::Contents => "contents",
             Remark::OpenType => "the value of the open type is not looked at",
             Remark::Real => "the REAL is not looked at, and OER may have no length",
             Remark::TrimmedBits => "last zeros of named bits: the writer trims them",
@@ -105,6 +111,7 @@ impl Remark {
             | Remark::OpenType
             | Remark::Level
             | Remark::Content(_) => Status::Wider,
+            Remark::Contents => Status::Same,
             Remark::Unbounded => Status::Narrower,
             Remark::TrimmedBits | Remark::LeftOut => Status::Owed,
             Remark::OerTags | Remark::OerItems | Remark::Real => Status::PerOnly,

@@ -215,6 +215,7 @@ impl<'t> Forest<'t> {
             braces: end,
             outer: node.instance,
             level: 0,
+            end: None,
         };
         match self.instances.index_for(alloc, world, asked)? {
             Ok(index) => Ok(Shape::Reference {

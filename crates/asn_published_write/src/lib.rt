@@ -3,6 +3,7 @@
 
 mod checking;
 mod constraining;
+mod contained;
 mod defaults;
 mod holding;
 mod known;

@@ -2,7 +2,7 @@
 use crate::value_writing::{
     alternative_name, alternative_type, component_name, component_type, element_of, put_name,
 };
-use asn_contents::{Contents, is_nowhere};
+use asn_contents::{Contents, Selection, is_nowhere};
 use asn_values::AsnType;
 use std::alloc::{AllocError, Global};
 use std::fmt::Write;
@@ -12,7 +12,7 @@ use std::fmt::Write;
 /// at its position.
 ///
 /// A part that the type does not have is written by its index, as a type is that has no name, and the text is then not read
-/// back. Octets whose type another component selects are left out.
+/// back.
 ///
 /// # Errors
 /// `AllocError` where an allocation failed.
@@ -38,13 +38,11 @@ fn put_contents(
     names: &[&str],
 ) -> Result<(), AllocError> {
     match contents {
-        Contents::Nowhere | Contents::Selected(_) => out.push_str("CONSTRAINED BY {any value}"),
+        Contents::Nowhere => out.push_str("CONSTRAINED BY {any value}"),
+        Contents::Selected(selection) => put_selection(out, ty, selection, names),
         Contents::Octets(position) => {
             out.push_str("CONTAINING ")?;
-            match names.get(*position) {
-                Some(name) => out.push_str(*name),
-                None => write!(out, "{position}"),
-            }
+            put_type(out, *position, names)
         }
         Contents::Components(parts) => put_components(out, ty, parts, names),
         Contents::Alternatives(parts) => put_alternatives(out, ty, parts, names),
@@ -60,6 +58,40 @@ fn put_contents(
             out.push_str(")")
         }
     }
+}
+
+/// Writes the name of the type at a position.
+fn put_type(out: &mut String, position: usize, names: &[&str]) -> Result<(), AllocError> {
+    match names.get(position) {
+        Some(name) => out.push_str(*name),
+        None => write!(out, "{position}"),
+    }
+}
+
+/// Writes which component selects the type of an open type.
+fn put_selection(
+    out: &mut String,
+    ty: Option<&AsnType>,
+    selection: &Selection,
+    names: &[&str],
+) -> Result<(), AllocError> {
+    out.push_str("CONSTRAINED BY {selected ")?;
+    put_name(out, component_name(ty, selection.open), selection.open)?;
+    out.push_str(" by ")?;
+    put_name(out, component_name(ty, selection.by), selection.by)?;
+    out.push_str(":")?;
+    let mut before = " ";
+    for row in &selection.rows {
+        let number = row.number;
+        write!(out, "{before}{number} ")?;
+        put_type(out, row.ty, names)?;
+        before = ", ";
+    }
+    if selection.extensible {
+        out.push_str(before)?;
+        out.push_str("...")?;
+    }
+    out.push_str("}")
 }
 
 /// Writes the components that have octets which are encodings.

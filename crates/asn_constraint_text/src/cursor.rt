@@ -1,6 +1,7 @@
 //! A text, and how far it is read.
 ghost use Rattle.std.specs.Prelude.{◌≡◌, ◌≤◌, ◌<◌, true, length, IfOk, IfSome};
 
+use crate::extents::{blank_len, digits_len, sign_len, word_len};
 use crate::fault::ConstraintTextFault;
 use crate::strings::hexadecimal_value;
 use std::collections::HashMap;
@@ -13,69 +14,6 @@ pub(crate) struct Cursor<'t> {
     total: usize,
     /// the names of types that CONTAINING may have, with the position of each
     names: Option<&'t HashMap<String, usize>>,
-}
-
-fn is_blank(octet: u8) -> bool {
-    octet == b' ' || (9 <= octet && octet <= 13)
-}
-
-fn is_word_character(octet: u8) -> bool {
-    octet.is_ascii_alphanumeric()
-}
-
-/// How many octets are blank at the start.
-fn blank_len(text: &[u8]) -> usize
-    ensures { result ≤ length text.now }
-{
-    for (index, octet) in text.iter().enumerate() {
-        if !is_blank(*octet) {
-            return index;
-        }
-    }
-    text.len()
-}
-
-/// How many octets a word has at the start: letters, digits, and hyphens before these.
-fn word_len(text: &[u8]) -> usize
-    ensures { result ≤ length text.now }
-{
-    for (index, octet) in text.iter().enumerate() {
-        let is_hyphen = *octet == b'-' && index > 0 && begins_word(&text[index + 1..]);
-        if !is_word_character(*octet) && !is_hyphen {
-            return index;
-        }
-    }
-    text.len()
-}
-
-/// Whether a letter or a digit comes next.
-fn begins_word(text: &[u8]) -> bool {
-    match text {
-        [first, ..] => is_word_character(*first),
-        [] => false,
-    }
-}
-
-/// How many digits are at the start.
-fn digits_len(text: &[u8]) -> usize
-    ensures { result ≤ length text.now }
-{
-    for (index, octet) in text.iter().enumerate() {
-        if !octet.is_ascii_digit() {
-            return index;
-        }
-    }
-    text.len()
-}
-
-/// How many octets a minus sign has at the start.
-fn sign_len(text: &[u8]) -> usize
-    ensures { result ≤ length text.now }
-{
-    match text {
-        [b'-', ..] => 1,
-        _ => 0,
-    }
 }
 
 /// The number that digits write.
@@ -232,6 +170,22 @@ impl<'t> Cursor<'t> {
         } else {
             false
         }
+    }
+
+    /// Reads `CONSTRAINED BY {selected`, if it comes next.
+    pub fn takes_selected(&mut self) -> bool
+        ensures within { length self.new.rest.now ≤ length self.old.rest.now }
+    {
+        let start = self.rest;
+        if self.takes_word(b"CONSTRAINED")
+            && self.takes_word(b"BY")
+            && self.takes(b'{')
+            && self.takes_word(b"selected")
+        {
+            return true;
+        }
+        self.rest = start;
+        false
     }
 
     /// Reads this name if it comes next, after a comma where it is not the first one.

@@ -4,6 +4,7 @@
 mod contents_writing;
 mod copying;
 mod cursor;
+mod extents;
 mod fault;
 mod leaves;
 mod lines;
@@ -11,6 +12,7 @@ mod module;
 mod read;
 mod reading;
 mod references;
+mod selected_reading;
 mod strings;
 mod value_reading;
 mod value_writing;

@@ -7,6 +7,7 @@ use crate::leaves::{OF_TYPE, free_component, items_at, leaf_at, numbers_at, pres
 use crate::read::{
     Listed, Read, above, both, either, elements_of, leaf, leaf_of_contents, of_components,
 };
+use crate::selected_reading::{TYPE_NAME, selected_at};
 use crate::value_reading::{ALTERNATIVE, COMPONENT, part_index};
 use asn_constraints::{Component, Constraint};
 use asn_contents::Contents;
@@ -159,6 +160,9 @@ fn single_at(
     if cursor.takes_word(b"CONTAINING") {
         return containing_at(ty, cursor);
     }
+    if cursor.takes_selected() {
+        return selected_at(alloc, ty, cursor);
+    }
     Ok(leaf(leaf_at(alloc, ty, cursor)?))
 }
 
@@ -171,7 +175,7 @@ fn containing_at(ty: &AsnType, cursor: &mut Cursor<'_>) -> Result<Read, Constrai
     };
     match cursor.type_name() {
         Some(position) => Ok(leaf_of_contents(Contents::Octets(position))),
-        None => Err(cursor.fault("the name of a type of the module")),
+        None => Err(cursor.fault(TYPE_NAME)),
     }
 }
 

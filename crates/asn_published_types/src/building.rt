@@ -2,6 +2,7 @@
 use crate::containing::ContentPlace;
 use crate::expansion::Expansion;
 use crate::instances::Instances;
+use crate::selecting::Table;
 use asn_published_text::extents::{Rest, after_constraints, after_tags, rest_of};
 use asn_published_text::instructions::has_own_instruction;
 use asn_published_text::modules::World;
@@ -20,6 +21,8 @@ pub struct Forest<'t> {
     pub instances: Instances,
     /// The types that octets contain, where CONTAINING is.
     pub(crate) contained: HashMap<ContentPlace, usize>,
+    /// The tables of components, by their nodes.
+    pub(crate) tables: HashMap<usize, Table<'t>>,
     /// The assignment whose type is built.
     pub(crate) assignment: usize,
     expansion: Expansion,
@@ -50,6 +53,7 @@ impl<'t> Forest<'t> {
             members: Vec::new(alloc),
             instances: Instances::new(alloc),
             contained: HashMap::new(alloc),
+            tables: HashMap::new(alloc),
             assignment: 0,
             expansion: Expansion::none(),
         }

@@ -26,11 +26,11 @@ pub(crate) struct ContentPlace {
 
 /// A type that is written from an index of a module to before another.
 #[derive(Clone, Copy)]
-struct Written {
-    module: usize,
-    start: usize,
-    end: usize,
-    instance: Option<usize>,
+pub(crate) struct Written {
+    pub module: usize,
+    pub start: usize,
+    pub end: usize,
+    pub instance: Option<usize>,
 }
 
 impl<'t> Forest<'t> {
@@ -143,7 +143,7 @@ impl<'t> Forest<'t> {
     }
 
     /// The index among all types of one that is written in a constraint; `None` where it is no type.
-    fn entry_of(
+    pub(crate) fn entry_of(
         &mut self,
         alloc: Global,
         world: &World<'t>,
@@ -183,40 +183,51 @@ impl<'t> Forest<'t> {
         written: Written,
     ) -> Result<Option<usize>, AllocError> {
         match world.reference_at(written.module, written.start) {
-            Ok((to, behind)) if world.assigns(to, What::Type) => {
-                let Some(assignment) = world.assignment(to) else {
-                    return Ok(None);
-                };
-                let Some(parameters) = assignment.parameters else {
-                    return if behind == written.end {
-                        Ok(Some(to))
-                    } else {
-                        self.entry_in_place(alloc, world, written)
-                    };
-                };
-                let there = world.tokens_of(assignment.module);
-                let is_whole = tokens.is(behind, Sign::LeftBrace)
-                    && tokens.after(behind) == written.end
-                    && are_as_many(tokens, behind, there, parameters);
-                if !is_whole {
-                    return self.entry_in_place(alloc, world, written);
-                }
-                let asked = Instance {
-                    assignment: to,
-                    module: written.module,
-                    braces: behind,
-                    outer: written.instance,
-                    level: 0,
-                    end: None,
-                };
-                self.entry_of_instance(alloc, world, asked)
-            }
-            Ok(_) => Ok(None),
+            Ok((to, behind)) => self.entry_assigned(alloc, world, tokens, written, to, behind),
             Err(_) if is_type_begun(tokens, written.start) => {
                 self.entry_in_place(alloc, world, written)
             }
             Err(_) => Ok(None),
         }
+    }
+
+    /// The same of a type that begins with the name of an assignment, behind which an index is.
+    fn entry_assigned(
+        &mut self,
+        alloc: Global,
+        world: &World<'t>,
+        tokens: &Tokens<'t>,
+        written: Written,
+        to: usize,
+        behind: usize,
+    ) -> Result<Option<usize>, AllocError> {
+        let assignment = match world.assignment(to) {
+            Some(it) if it.what == What::Type => it,
+            _ => return Ok(None),
+        };
+        let Some(parameters) = assignment.parameters else {
+            return if behind == written.end {
+                Ok(Some(to))
+            } else {
+                self.entry_in_place(alloc, world, written)
+            };
+        };
+        let there = world.tokens_of(assignment.module);
+        let is_whole = tokens.is(behind, Sign::LeftBrace)
+            && tokens.after(behind) == written.end
+            && are_as_many(tokens, behind, there, parameters);
+        if !is_whole {
+            return self.entry_in_place(alloc, world, written);
+        }
+        let asked = Instance {
+            assignment: to,
+            module: written.module,
+            braces: behind,
+            outer: written.instance,
+            level: 0,
+            end: None,
+        };
+        self.entry_of_instance(alloc, world, asked)
     }
 
     /// The same of a type that is written in place: it is counted among the instances.

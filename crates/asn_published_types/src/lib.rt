@@ -33,6 +33,8 @@ mod quoted;
 pub mod ranges;
 pub mod report;
 pub mod seen;
+pub mod selecting;
+mod set_places;
 mod shapes;
 pub mod steps;
 pub mod subtypes;

@@ -15,6 +15,7 @@ mod settling;
 pub mod sources;
 mod spliced;
 mod strings;
+mod tables;
 mod totals;
 pub mod wanted;
 mod weights;

@@ -186,8 +186,8 @@ fn push_selected<'v>(
 ) -> Result<(), AllocError>
     ensures { OnOk result (content_list found.new.items ≡ content_list found.old.items
         ++ of_selected (map row_of selection.now.rows.items) selection.now.extensible
-            (path.now ++ selection.now.open ∷ []) (number_at selection.now.by (entries_seen entries.now))
-            (octets_at selection.now.open (entries_seen entries.now))) }
+        (path.now ++ selection.now.open ∷ []) (number_at selection.now.by (entries_seen entries.now))
+        (octets_at selection.now.open (entries_seen entries.now))) }
 {
     match octets_at(entries, selection.open) {
         None => Ok(()),

@@ -1,6 +1,7 @@
 //! What a type is that begins with a word: a reserved one, a reference, a parameter, or the field of a class.
 use crate::building::{Forest, Task};
 use crate::classes::{Field, class_at_field, field_at};
+use crate::containing::content_end;
 use crate::instances::{Actual, Instance, are_as_many};
 use crate::places::{after_table, after_unseen, root_end};
 use crate::tags::is_tag;
@@ -251,6 +252,11 @@ impl<'t> Forest<'t> {
         for _ in 0..tokens.len() {
             if at >= node.end {
                 break;
+            }
+            if let Some(end) = content_end(tokens, at) {
+                at = end;
+                may_begin = false;
+                continue;
             }
             if tokens.is(at, Sign::Becomes) {
                 // a value set, in braces

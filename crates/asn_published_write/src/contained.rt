@@ -27,17 +27,16 @@ pub(crate) fn write_settled(
         let statuses = before.clone()?;
         let again = totals.again(alloc);
         let (written, taken) = write_with(alloc, sources, options, refused, again, statuses)?;
+        let after = statuses_of(alloc, &written)?;
         let mut is_settled = true;
         for entry in &contained {
-            let status = status_of(&written, *entry);
-            if let Some(place) = before.get_mut(*entry) {
-                is_settled &= *place == status;
-                *place = status;
-            }
+            let one = status_at(before.as_slice(), *entry);
+            is_settled &= one == status_at(after.as_slice(), *entry);
         }
         if is_settled {
             return Ok((written, taken));
         }
+        before = after;
     }
     let statuses = no_contents(alloc, sources)?;
     write_with(
@@ -68,12 +67,36 @@ fn contained_in(alloc: Global, sources: &Sources<'_>) -> Result<Vec<usize>, Allo
     Ok(contained)
 }
 
-/// What became of a type; the same where it is not written.
-fn status_of(written: &Written, entry: usize) -> Status {
-    match written.reports.get(entry) {
-        Some(Some(report)) => report.status,
-        _ => Status::Same,
+/// The status of a type; the same where there is none.
+fn status_at(statuses: &[Status], entry: usize) -> Status {
+    match statuses.get(entry) {
+        Some(status) => *status,
+        None => Status::Same,
     }
+}
+
+/// What became of each type, those that it uses counted too; the same where it is not written.
+fn statuses_of(alloc: Global, written: &Written) -> Result<Vec<Status>, AllocError> {
+    let mut statuses = vec![in alloc; Status::Same; written.reports.len()]?;
+    let mut at = written.reports.len();
+    for _ in 0..written.reports.len() {
+        at = at.saturating_sub(1);
+        let Some(Some(report)) = written.reports.get(at) else {
+            continue;
+        };
+        let mut status = report.status;
+        for used in &report.uses {
+            status = match status_at(statuses.as_slice(), *used) {
+                // (what holds a type that is refused does not look at it)
+                Status::Refused => status.worse(Status::Wider),
+                other => status.worse(other),
+            };
+        }
+        if let Some(place) = statuses.get_mut(at) {
+            *place = status;
+        }
+    }
+    Ok(statuses)
 }
 
 /// A type, and those that octets contain in its values, in theirs and so on, each once.

@@ -13,7 +13,7 @@ use asn_published_text::tokens::{Tokens, next};
 use asn_published_text::words::is_type_word;
 use std::alloc::{AllocError, Global};
 
-/// How many dummy parameters are followed to what stands for them.
+/// How many dummy parameters are followed to the actual ones.
 const MOST_NAMES: u32 = 100;
 
 /// Where the word CONTAINING is: the module, its index there, and the instance whose parameters are known.
@@ -174,7 +174,7 @@ impl<'t> Forest<'t> {
         Ok(None)
     }
 
-    /// The same of a type whose first name stands for no parameter.
+    /// The same of a type whose first name is no parameter.
     fn entry_named(
         &mut self,
         alloc: Global,

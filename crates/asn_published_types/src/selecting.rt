@@ -280,7 +280,7 @@ impl<'t> Forest<'t> {
         }
     }
 
-    /// The set that stands for a parameter of this name; `None` where the name is none.
+    /// The set that is given for a parameter of this name; `None` where the name is none.
     fn set_of_parameter(
         &self,
         world: &World<'t>,

@@ -13,15 +13,17 @@ import tempfile
 
 HERE = os.path.dirname(os.path.abspath(__file__))
 HEADERS = f"{os.path.dirname(os.path.dirname(HERE))}/bindings/c"
-# a type around a type, and a value around its value
+COMPONENT = "(WITH COMPONENTS {{..., a {0}}})"
+# a type around a type, a value around its value, and a constraint around its constraint
 AROUND = {
-    "SEQUENCE": ("SEQUENCE {{ a {0} }}", '{{"a":{0}}}'),
-    "OPTIONAL": ("SEQUENCE {{ a {0} OPTIONAL, b BOOLEAN DEFAULT TRUE }}", '{{"a":{0}}}'),
-    "addition": ("SEQUENCE {{ b BOOLEAN, ..., a {0} OPTIONAL }}", '{{"b":true,"a":{0}}}'),
-    "CHOICE": ("CHOICE {{ a {0}, b NULL }}", '{{"a":{0}}}'),
-    "alternative after the extension mark": ("CHOICE {{ b NULL, ..., a {0} }}", '{{"a":{0}}}'),
-    "SEQUENCE OF": ("SEQUENCE OF {0}", "[{0}]"),
-    "SEQUENCE OF (SIZE (0..3))": ("SEQUENCE (SIZE (0..3)) OF {0}", "[{0}]"),
+    "SEQUENCE": ("SEQUENCE {{ a {0} }}", '{{"a":{0}}}', COMPONENT),
+    "OPTIONAL": ("SEQUENCE {{ a {0} OPTIONAL, b BOOLEAN DEFAULT TRUE }}", '{{"a":{0}}}', COMPONENT),
+    "addition": ("SEQUENCE {{ b BOOLEAN, ..., a {0} OPTIONAL }}", '{{"b":true,"a":{0}}}', COMPONENT),
+    "CHOICE": ("CHOICE {{ a {0}, b NULL }}", '{{"a":{0}}}', "(WITH COMPONENTS {{a {0}, b}})"),
+    "alternative after the extension mark": ("CHOICE {{ b NULL, ..., a {0} }}", '{{"a":{0}}}',
+                                             "(WITH COMPONENTS {{b, a {0}}})"),
+    "SEQUENCE OF": ("SEQUENCE OF {0}", "[{0}]", "(WITH COMPONENT {0})"),
+    "SEQUENCE OF (SIZE (0..3))": ("SEQUENCE (SIZE (0..3)) OF {0}", "[{0}]", "(WITH COMPONENT {0})"),
 }
 # what is innermost, and a value of it
 INNERMOST = {
@@ -36,16 +38,18 @@ LEVELS = 64
 
 
 def deep(around, innermost, levels):
-    """A type of at most that many levels, whose kinds take turns, and a value of it. A SEQUENCE OF takes two levels."""
+    """A type of at most that many levels, whose kinds take turns, a value of it, and a constraint that the innermost
+    INTEGER meets. A SEQUENCE OF takes two levels."""
     outside = []
     left = levels - 1
     while left >= (2 if (name := around[len(outside) % len(around)]).startswith("SEQUENCE OF") else 1):
         outside.append(AROUND[name])
         left -= 2 if name.startswith("SEQUENCE OF") else 1
     kind, value = INNERMOST[innermost]
-    for of_type, of_value in reversed(outside):
-        kind, value = of_type.format(kind), of_value.format(value)
-    return kind, value
+    constraint = "(-9..-1 | 3)"
+    for of_type, of_value, of_constraint in reversed(outside):
+        kind, value, constraint = of_type.format(kind), of_value.format(value), of_constraint.format(constraint)
+    return kind, value, constraint
 
 
 def subjects():
@@ -53,7 +57,14 @@ def subjects():
     for around in [(it,) for it in AROUND] + [("addition", "SEQUENCE OF"), ("SEQUENCE", "CHOICE", "SEQUENCE OF"),
                                               ("alternative after the extension mark", "addition")]:
         for innermost in INNERMOST:
-            yield f"{' and '.join(around)}, of {innermost}", deep(around, innermost, LEVELS)
+            kind, value, constraint = deep(around, innermost, LEVELS)
+            yield f"{' and '.join(around)}, of {innermost}", (module(f"T ::= {kind}"), value)
+            if innermost == "INTEGER":
+                yield f"{' and '.join(around)}, under a constraint", (constrained(kind, constraint), value)
+
+
+def constrained(kind, constraint):
+    return module(f"T ::= {kind}\n--: T {constraint}\n")
 
 
 def module(assignments):
@@ -62,7 +73,7 @@ def module(assignments):
 
 def refused():
     """Texts of modules and of JSON that are nested far deeper than a type may be, each with a name."""
-    for kind, (of_type, of_value) in AROUND.items():
+    for kind, (of_type, of_value, _) in AROUND.items():
         before, after = of_type.format("#").split("#")
         yield f"100,000 times {kind}", (module(f"T ::= {before * 100000} INTEGER {after * 100000}"), "1")
         yield f"1,000,000 times {kind} begun", (f"M DEFINITIONS AUTOMATIC TAGS ::= BEGIN T ::= {before * 1000000}", "1")
@@ -71,6 +82,13 @@ def refused():
     parts = " ".join(f"A{it} ::= SEQUENCE {{ a A{it + 1}, b A{it + 1} }}" for it in range(29))
     yield "a type of 2^29 parts", (module(f"T ::= A0 {parts} A29 ::= NULL"), "1")
     yield "1,000,000 parentheses", (module(f"T ::= INTEGER {'(' * 1000000}"), "1")
+    for count in (256, 1000000):
+        nested = f"{'(' * count}ALL EXCEPT NULL{')' * count}"
+        yield f"{count} parentheses of a constraint", (constrained("NULL", nested), "1")
+        operands = " | ".join(["ALL EXCEPT NULL"] * min(count, 100000))
+        yield f"{min(count, 100000)} operands of a constraint", (constrained("NULL", f"({operands})"), "1")
+    chain = "\n".join(f"A{it} ::= A{it + 1}\n--: A{it} (1..5 | 7)" for it in range(256))
+    yield "256 names with a constraint", (module(f"T ::= A0\n{chain}\nA256 ::= INTEGER"), "1")
     chain = " ".join(f"A{it} ::= A{it + 1}" for it in range(20000))
     yield "a chain of 20,000 references", (module(f"T ::= A0 {chain} A20000 ::= NULL"), "1")
 
@@ -107,8 +125,8 @@ def main():
         build = ["gcc", "-std=c11", "-O2", "-Wall", "-Wextra", "-pthread", f"-I{out}", f"-I{HEADERS}", *source]
         subprocess.run(build, check=True)
         print(f"types of {LEVELS} levels:")
-        most_of(folder, [(name, (module(f"T ::= {kind}"), value)) for name, (kind, value) in subjects()])
-        print("texts that the library rejects:")
+        most_of(folder, subjects())
+        print("texts that are nested far deeper:")
         most_of(folder, refused(), ["-"])
 
 

@@ -1,2 +1,2 @@
-pub mod Finding
+pub mod Places
 pub mod Entries

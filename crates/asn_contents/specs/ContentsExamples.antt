@@ -9,7 +9,9 @@ use Rattle.asn_contents.specs.Contents.{Contents, nowhere, in_octets, in_compone
 abbrev pub flagged : Contents
 flagged = in_components (part nowhere (part (in_octets 0) no_parts))
 
-pub one_octet_inside : places_in flagged [] (entries (Some (truth true) ∷ Some (octet_list (hex "07")) ∷ [])) ≡ one_content (1 ∷ []) (Some 0) (hex "07") ∷ []
+pub one_octet_inside :
+    places_in flagged [] (entries (Some (truth true) ∷ Some (octet_list (hex "07")) ∷ []))
+    ≡ one_content (1 ∷ []) (Some 0) (hex "07") ∷ []
 one_octet_inside = refl
 
 pub absent_octets : places_in flagged [] (entries (Some (truth true) ∷ None ∷ [])) ≡ []
@@ -29,13 +31,19 @@ second_element = refl
 abbrev pub of_two : Contents
 of_two = selected 0 1 ((pos 1, 0) ∷ (pos 2, 1) ∷ []) false
 
-pub a_truth_value : places_in of_two [] (entries (Some (number (pos 1)) ∷ Some (octet_list (hex "80")) ∷ [])) ≡ one_content (1 ∷ []) (Some 0) (hex "80") ∷ []
+pub a_truth_value :
+    places_in of_two [] (entries (Some (number (pos 1)) ∷ Some (octet_list (hex "80")) ∷ []))
+    ≡ one_content (1 ∷ []) (Some 0) (hex "80") ∷ []
 a_truth_value = refl
 
-pub a_number : places_in of_two [] (entries (Some (number (pos 2)) ∷ Some (octet_list (hex "07")) ∷ [])) ≡ one_content (1 ∷ []) (Some 1) (hex "07") ∷ []
+pub a_number :
+    places_in of_two [] (entries (Some (number (pos 2)) ∷ Some (octet_list (hex "07")) ∷ []))
+    ≡ one_content (1 ∷ []) (Some 1) (hex "07") ∷ []
 a_number = refl
 
-pub no_type : places_in of_two [] (entries (Some (number (pos 3)) ∷ Some (octet_list (hex "00")) ∷ [])) ≡ one_content (1 ∷ []) None (hex "00") ∷ []
+pub no_type :
+    places_in of_two [] (entries (Some (number (pos 3)) ∷ Some (octet_list (hex "00")) ∷ []))
+    ≡ one_content (1 ∷ []) None (hex "00") ∷ []
 no_type = refl
 
 -- the same with a mark in S
@@ -45,7 +53,9 @@ of_two_or_more = selected 0 1 ((pos 1, 0) ∷ (pos 2, 1) ∷ []) true
 pub any_octets : places_in of_two_or_more [] (entries (Some (number (pos 3)) ∷ Some (octet_list (hex "00")) ∷ [])) ≡ []
 any_octets = refl
 
-pub a_known_number : places_in of_two_or_more [] (entries (Some (number (pos 2)) ∷ Some (octet_list (hex "07")) ∷ [])) ≡ one_content (1 ∷ []) (Some 1) (hex "07") ∷ []
+pub a_known_number :
+    places_in of_two_or_more [] (entries (Some (number (pos 2)) ∷ Some (octet_list (hex "07")) ∷ []))
+    ≡ one_content (1 ∷ []) (Some 1) (hex "07") ∷ []
 a_known_number = refl
 
 -- an open type, and an OCTET STRING in another component

@@ -5,7 +5,7 @@ use Rattle.asn_values.specs.View.{datum_of}
 use Rattle.asn_contents.specs.Contents.{places_in, of_entry}
 use Rattle.asn_contents.specs.View.{contents_of, content_list}
 use Rattle.asn_contents.proofs.Entries.{of_entry_there, of_no_entry}
-use Rattle.asn_contents.proofs.Finding.{in_sequence, in_list, in_both, in_selected, at_alternative, no_alternative, part_next, parts_done, element_next, elements_done}
+use Rattle.asn_contents.proofs.Places.{in_sequence, in_list, in_both, in_selected, at_alternative, no_alternative, part_next, parts_done, element_next, elements_done}
 use Rattle.asn_contents.proofs.finding.+finding.Goals as goal
 
 pub push_contents-returns-in-Seq : goal.push_contents-returns-in-Seq

@@ -2,7 +2,7 @@ use Rattle.std.proofs.Common.{◌≡◌, ◌++◌, map}
 use Rattle.asn_values.specs.View.{datum_of, entries_seen}
 use Rattle.asn_contents.specs.Contents.{places_in, of_parts, of_elements}
 use Rattle.asn_contents.specs.View.{contents_of, parts_seen, content_list}
-use Rattle.asn_contents.proofs.Finding.{rest_of_parts, rest_of_elements}
+use Rattle.asn_contents.proofs.Places.{rest_of_parts, rest_of_elements}
 use Rattle.asn_contents.proofs.finding.+finding.Given as goal
 
 -- those of the parts left come after those found so far

@@ -1,9 +1,9 @@
-use Rattle.std.proofs.Common.{◌++◌, ◌∷◌, [], ◌∙◌, ◌≡◌, Some, None, List, ℕ, option_map, map, ap, sym, refl}
+use Rattle.std.proofs.Common.{◌++◌, ◌∷◌, [], ◌∙◌, ◌≡◌, Some, None, option_map, map, ap, sym}
 use Rattle.std.proofs.lemmas.Result.{on_ok_weaker}
 use Rattle.asn_values.specs.View.{entries_seen}
 use Rattle.asn_contents.specs.Contents.{number_at, octets_at}
 use Rattle.asn_contents.specs.View.{row_of, octets_now, content_list}
-use Rattle.asn_contents.proofs.Finding.{selected_absent, selected_there}
+use Rattle.asn_contents.proofs.Places.{selected_absent, selected_there}
 use Rattle.asn_contents.proofs.finding.push_selected.Goals as goal
 
 pub returns-in-None : goal.returns-in-None

@@ -113,8 +113,8 @@ fn excluded_index(root: &[Item], excluded: Option<u32>) -> Option<u64>
     }
 }
 
-/// The position of the item of the root with this index. Where the items stand in the order of their numbers that is
-/// the index itself, and where their numbers have no gap the lowest tells its number: one pass over them confirms either.
+/// The position of the item of the root with this index. Where the items are in the order of their numbers that is the
+/// index itself, and where the numbers are near each other a set of them in bits gives it: one pass confirms either.
 fn position_of_index(root: &[Item], index: usize) -> u32
     requires good { AreRootItems (map label_of root.now) }
     requires inside { index < length root.now }
@@ -123,12 +123,59 @@ fn position_of_index(root: &[Item], index: usize) -> u32
     if rank(root, root[index].number) == index {
         return index as u32;
     }
-    let ends = ends_of(root);
-    let guess = ends.position_in_row(root, index);
+    let guess = near_position(root, index);
     if guess != index && rank(root, root[guess].number) == index {
         return guess as u32;
     }
-    position_by_numbers(root, &ends, index)
+    position_by_numbers(root, &ends_of(root), index)
+}
+
+/// How many numbers around that of the first item are looked at in one pass.
+const NEAR: u64 = 4096;
+
+/// Where all numbers are near that of the first item, the position of the item with this index; else some position.
+fn near_position(root: &[Item], index: usize) -> usize
+    requires { index < length root.now }
+    ensures { result < length root.now }
+{
+    let lowest = root[0].number.wrapping_sub(NEAR as i64 / 2);
+    let mut found = [0u64; 64];
+    for item in root {
+        let offset = item.number.wrapping_sub(lowest).cast_unsigned();
+        if offset >= NEAR {
+            return index;
+        }
+        found[(offset / 64) as usize] |= 1 << (offset % 64);
+    }
+    let Some(offset) = nth_set(&found, index) else {
+        return index;
+    };
+    let number = lowest.wrapping_add_unsigned(offset);
+    for (position, item) in root.iter().enumerate() {
+        if item.number == number {
+            return position;
+        }
+    }
+    index
+}
+
+/// Which of these bits, the lowest of each word first, is the one before which so many are 1 and which is 1.
+fn nth_set(words: &[u64; 64], before: usize) -> Option<u64> {
+    let mut left = before as u64;
+    let mut offset: u64 = 0;
+    for word in words {
+        let count = u64::from(word.count_ones());
+        if left < count {
+            let mut rest = *word;
+            for _ in 0..left {
+                rest &= rest.wrapping_sub(1);
+            }
+            return Some(offset.wrapping_add(u64::from(rest.trailing_zeros())));
+        }
+        left -= count;
+        offset = offset.wrapping_add(64);
+    }
+    None
 }
 
 /// The lowest and the highest number of some items.
@@ -150,25 +197,6 @@ fn ends_of(items: &[Item]) -> Ends {
 }
 
 impl Ends {
-    /// Where the numbers have no gap, the position of the item whose number lies this far above the lowest; else this
-    /// distance.
-    fn position_in_row(&self, root: &[Item], distance: usize) -> usize
-        requires { distance < length root.now }
-        ensures { result < length root.now }
-    {
-        let width = self.highest.wrapping_sub(self.lowest).cast_unsigned();
-        if width >= root.len() as u64 {
-            return distance;
-        }
-        let number = self.lowest.wrapping_add_unsigned(distance as u64);
-        for (position, item) in root.iter().enumerate() {
-            if item.number == number {
-                return position;
-            }
-        }
-        distance
-    }
-
     /// The number to be tried next above one and below another, where `left` items may lie, and the one sought is at this
     /// place among them, in the order of their numbers: by turns the number that lies as far in the range as the place
     /// does, the one that lies as far as the next place, and the one that halves the range.

@@ -20,9 +20,9 @@ returns-then-rank-index c =
 pub returns-then-rank-index-2 : goal.returns-then-rank-index-2
 returns-then-rank-index-2 c =
     let ls = map label_of c.args.root.now in
-    let q = c.position_in_row-guess.result in
+    let q = c.near_position-guess.result in
     let d = c.index-root-guess.result in
     let x = get_or c.args.root.now q d in
-    let inside : q < length c.args.root.now = c.position_in_row-guess.ensures in
+    let inside : q < length c.args.root.now = c.near_position-guess.ensures in
     let here : to_z w64 (of_z w64 x.number) ≡ number_at ls q = item_kept c.args.root.now q d x c.requires.good inside refl in
     sought_found ls c.requires.good c.args.index (simp length-map c.requires.inside) q (simp length-map inside) (ap (rank ls) (sym here) ∙ sym c.rank-then-guess-index.ensures ∙ c.if-rank-index-2.true)

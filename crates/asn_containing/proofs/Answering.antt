@@ -40,12 +40,12 @@ module _ (r : Ruling) (T : List TableType) (e : TableType) (o : List ℕ) where
       front_judged (datum_of v) (length o) fault (subst (λ (l : List ℕ). AnswerUnder r e.shape e.constraint l (done (datum_of v) (length o))) all h.1) j
 
   pub not_rest : (fault : ConstrainedFault) → is_rest fault ≡ false → DecodedUnder r e.constraint (Err fault) e.shape o → DecodedContaining r T e (Err (containing.Type fault)) o
-  not_rest (under.Type decode.Memory) no h = h
-  not_rest (under.Type (decode.Refused at why)) no h = h
-  not_rest (under.Type (decode.Truncated taken)) no h = h
-  not_rest (under.Type (decode.Rest used)) no h = absurd (true≢false no)
-  not_rest (under.Type decode.TooLong) no h = h
-  not_rest (under.Broken used b) no h = h
+  not_rest (under.Type decode.Memory) other h = h
+  not_rest (under.Type (decode.Refused at why)) other h = h
+  not_rest (under.Type (decode.Truncated taken)) other h = h
+  not_rest (under.Type (decode.Rest used)) other h = absurd (true≢false other)
+  not_rest (under.Type decode.TooLong) other h = h
+  not_rest (under.Broken used b) other h = h
 
   pub front_fault : (fault : ConstrainedFault) (v : Value) → DecodedFrontUnder r e.constraint (Err fault) v e.shape o → DecodedContaining r T e (Err (containing.Type fault)) o
   front_fault (under.Type decode.Memory) v h = h
@@ -58,8 +58,8 @@ module _ (r : Ruling) (T : List TableType) (e : TableType) (o : List ℕ) where
   -- all octets are the encoding
   pub whole_front : (v : Value) (used : ℕ) → DecodedFrontUnder r e.constraint (Ok used) v e.shape o → (used < length o → ⊥) → MeetWithin r T most_levels e.contents (datum_of v)
       → DecodedContaining r T e (Ok v) o
-  whole_front v used h no met =
-      let here = whole_decoded r e.shape o v used h.0 no in
+  whole_front v used h whole met =
+      let here = whole_decoded r e.shape o v used h.0 whole in
       ((here.0, (here.1, h.1)), met)
 
   pub checked : (v : Value) → DecodedContaining r T e (Ok v) o → ChecksContaining r T e (Ok tt) o

@@ -8,7 +8,7 @@ use Rattle.std.proofs.Math.Numerals.{add-one}
 use Rattle.asn_values.specs.Datum.{Datum}
 use Rattle.asn_rules.specs.Answer.{Ruling}
 use Rattle.asn_contents.specs.Contents.{Contents, Content, places_in}
-use Rattle.asn_contents.specs.declared.finding.Content as found
+use Rattle.asn_contents.specs.declared.finding.Content as finding
 use Rattle.asn_contents.specs.View.{content_of, content_list}
 use Rattle.asn_containing.specs.declared.broken.BrokenContents.{BrokenContents}
 use Rattle.asn_containing.specs.declared.broken.ContentsReason.{ContentsReason}
@@ -68,7 +68,7 @@ module _ (r : Ruling) (T : List TableType) where
 
 -- ---- all octets of a value
 
-contained : (found : List found.Content) (i : ℕ) (x : found.Content) → i < length found → x ≡ get_or found i x → (k : ℕ) × (k < length (content_list found)) × (slice_index_or (content_list found) k (content_of x) ≡ content_of x)
+contained : (found : List finding.Content) (i : ℕ) (x : finding.Content) → i < length found → x ≡ get_or found i x → (k : ℕ) × (k < length (content_list found)) × (slice_index_or (content_list found) k (content_of x) ≡ content_of x)
 contained [] i x h is = absurd (omega arith)
 contained (y ∷ ys) zero x h is = (0, omega arith, rw is refl)
 contained (y ∷ ys) (suc i) x h is =
@@ -76,14 +76,14 @@ contained (y ∷ ys) (suc i) x h is =
     (suc rest.0, omega (arith, rest.1), rest.2)
 
 -- all meet where those do that are still to be looked at
-pub record Looking (r : Ruling) (T : List TableType) (n : ℕ) (found : List found.Content) (i : ℕ) : Type 0 where
+pub record Looking (r : Ruling) (T : List TableType) (n : ℕ) (found : List finding.Content) (i : ℕ) : Type 0 where
   pub rest : AllMeet (Within r T n) (content_list (drop i found)) → AllMeet (Within r T n) (content_list found)
 
-module _ (r : Ruling) (T : List TableType) (n : ℕ) (found : List found.Content) where
+module _ (r : Ruling) (T : List TableType) (n : ℕ) (found : List finding.Content) where
   pub looking_first : Looking r T n found 0
   looking_first = record { rest = λ h. h }
 
-  pub looking_next : (i : ℕ) (x : found.Content) → i < length found → x ≡ get_or found i x → (o : Option BrokenContents) → FindsIn r T n (content_of x) o → o ≡ None → Looking r T n found i → Looking r T n found (i + 1)
+  pub looking_next : (i : ℕ) (x : finding.Content) → i < length found → x ≡ get_or found i x → (o : Option BrokenContents) → FindsIn r T n (content_of x) o → o ≡ None → Looking r T n found i → Looking r T n found (i + 1)
   looking_next i x h is o finds none l = record { rest = λ all. l.rest (rest all) }
     where
       met : FindsIn r T n (content_of x) None
@@ -98,7 +98,7 @@ module _ (r : Ruling) (T : List TableType) (n : ℕ) (found : List found.Content
       let none : AllMeet (Within r T n) (content_list (drop i found)) = subst (λ xs. AllMeet (Within r T n) (content_list xs)) (sym past) tt in
       subst (λ xs. AllMeet (Within r T n) xs) is (l.rest none)
 
-  pub breaks_among : (c : Contents) (d : Datum) (i : ℕ) (x : found.Content) (b : BrokenContents) → i < length found → x ≡ get_or found i x → content_list found ≡ places_in c [] d
+  pub breaks_among : (c : Contents) (d : Datum) (i : ℕ) (x : finding.Content) (b : BrokenContents) → i < length found → x ≡ get_or found i x → content_list found ≡ places_in c [] d
       → (o : Option BrokenContents) → FindsIn r T n (content_of x) o → o ≡ Some b → Finds r T n c d (Some b)
   breaks_among c d i x b h is same o finds some =
       (content_of x, subst (λ (l : List Content). Contains l (content_of x)) same (contained found i x h is), subst (λ (q : Option BrokenContents). FindsIn r T n (content_of x) q) some finds)
@@ -113,7 +113,7 @@ judged r T c d b turned reason places f = (breaks, λ all. broken_not_met r T mo
     breaks = rw (places, reason) f
 
     never : (turned.reason ≡ reasons.TooDeep → ⊥) → MeetContents r T c d → ⊥
-    never no m = broken_not_met r T most_levels m.0 c d (map place_of turned.places.items) turned.reason breaks (λ deep. absurd (no deep)) m.1
+    never other m = broken_not_met r T most_levels m.0 c d (map place_of turned.places.items) turned.reason breaks (λ deep. absurd (other deep)) m.1
 
     deep_or_never : (why : ContentsReason) → why ≡ turned.reason → (turned.reason ≡ reasons.TooDeep) ⊎ (MeetContents r T c d → ⊥)
     deep_or_never reasons.TooDeep e = inl (sym e)

@@ -29,18 +29,18 @@ decoded_only r e v os laws good d =
     (is, λ w h. laws.one_value e.shape w (datum_of v) os good h.1.0 is.1.0)
 
 not_read : (fault : ConstrainedFault) (p : List ℕ) → is_memory fault ≡ false → GivesUnlessMemory (Err (convert.Read fault)) p → ⊥
-not_read (under.Type decode.Memory) p no h = true≢false no
-not_read (under.Type (decode.Refused at why)) p no h = h
-not_read (under.Type (decode.Truncated taken)) p no h = h
-not_read (under.Type (decode.Rest used)) p no h = h
-not_read (under.Type decode.TooLong) p no h = h
-not_read (under.Broken used b) p no h = h
+not_read (under.Type decode.Memory) p other h = true≢false other
+not_read (under.Type (decode.Refused at why)) p other h = h
+not_read (under.Type (decode.Truncated taken)) p other h = h
+not_read (under.Type (decode.Rest used)) p other h = h
+not_read (under.Type decode.TooLong) p other h = h
+not_read (under.Broken used b) p other h = h
 
 -- octets of which a fault is reported, and not that of the memory, are the encoding of no value: those of a value are
 -- converted to themselves
 pub no_encoding : (r : Ruling) (e : TableType) (os : List ℕ) (fault : ConstrainedFault) → RulesLaws r → InProfile e.shape → AreOctets os → is_memory fault ≡ false
     → DecodedUnder r e.constraint (Err fault) e.shape os → NoEncoding r e os fault
-no_encoding r e os fault laws good octets no d = (d, λ v h. not_read fault os no (exact r r e.shape e.constraint os os (Err (convert.Read fault)) laws laws good d (to_itself v h)))
+no_encoding r e os fault laws good octets other d = (d, λ v h. not_read fault os other (exact r r e.shape e.constraint os os (Err (convert.Read fault)) laws laws good d (to_itself v h)))
   where
     to_itself : (v : Datum) → IsContent r e v os → ConvertsUnder r r e.constraint e.shape os os
     to_itself v h = (v, h.1.1, record { octets = octets; encoding = h.1.0; within = h.0 }, record { octets = octets; encoding = h.1.0; within = h.0 })

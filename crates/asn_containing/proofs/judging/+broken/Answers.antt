@@ -12,23 +12,23 @@ use Rattle.asn_containing.proofs.Breaking.{type_there, no_type_there, found_here
 use Rattle.asn_containing.proofs.judging.+broken.Goals as goal
 
 pub first_broken-loop-content-init : goal.first_broken-loop-content-init
-first_broken-loop-content-init g t c = looking_first g.R.Rules.ruling (table_of c.args.table.now) c.args.levels c.in_ok-found.field-0.items
+first_broken-loop-content-init g t c = looking_first g.R.Rules.ruling (table_of c.args.table.now) c.args.levels c.in_ok-found.found.items
 
 pub first_broken-returns-in-Some : goal.first_broken-returns-in-Some
 first_broken-returns-in-Some g t c =
-    breaks_among g.R.Rules.ruling (table_of c.args.table.now) c.args.levels c.in_ok-found.field-0.items (contents_of c.args.contents.now) (datum_of c.args.value.now)
+    breaks_among g.R.Rules.ruling (table_of c.args.table.now) c.args.levels c.in_ok-found.found.items (contents_of c.args.contents.now) (datum_of c.args.value.now)
     c.loop-content.content-index c.content-item.result c.in-Some.broken c.loop-content-test.true c.content-item.is c.in_ok-found.ensures
     c.in_ok-broken.field-0 c.in_ok-broken.ensures c.in-Some.is
 
 pub first_broken-loop-content-preserved : goal.first_broken-loop-content-preserved
 first_broken-loop-content-preserved g t c =
-    looking_next g.R.Rules.ruling (table_of c.args.table.now) c.args.levels c.in_ok-found.field-0.items
+    looking_next g.R.Rules.ruling (table_of c.args.table.now) c.args.levels c.in_ok-found.found.items
     c.loop-content.content-index c.content-item.result c.loop-content-test.true c.content-item.is
     c.in_ok-broken.field-0 c.in_ok-broken.ensures c.in_default.is c.loop-content.invariant
 
 pub first_broken-returns : goal.first_broken-returns
 first_broken-returns g t c =
-    all_looked_at g.R.Rules.ruling (table_of c.args.table.now) c.args.levels c.in_ok-found.field-0.items (contents_of c.args.contents.now) (datum_of c.args.value.now)
+    all_looked_at g.R.Rules.ruling (table_of c.args.table.now) c.args.levels c.in_ok-found.found.items (contents_of c.args.contents.now) (datum_of c.args.value.now)
     c.loop-content.content-index c.loop-content-test.false c.in_ok-found.ensures c.loop-content.invariant
 
 pub broken_content-returns-then-levels-eq0 : goal.broken_content-returns-then-levels-eq0
@@ -50,7 +50,26 @@ pub broken_of_type-returns-in-Err : goal.broken_of_type-returns-in-Err
 broken_of_type-returns-in-Err g t c =
     let r = g.R.Rules.ruling in
     let T = table_of c.args.table.now in
-    let e = type_of c.index-table-index-ty.result in
-    let is = ap (type_in T) c.requires.index ∙ type_there c.args.table.now c.args.index c.index-table-index-ty.result c.if-table-index.false c.index-table-index-ty.is in
-    let none = subst (λ (a : Result Value ConstrainedFault). IsContentOrNot r e c.args.content.now.octets.now a) c.in-Err.is c.in_ok-content_value.ensures in
+    let e = type_of c.index-table-index.result in
+    let is = ap (type_in T) c.requires.index ∙ type_there c.args.table.now c.args.index c.index-table-index.result c.if-table-index.false c.index-table-index.is in
+    let none = subst (λ (a : Result Value ConstrainedFault). IsContentOrNot r e c.args.content.now.octets.now a) c.in-Err.is c.in_ok-fault.ensures in
     found_here r T c.args.levels (content_of c.args.content.now) (reason.Octets c.in-Err.fault) c.at_octets-in-Err.result (e, is, none) c.at_octets-in-Err.ensures
+
+pub broken_of_type-returns-in-None : goal.broken_of_type-returns-in-None
+broken_of_type-returns-in-None g t c =
+    let r = g.R.Rules.ruling in
+    let T = table_of c.args.table.now in
+    let e = type_of c.index-table-index.result in
+    let is = ap (type_in T) c.requires.index ∙ type_there c.args.table.now c.args.index c.index-table-index.result c.if-table-index.false c.index-table-index.is in
+    let only = subst (λ (a : Result Value ConstrainedFault). IsContentOrNot r e c.args.content.now.octets.now a) c.in-Ok.is c.in_ok-fault.ensures in
+    all_inside r T c.args.levels (content_of c.args.content.now) e (datum_of c.in-Ok.value) c.in_ok-broken.field-0 c.requires.levels is only c.in_ok-broken.ensures c.in-None.is
+
+pub broken_of_type-returns : goal.broken_of_type-returns
+broken_of_type-returns g t c =
+    let r = g.R.Rules.ruling in
+    let T = table_of c.args.table.now in
+    let e = type_of c.index-table-index.result in
+    let is = ap (type_in T) c.requires.index ∙ type_there c.args.table.now c.args.index c.index-table-index.result c.if-table-index.false c.index-table-index.is in
+    let only = subst (λ (a : Result Value ConstrainedFault). IsContentOrNot r e c.args.content.now.octets.now a) c.in-Ok.is c.in_ok-fault.ensures in
+    breaks_inside r T c.args.levels (content_of c.args.content.now) e (datum_of c.in-Ok.value) c.in_ok-broken.field-0 c.in_ok-at.field-0 c.in-Some.broken c.requires.levels is only
+    c.in_ok-broken.ensures c.in-Some.is c.in_ok-at.ensures.reason c.in_ok-at.ensures.places

@@ -5,7 +5,7 @@ use Rattle.asn_containing.proofs.judging.+broken.Given as goal
 
 -- all octets are right where those are that are still to be looked at
 abbrev pub invariant-first_broken-loop-content : goal.invariant-first_broken-loop-content
-invariant-first_broken-loop-content g l = Looking g.R.Rules.ruling (table_of l.table) l.levels l.found.items l.content-index
+invariant-first_broken-loop-content g l = Looking g.R.Rules.ruling (table_of l.table) l.levels l.content-items l.content-index
 
 -- the contents that may still lie in one another, and the calls for each
 abbrev pub decreases-first_broken : goal.decreases-first_broken

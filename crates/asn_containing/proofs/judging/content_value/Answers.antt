@@ -19,5 +19,5 @@ returns-else-is_memory g c =
     let e = type_of c.args.ty.now in
     let good : InProfile e.shape = rw c.ty.ensures at c.get-of_profile.ensures.of_profile in
     let decoded : DecodedUnder g.R.Rules.ruling e.constraint (Err c.in-Err.fault) e.shape c.args.octets.now = rw c.in-Err.is at c.decode.ensures in
-    let no : is_memory c.in-Err.fault ≡ false = cc in
-    no_encoding g.R.Rules.ruling e c.args.octets.now c.in-Err.fault c.keep_laws.ensures.laws good c.are_octets.ensures no decoded
+    let other : is_memory c.in-Err.fault ≡ false = cc in
+    no_encoding g.R.Rules.ruling e c.args.octets.now c.in-Err.fault c.keep_laws.ensures.laws good c.are_octets.ensures other decoded

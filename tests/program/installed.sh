@@ -35,7 +35,7 @@ completes 'summary text json' flatten --report ''
 completes 'at' show --module a
 completes '--strict' flatten --s
 completes '--explain' show --type Msg --exp
-completes 'hex hex-block base64 binary' show --in ''
+completes 'hex hex-block dump base64 binary' show --in ''
 completes 'hex base64 binary' encode --out ''
 completes 'name declared' show --order ''
 completes 'at' check --messages a

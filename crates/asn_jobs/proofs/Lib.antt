@@ -1,5 +1,8 @@
 pub mod Back
 pub mod Counts
+pub mod DumpSteps
+pub mod DumpTextSteps
+pub mod Found
 pub mod Lengths
 pub mod Lines
 pub mod Steps

@@ -9,7 +9,8 @@ use crate::streams::{Next, next_message};
 use asn_constraints::{Broken, Constraint, path_text};
 use asn_fields::{PAGE_END, page_head, page_note};
 use asn_jobs::{
-    OFFSETS, OctetForm, Order, Place, RuleName, RunFault, is_dump, next_text, octets_in, place_text,
+    OFFSETS, OctetForm, Order, Place, RuleName, RunFault, Texts, dump_fault_text, is_dump,
+    octets_in, place_text,
 };
 use asn_request::asking::Forms;
 use asn_values::Checked;
@@ -102,9 +103,9 @@ fn show_input<'a, R: BufRead>(
         return show_stream(rt, shown, file, input, so_far);
     }
     let mut text = Vec::new(rt.alloc());
-    let mut lines = 0;
+    let mut texts = Texts::new(rt.alloc());
     for _ in 0..u64::MAX {
-        let line = match next_text(input, shown.forms.given, &mut text, &mut lines) {
+        let line = match texts.next(input, shown.forms.given, &mut text) {
             Ok(Some(line)) => line,
             Ok(None) => return Ok(()),
             Err(fault) => return Err(fault_in(file, fault)),
@@ -178,6 +179,11 @@ fn show_text<'a>(
         return show_none(rt, shown, place, so_far);
     }
     let Some(octets) = octets_of(rt.alloc(), shown.forms, text)? else {
+        if form == OctetForm::Dump {
+            let told = dump_fault_text(rt.alloc(), place, text)?;
+            let told = told.as_str();
+            let _ = eprintln!(rt; "{told}");
+        }
         return show_none(rt, shown, place, so_far);
     };
     if shown.forms.is_split {
@@ -240,6 +246,7 @@ fn show_none<'a>(
 ) -> Result<(), ShowFault<'a>> {
     let refusal = match shown.forms.given {
         Some(OctetForm::Base64) => "! base64",
+        Some(OctetForm::Dump) => "! dump",
         _ => "! hex",
     };
     let text = if shown.is_page {

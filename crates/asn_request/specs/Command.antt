@@ -24,7 +24,7 @@ report_names = codes "summary" ∷ codes "text" ∷ codes "json" ∷ []
 
 -- the forms of octets that are given, and of those that are written
 abbrev pub given_names : List Text
-given_names = codes "hex" ∷ codes "hex-block" ∷ codes "base64" ∷ codes "binary" ∷ []
+given_names = codes "hex" ∷ codes "hex-block" ∷ codes "dump" ∷ codes "base64" ∷ codes "binary" ∷ []
 
 abbrev pub written_names : List Text
 written_names = codes "hex" ∷ codes "base64" ∷ codes "binary" ∷ []

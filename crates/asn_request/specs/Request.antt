@@ -100,8 +100,9 @@ form_in rows = option_map_or form_of (first_of (codes "report") rows) form.Summa
 -- the form of octets of a name, and the one that an option names
 abbrev pub octet_form_of : Text → OctetForm
 octet_form_of name = if bytes_eq name (codes "hex-block") then octets.HexBlock
+    else (if bytes_eq name (codes "dump") then octets.Dump
     else (if bytes_eq name (codes "base64") then octets.Base64
-    else (if bytes_eq name (codes "binary") then octets.Binary else octets.Hex))
+    else (if bytes_eq name (codes "binary") then octets.Binary else octets.Hex)))
 
 abbrev pub octet_form_in : Text → List Row → Option OctetForm
 octet_form_in id rows = option_map octet_form_of (first_of id rows)

@@ -11,7 +11,7 @@ use std::alloc::{AllocError, Global};
 static RULES: [&str; 2] = ["per", "oer"];
 
 /// The forms of octets that are given.
-static GIVEN: [&str; 4] = ["hex", "hex-block", "base64", "binary"];
+static GIVEN: [&str; 5] = ["hex", "hex-block", "dump", "base64", "binary"];
 
 /// The forms of octets that are written.
 static WRITTEN: [&str; 3] = ["hex", "base64", "binary"];

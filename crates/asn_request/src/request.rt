@@ -261,6 +261,7 @@ fn octet_form_named(name: &str) -> OctetForm
 {
     match name {
         "hex-block" => OctetForm::HexBlock,
+        "dump" => OctetForm::Dump,
         "base64" => OctetForm::Base64,
         "binary" => OctetForm::Binary,
         _ => OctetForm::Hex,

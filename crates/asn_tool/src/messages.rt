@@ -1,8 +1,8 @@
 //! Messages that are answered one after the other.
 use crate::answering::{Answers, Asked, answer_one};
 use crate::streaming::answer_stream;
-use crate::writing::{refuse_dump, refuse_text};
-use asn_jobs::{OctetForm, Place, RunFault, is_dump, next_text, octets_in};
+use crate::writing::{refuse_as_dump, refuse_dump, refuse_text};
+use asn_jobs::{OctetForm, Place, RunFault, Texts, is_dump, octets_in};
 use asn_look::front_len;
 use std::io::{BufRead, Write};
 
@@ -22,10 +22,10 @@ pub fn answer_input<R: BufRead, W: Write>(
         return answer_stream(rt, input, answers, file, asked);
     }
     let mut text = Vec::new(rt.alloc());
-    let mut lines = 0;
+    let mut texts = Texts::new(rt.alloc());
     let mut all_good = true;
     for _ in 0..u64::MAX {
-        let Some(line) = next_text(input, asked.forms.given, &mut text, &mut lines)? else {
+        let Some(line) = texts.next(input, asked.forms.given, &mut text)? else {
             return Ok(all_good);
         };
         let place = Place {
@@ -66,6 +66,7 @@ fn answer_text<W: Write>(
             }
             answer_octets(rt, answers, place, octets.as_slice(), asked)
         }
+        None if form == OctetForm::Dump => refuse_as_dump(rt, answers, place, text, asked),
         None => refuse_text(rt, answers, place, form, asked),
     }
 }

@@ -17,7 +17,8 @@
  *   - malloc, realloc and free are those of one allocator, and align a block to each power of two up to 16 that divides
  *     its size. No call is made from a signal handler, or from the child that a program with threads has forked.
  *   - The processor is an x86-64 of level v2 or above. A call has enough stack: 512 KiB for a library that LLVM
- *     compiled, 1 MiB for one that Rattle's own compiler did, and half for types of 32 levels (bindings/README.md).
+ *     compiled, 1 MiB for one that Rattle's own compiler did, and half for types of 32 levels (bindings/README.md), by
+ *     tulvorn_type_levels, say.
  *     tulvorn_module and tulvorn_explain_module of a text with constraints take up to 1 MiB and 3 MiB.
  * THREADS. Calls that take a handle as `const` write neither the handle nor its object: threads may pass one handle to
  * them at once, without a lock. Any other use of a handle is by one thread at a time. It may go to another thread, as
@@ -92,9 +93,10 @@ enum {
                                        DEFAULT, another alternative is chosen, or the list has fewer elements */
     /* of tulvorn_check_within and tulvorn_decode_within alone: */
     TULVORN_OVER_BUDGET = 22,       /* the octets are the encoding of a value that takes more than the budget */
-    /* of tulvorn_type alone: */
-    TULVORN_LARGE_CONSTRAINT = 23   /* the constraint of the type has more than 1,000,000 parts, or more than 256 names
+    /* of tulvorn_type and tulvorn_type_levels alone: */
+    TULVORN_LARGE_CONSTRAINT = 23,  /* the constraint of the type has more than 1,000,000 parts, or more than 256 names
                                        that refer one to the next have one */
+    TULVORN_TOO_DEEP = 24           /* of tulvorn_type_levels: the type has more levels */
 };
 
 /* ---- why, where octets are TULVORN_REFUSED: what was being read */
@@ -159,6 +161,12 @@ uint32_t tulvorn_explain_module(const uint8_t *text, size_t len, tulvorn_handle 
    NO_MEMORY. */
 uint32_t tulvorn_type(const tulvorn_handle *module, const uint8_t *name, size_t len, tulvorn_handle *type,
                       tulvorn_fault *fault);
+
+/* As tulvorn_type, of a type of at most that many levels: what each call on it takes of the stack grows with them. A
+   simple type has one level, a SEQUENCE or CHOICE one more than the deepest type inside it, and a SEQUENCE OF two more than
+   its element; no type has more than 64. Answers as tulvorn_type, and TOO_DEEP. */
+uint32_t tulvorn_type_levels(const tulvorn_handle *module, const uint8_t *name, size_t len, uint32_t levels,
+                             tulvorn_handle *type, tulvorn_fault *fault);
 
 /* Puts another handle of the same type into `other`, for another thread, say. Both share one tree and constraint.
    Answers MISUSE where `type` holds no type, NO_MEMORY. */

@@ -93,6 +93,8 @@ int main() {
     Module module(MODULE);
     Type type = module.type("Msg");
     CHECK(code_of([&] { module.type("Other"); }) == TULVORN_NO_NAME);
+    CHECK(code_of([&] { module.type("Msg", 1); }) == TULVORN_TOO_DEEP);
+    CHECK(module.type("Msg", 2).decode(Rules::Per, Octets{0x6b, 0x04}).integer("id") == 5);
     CHECK(code_of([&] { Module wrong("M"); }) == TULVORN_NO_MODULE);
     CHECK(Module::explain("M").find("line 1, column 2: ") == 0);
     Value value = type.from_json(R"({"id":5,"note":"A","colour":"green","key":"00ff","bits":"10"})");

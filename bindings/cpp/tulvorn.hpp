@@ -391,6 +391,15 @@ class Module {
         detail::look(code, fault);
         return type;
     }
+    // The same, if it has at most so many levels.
+    Type type(std::string_view name, std::uint32_t levels) const {
+        Type type;
+        tulvorn_fault fault;
+        auto octets = detail::octets_of(name);
+        auto code = tulvorn_type_levels(held_.get(), octets, name.size(), levels, type.held_.fill(), &fault);
+        detail::look(code, fault);
+        return type;
+    }
 
   private:
     detail::Handle held_;

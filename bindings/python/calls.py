@@ -229,7 +229,9 @@ def faults(spec):
     assert raised(tulvorn.EncodeError, lambda: spec.encode("Msg", {"id": 9})).code == tulvorn.NOT_OF_TYPE
     assert raised(tulvorn.EncodeError, lambda: spec.encode("Msg", {})).code == tulvorn.SHAPE
     assert raised(tulvorn.ModuleError, lambda: tulvorn.compile_string("M")).at == 1
-    assert raised(KeyError, lambda: spec.type("Other"))
+    assert raised(KeyError, lambda: spec.type("Other")) and raised(KeyError, lambda: spec.type("Other", 64))
+    assert raised(tulvorn.ModuleError, lambda: spec.type("Msg", 1)).code == tulvorn.TOO_DEEP
+    assert spec.type("Msg", 2) is spec.type("Msg")
     for rules in ("ber", "PER", 2, True, False):
         assert raised(ValueError, lambda: spec.encode("Msg", {"id": 1}, rules))
         assert raised(ValueError, lambda: spec.type("Msg").decode(b"\x28", rules))

@@ -2,6 +2,7 @@ pub mod Answers
 pub mod Faults
 pub mod Held
 pub mod Kept
+pub mod Levels
 pub mod Misfits
 pub mod Newer
 pub mod Parts

@@ -9,6 +9,7 @@ mod fault;
 mod handle;
 mod held;
 mod json;
+mod levels;
 mod loose;
 mod messages;
 mod misfits;

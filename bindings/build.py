@@ -17,9 +17,11 @@ sys.dont_write_bytecode = True
 HERE = os.path.dirname(os.path.abspath(__file__))
 TOP = os.path.dirname(HERE)
 sys.path[:0] = [f"{TOP}/builder", f"{TOP}/tests/tools"]
+from machines import NAMES, Machine  # noqa: E402
+
 CRATE = "tulvorn_c"
-NEEDED = ("rt", "gcc", "ld", "objcopy", "ar", "nm")
 COMPILERS = ("llvm", "rattle")
+KIT = Machine("x86_64")
 
 
 def call(words, **how):
@@ -143,7 +145,7 @@ def exports_alone(lines):
         yield line
 
 
-def build_object(room, made, flags=()):
+def build_object(room, made, flags=(), machine=KIT):
     """Compiles the library without a proof to the object file `made`, with the compiler's flags. It reuses the room."""
     import room as rooms
     import unproved
@@ -159,8 +161,8 @@ def build_object(room, made, flags=()):
         read = ["-S", "-emit-llvm", "-O0", "-Xclang", "-disable-llvm-passes"]
         call([unproved.CLANG, "-x", "ir", module, *read, "-o", text])
         with open(text, encoding="utf-8") as it, open(code, "w", encoding="utf-8") as to:
-            to.writelines(unproved.as_built(exports_alone(it), unproved.inlining(TOP)))
-        call([unproved.CLANG, *unproved.FRONT, code, "-o", made, *unproved.SHARED, *flags])
+            to.writelines(machine.lines(unproved.as_built(exports_alone(it), unproved.inlining(TOP))))
+        call([unproved.CLANG, *machine.front(unproved.FRONT), code, "-o", made, *unproved.SHARED, *flags])
 
 
 # ---- archives of a proof
@@ -204,36 +206,54 @@ def prove_archives(folder, takes_kept):
 
 # ---- the library
 
-MAP = """{{
+MAP = """TULVORN_{} {{
     global:
 {}
     local:
         *;
 }};
 """
-CONFIG = """prefix={out}
+CONFIG = """libdir=${{pcfiledir}}
+includedir=${{pcfiledir}}
+interface={interface}
+
 Name: tulvorn
 Description: values of ASN.1 types by CANONICAL-PER UNALIGNED and Canonical OER
 Version: {version}
-Cflags: -I${{prefix}}
-Libs: -L${{prefix}} -ltulvorn
+Cflags: -I${{includedir}}
+Libs: -L${{libdir}} -ltulvorn
 """
 
 
-def globals_of(flags, file):
+def globals_of(flags, file, machine):
     """The global names that a file defines, in order."""
-    lines = call(["nm", *flags, "--defined-only", file], stdout=subprocess.PIPE).splitlines()
-    return sorted(it.split()[2] for it in lines if len(it.split()) == 3)
+    said = call([machine.nm, *flags, "--defined-only", file], stdout=subprocess.PIPE)
+    lines = [it.split() for it in said.splitlines()]
+    # (the version of the symbols is an absolute symbol)
+    return sorted(it[2].partition("@")[0] for it in lines if len(it) == 3 and it[1] != "A")
 
 
-def write_config(out):
+def version():
+    """The version of the library, without a word about its proof."""
     with open(f"{TOP}/crates/{CRATE}/specs/Words.antt", encoding="utf-8") as it:
-        version = re.search(r'^version = codes "(.*)"$', it.read(), re.M)[1]
-    with open(f"{out}/tulvorn.pc", "w", encoding="utf-8") as it:
-        it.write(CONFIG.format(out=out, version=version))
+        return re.search(r'^version = codes "(.*)"$', it.read(), re.M)[1]
 
 
-def pack(out, code, is_program=False):
+def interface():
+    """The number of the header, which the shared library has in its name."""
+    with open(f"{HERE}/c/tulvorn.h", encoding="utf-8") as it:
+        return re.search(r"^#define TULVORN_INTERFACE (\d+)$", it.read(), re.M)[1]
+
+
+def heap(folder, machine):
+    """The object file or archive of the allocator for a machine."""
+    if machine.has_kit:
+        return f"{kit_folder()}/c/liblibc_c.a"
+    call([machine.gcc, "-std=c11", "-O2", "-fPIC", "-c", f"{HERE}/c/heap.c", "-o", f"{folder}/heap.o"])
+    return f"{folder}/heap.o"
+
+
+def pack(out, code, is_program=False, machine=KIT):
     """Packs compiled code, with the kit's allocator, as the library in OUT. The exports are its only global names.
 
     The code is an archive or an object file; of a program's object file, what the exports reach is packed.
@@ -243,28 +263,28 @@ def pack(out, code, is_program=False):
     objects = ["--whole-archive", code, "--no-whole-archive"]
     if is_program:
         objects = ["--gc-sections", *[f"--undefined={it}" for it in names], code]
-    archive, shared = f"{out}/libtulvorn.a", f"{out}/libtulvorn.so"
+    archive, shared = f"{out}/libtulvorn.a", f"libtulvorn.so.{interface()}"
     with tempfile.TemporaryDirectory() as folder:
         made, exported = f"{folder}/tulvorn.o", f"{folder}/tulvorn.map"
         # one object, in which all other names are local, so that one program can link two such libraries
-        call(["ld", "-r", "-o", made, *objects, f"{kit_folder()}/c/liblibc_c.a"])
-        call(["objcopy", *[f"--keep-global-symbol={it}" for it in names], made])
+        call([machine.ld, "-r", "-o", made, *objects, heap(folder, machine)])
+        call([machine.objcopy, *[f"--keep-global-symbol={it}" for it in names], made])
         if is_program:
             # without this, names of system calls that only the program makes remain
-            call(["objcopy", "--strip-unneeded", made])
+            call([machine.objcopy, "--strip-unneeded", made])
         with open(exported, "w", encoding="utf-8") as it:
-            it.write(MAP.format("\n".join(f"        {name};" for name in names)))
-        if os.path.exists(archive):
-            os.remove(archive)
-        call(["ar", "rcs", archive, made])
-        link = ["-Wl,-soname,libtulvorn.so.1", "-Wl,-z,defs", f"-Wl,--version-script={exported}"]
-        call(["gcc", "-shared", "-o", f"{shared}.1", made, *link])
-    if os.path.lexists(shared):
-        os.remove(shared)
-    os.symlink("libtulvorn.so.1", shared)
+            it.write(MAP.format(interface(), "\n".join(f"        {name};" for name in names)))
+        for file in (archive, *glob.glob(f"{out}/libtulvorn.so*")):
+            if os.path.lexists(file):
+                os.remove(file)
+        call([machine.ar, "rcs", archive, made])
+        link = [f"-Wl,-soname,{shared}", "-Wl,-z,defs,-z,now", f"-Wl,--version-script={exported}"]
+        call([machine.gcc, "-shared", "-o", f"{out}/{shared}", made, *link])
+    os.symlink(shared, f"{out}/libtulvorn.so")
     shutil.copyfile(f"{HERE}/c/tulvorn.h", f"{out}/tulvorn.h")
-    write_config(out)
-    if not globals_of(["-g"], archive) == globals_of(["-D"], shared) == sorted(names):
+    with open(f"{out}/tulvorn.pc", "w", encoding="utf-8") as it:
+        it.write(CONFIG.format(interface=interface(), version=version()))
+    if not globals_of(["-g"], archive, machine) == globals_of(["-D"], f"{out}/{shared}", machine) == sorted(names):
         sys.exit("bindings/build.py: the library has other names than the exports")
 
 
@@ -283,6 +303,7 @@ def options(words):
     how.add_argument("--object", metavar="FILE", help="pack the exports of a program's object file (builder/room.py)")
     how.add_argument("--fuzzer", **yes, help="leave OUT as an unproved object file whose edges libFuzzer counts")
     how.add_argument("--exports", **yes, help="print the names of the exports, one a line, and build nothing")
+    parser.add_argument("--target", choices=NAMES, default=KIT.name, help="for --unproved: the machine to build for")
     parser.add_argument("--kept", **yes, help="for --both: take the libraries below as `rt ci` left them, unchecked")
     parser.add_argument("--room", metavar="FOLDER", help="for --unproved and --fuzzer: a folder for later builds")
     parser.add_argument("out", metavar="OUT", nargs="?")
@@ -294,17 +315,19 @@ def options(words):
         parser.error("--exports takes no OUT" if given.exports else "OUT is missing")
     if given.kept and not given.both or given.room and not (given.unproved or given.fuzzer):
         parser.error("--kept needs --both, and --room needs --unproved or --fuzzer")
+    if given.target != KIT.name and not given.unproved:
+        parser.error("--target needs --unproved")
     return given
 
 
-def build(given, out, folder):
+def build(given, out, folder, machine):
     """Builds the library by the options; the folder is temporary."""
     room = os.path.abspath(given.room or f"{folder}/room")
     if given.fuzzer:
         build_object(room, out, ["-fsanitize=fuzzer-no-link"])
     elif given.unproved:
-        build_object(room, f"{folder}/unproved.o")
-        pack(out, f"{folder}/unproved.o")
+        build_object(room, f"{folder}/unproved.o", machine=machine)
+        pack(out, f"{folder}/unproved.o", machine=machine)
     elif given.both:
         prove_archives(folder, given.kept)
         for it in COMPILERS:
@@ -322,11 +345,12 @@ def main(words):
     if given.exports:
         print("\n".join(it.name for it in exports()))
         return
-    missing = [it for it in NEEDED if not shutil.which(it)]
+    machine = Machine(given.target)
+    missing = [it for it in ("rt", *machine.tools) if not shutil.which(it)]
     if missing:
         sys.exit(f"bindings/build.py: {' and '.join(missing)} cannot be found")
     with tempfile.TemporaryDirectory(prefix="tulvorn-build-") as folder:
-        build(given, os.path.abspath(given.out), folder)
+        build(given, os.path.abspath(given.out), folder, machine)
 
 
 if __name__ == "__main__":

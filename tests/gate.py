@@ -8,7 +8,8 @@ programs  Test programs, built from the sources without a proof, print what is s
 library   `bindings/test.sh` calls the library for C, of the same build, from four languages.
 
 What needs no proof runs beside the proofs at low priority. A line shows each step as it ends, after its own output. The
-end shows the minutes of a processor and by the clock of each part. The last line is 'N passed, M failed'.
+end shows the minutes of a processor and by the clock of each part, and what failed: of each crate that `rt ci` refused
+the first line that says why. The last line is 'N passed, M failed'.
 """
 import glob
 import os
@@ -37,7 +38,11 @@ FIRST, TOOL = "crates/asn_first/out/asn_first", "crates/asn_tool/out/asn_tool"
 MEMORY, BEHIND = 5_500_000_000, ["nice", "-n", "19"]
 COUNT = re.compile(r"(\d+) passed, (\d+) failed(?:, (\d+) skipped)?")
 PROVED = re.compile(r"rt: (\w+) (?:proved$|is kept: )")
-LOCK, LOST, PARTS = Lock(), [], {it: Counter() for it in ("form", "proofs", "edits", "programs", "library")}
+# what `rt ci` says of a crate that is not proved, what says why in it, and what else steps say of what failed
+REFUSED = re.compile(r"^== (\w+).*\n((?:.*\n)*?)rt: \1\b.* NOT PROVED$", re.M)
+WHY = re.compile(r"error|not proved|no proof|killed|rt fmt")
+TOLD = r"^(?:rt: )?(FAILED: .*|\w.*: (?:FAILED$|(?:what )?the program |its tests FAILED|NOT REFUSED|bad edit|not tried).*)"
+LOCK, LOST, PARTS = Lock(), Counter(), {it: Counter() for it in ("form", "proofs", "edits", "programs", "library")}
 
 
 def say(text):
@@ -59,10 +64,20 @@ def run(words, hear, is_shown, **how):
     return "".join(said), ran.returncode, used.ru_utime + used.ru_stime
 
 
+def reasons(said):
+    """What a step says of what failed: each crate that is not proved with the first line that says why, and the rest."""
+    lines = {name: text.splitlines() or [""] for name, text in REFUSED.findall(said)}
+    why = [f"{name} NOT PROVED: {next(filter(WHY.search, them), them[0])}" for name, them in lines.items()]
+    return [it[:200] for it in (*why, *re.findall(TOLD, said, re.M))][:4]
+
+
 def step(part, words, hear=str, given=os.devnull, stored=None, is_behind=False, **how):
     """Runs a step, and counts its line 'N passed, M failed', its status or its output. One that cannot run fails."""
-    it, begun, seconds, skipped = PARTS[part], time.time(), 0, 0
+    it, begun, seconds, skipped, lost = PARTS[part], time.time(), 0, 0, " ".join(words)
     try:
+        for file in [one for one in words if "/out/" in one and not os.path.isfile(one)]:
+            lost = f"what needs {file}"
+            raise FileNotFoundError(f"there is no {file}")
         with open(given, "rb", closefd=isinstance(given, str)) as stdin:
             said, status, seconds = run([*BEHIND, *words] if is_behind else words, hear, not stored, stdin=stdin, **how)
         counts = [] if stored else COUNT.findall(said)
@@ -73,6 +88,7 @@ def step(part, words, hear=str, given=os.devnull, stored=None, is_behind=False, 
             say(said if failed else f"as {stored}")
             passed = 0 if failed else int((re.findall(r"^(\d+) rows", said, re.M) or [1])[0])
         failed = max(failed, int(status != 0))
+        lost += f" ({'; '.join(reasons(said))})" if failed and reasons(said) else ""
     except Exception as error:
         passed, failed, status = 0, 1, f"{type(error).__name__}: {error}"
     ending = f"; it ended with {status}" if status else f", {skipped} skipped" if skipped else ""
@@ -80,7 +96,7 @@ def step(part, words, hear=str, given=os.devnull, stored=None, is_behind=False, 
     with LOCK:
         it.update(passed=passed, failed=failed, skipped=skipped, seconds=seconds)
         it["begun"], it["ended"] = it["begun"] or begun, time.time()
-        LOST.extend([" ".join(words)] * (failed > 0))
+        LOST[lost] += failed > 0
 
 
 def compare(room, name):
@@ -104,9 +120,10 @@ def steps_of_sources(room):
 
 def steps_of_programs(room):
     """The steps that need the proved programs, side by side."""
-    steps = [["tests/memory/refused_allocations.sh", room], *([f"tests/program/{it}.py", TOOL] for it in SCRIPTS)]
+    steps = [["tests/memory/refused_allocations.sh", room, FIRST, TOOL], *([f"tests/program/{it}.py", TOOL] for it in SCRIPTS)]
     steps += [["examples/run.sh", TOOL], ["tests/program/first.py", FIRST], ["tests/program/installed.sh", TOOL]]
     steps.append(["tests/program/guide.py", TOOL, f"{room}/library"])
+    steps.insert(0, ["bindings/tests/installs.py", f"{room}/library", TOOL])
     with ThreadPoolExecutor(rt.processors()) as pool:
         [*pool.map(lambda words: step("programs", words), steps)]
 
@@ -130,7 +147,7 @@ def proofs(to_edits):
 def main():
     os.chdir(TOP)
     step("form", ["tests/tools/prove.py", "--form"])
-    if not LOST:
+    if not LOST.total():
         from_proofs, to_edits = os.pipe()
         with tempfile.TemporaryDirectory(prefix="tulvorn-gate-") as room, ThreadPoolExecutor(2) as pool:
             sources = pool.submit(steps_of_sources, room)
@@ -142,8 +159,10 @@ def main():
         clock = (it["ended"] - it["begun"]) / 60 if name in PARTS else (time.time() - PARTS["form"]["begun"]) / 60
         counts = ", ".join(f"{it[what]} {what}" for what in ("passed", "failed", "skipped"))
         say(f"{name:9}{it['seconds'] / 60:6.1f} minutes of a processor, {clock:6.1f} by the clock, {counts}")
-    say(f"failed: {', '.join(LOST) or 'nothing'}\n{it['passed']} passed, {it['failed']} failed")
-    return 1 if LOST else 0
+    lost = sorted((name for name in LOST if LOST[name]), key=lambda it: not it.startswith("rt ci"))
+    lost = [f"{name} ({LOST[name]} steps)" if LOST[name] > 1 else name for name in lost]
+    say(f"failed: {', '.join(lost) or 'nothing'}\n{it['passed']} passed, {it['failed']} failed")
+    return 1 if lost else 0
 
 
 if __name__ == "__main__":

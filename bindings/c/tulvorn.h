@@ -71,7 +71,7 @@ enum {
                                        the octets are more than these, whatever they are */
     TULVORN_TOO_SHORT = 7,          /* the caller's octets are fewer than those to be written */
     TULVORN_NOT_TEXT = 8,           /* a text is not UTF-8 */
-    TULVORN_NO_MODULE = 9,          /* the text is no module: `why` below, `at` an octet of it, from 0, or 0 */
+    TULVORN_NO_MODULE = 9,          /* the text is no module, or too large: `why` below, `at` an octet of it, from 0 */
     TULVORN_NO_NAME = 10,           /* the module has no type of that name */
     TULVORN_NOT_OF_TYPE = 11,       /* the value is none of the type, or breaks its constraint */
     TULVORN_NO_JSON = 12,           /* the text is no JSON in UTF-8, or has a number past what is read, as 1e400, half
@@ -122,7 +122,8 @@ enum {
     TULVORN_TWICE = 5,          /* a name that is assigned twice */
     TULVORN_BAD_TYPE = 6,       /* an assignment whose type is none of the profile */
     TULVORN_OUT_OF_PROFILE = 7, /* a word, a number or a constraint that the profile does not have, at `at` */
-    TULVORN_BAD_CONSTRAINT = 8  /* a line with `--:` that is no constraint of a type of the module */
+    TULVORN_TOO_LARGE = 8,      /* its types come to more than 10,000,000, references followed */
+    TULVORN_BAD_CONSTRAINT = 9  /* a line with `--:` that is no constraint of a type of the module */
 };
 
 /* What a call answered: the code that it returns, of REFUSED and NO_MODULE the reason `why`, and of some codes `at`;

@@ -8,7 +8,7 @@
     {'id': 5}
 
 Only the standard library is needed, and the library: the file that TULVORN_LIBRARY names, or libtulvorn.so in this
-file's folder, or libtulvorn.so.1 where the system's linker finds it. `compile_string`, `compile_files`, `encode`,
+file's folder, or libtulvorn.so.2 where the system's linker finds it. `compile_string`, `compile_files`, `encode`,
 `decode` and `decode_with_length` have the names that asn1tools gives them; bindings/README.md lists the differences.
 
 Values are as in JSON, with the kinds of Python where it has them: BOOLEAN is a bool, NULL None, INTEGER an int,
@@ -59,7 +59,8 @@ RULES = {"per": PER, "uper": PER, "oer": OER, PER: PER, OER: OER}
 # the reasons, by their numbers: of octets that are refused, and of a text that is no module
 WHY = ("", "sealed", "default", "length", "extension", "character", "padding", "number", "constraint")
 WHY_NO_MODULE = (
-    "", "bad character", "unexpected", "unknown", "cycle", "twice", "bad type", "out of profile", "bad constraint",
+    "", "bad character", "unexpected", "unknown", "cycle", "twice", "bad type", "out of profile", "too large",
+    "bad constraint",
 )
 REASONS = {REFUSED: WHY, NO_MODULE: WHY_NO_MODULE}
 
@@ -137,7 +138,7 @@ INTERFACE = 2
 def _loaded():
     named = os.environ.get("TULVORN_LIBRARY")
     beside = os.path.join(os.path.dirname(os.path.abspath(__file__)), "libtulvorn.so")
-    library = ctypes.CDLL(named or (beside if os.path.exists(beside) else "libtulvorn.so.1"))
+    library = ctypes.CDLL(named or (beside if os.path.exists(beside) else f"libtulvorn.so.{INTERFACE}"))
     for name, kinds in FUNCTIONS.items():
         given, _, result = kinds.partition(":")
         function = getattr(library, name)
@@ -163,8 +164,8 @@ class TulvornError(Exception):
 
 
 class ModuleError(TulvornError):
-    """A text is no module. Where `why` is `bad character`, `unexpected` or `out of profile`, `at` is the place in its
-    octets, from 0; else it is 0. The words have the line, with a mark."""
+    """A text is no module, or a larger one than is read (`too large`). Where `why` is `bad character`, `unexpected` or
+    `out of profile`, `at` is the place in its octets, from 0; else it is 0. The words have the line, with a mark."""
 
 
 class DecodeError(TulvornError):

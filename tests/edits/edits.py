@@ -4,8 +4,7 @@
 usage: tests/edits/edits.py CRATE..       tries all edits of these crates, and notes the crates where nothing failed
        tests/edits/edits.py CRATE/EDIT..  tries these edits, and notes nothing
        tests/edits/edits.py --all         tries all edits of all crates, and notes the same
-       tests/edits/edits.py --due         tries the crates that are due; with --note it notes them, with --beside it
-                                          tries each crate once its name is read from the input, as in the gate
+       tests/edits/edits.py --due         tries the crates that are due; with --beside each once its name is read
        tests/edits/edits.py --note CRATE..    notes these crates, and tries nothing
        tests/edits/edits.py --list [CRATE..]  lists the edits, what they change, and the crates that are due
 
@@ -28,8 +27,8 @@ A crate is due if `tried` notes other hashes than git has for its folder and its
 One check judges edits of different functions, over what earlier checks of the crate kept. In the gate nothing is kept:
 the check takes the other functions at their contracts. An edit is refused if a goal of its function is false or does
 not type. It is broken if only a proof by hand no longer fits, and named if that proof only names what is gone. These
-and an edit of which the check says nothing are shown and skipped. The gate begins no check after MINUTES: the edits
-that are left stay due.
+and an edit of which the check says nothing are shown and skipped. The gate begins a check once there is memory for it,
+and none after MINUTES: the edits that are left stay due.
 """
 import datetime
 import glob
@@ -47,32 +46,24 @@ from concurrent.futures import ThreadPoolExecutor
 
 sys.dont_write_bytecode = True
 TOP = os.path.dirname(os.path.dirname(os.path.dirname(os.path.abspath(__file__))))
-sys.path.insert(0, f"{TOP}/tests/tools")
+sys.path[:0] = [f"{TOP}/builder", f"{TOP}/tests/tools"]
 from kit import rt, rtlib, share_work  # noqa: E402
+from room import text_of  # noqa: E402
 
 FOLDER, TRIED = "tests/edits", "tests/edits/tried"
 # a check's seconds of a processor and memory, the minutes in which the gate begins checks, and the verdicts that fail
 LIMIT, MEMORY, MINUTES, BEGUN = 1200, 4_500_000_000, 120, time.time()
 FAILURES = ("NOT REFUSED", "bad edit", "not tried")
-
-
-def say(text):
-    print(f"{text}\n", end="", flush=True)
-
-
-def text_of(file):
-    with open(file, encoding="utf-8") as it:
-        return it.read()
-
+say = lambda text: print(f"{text}\n", end="", flush=True)
 
 # ---- the functions of a formatted source file
-
 HEAD = re.compile(r'^( *)(?:pub(?:\([^)]*\))? )?((?:const |unsafe |extern "C" )*)fn (\w+)', re.M)
 OWNER = re.compile(r"^(?:pub(?:\([^)]*\))? )?(?:unsafe )?(impl|trait)\b([^{]*)\{", re.M)
 TYPE = re.compile(r"^(?:pub(?:\([^)]*\))? )?(?:struct|enum|trait) (\w+)", re.M)
 # (the mark of a cycle of types stays)
 CYCLE = re.compile(r"#\[cycle\((\w+)\)\](?!(?:\s*#\[[^\]]*\]|\s*//[^\n]*\n)*\s*(?:pub\S* )?(?:struct|enum) )")
 Function = namedtuple("Function", "name cycle module owner last body end is_const")
+module_of = lambda path: re.sub(r"^src/(?:(?:lib|main)\.rt)?|\.rt$", "", path).replace("/", "::")
 
 
 def without_angles(text):
@@ -104,10 +95,6 @@ def owner_of(kind, head):
     return "Ref" * of.strip().startswith("&") + "".join(names) + arguments_of(front.strip())
 
 
-def module_of(path):
-    return re.sub(r"^src/(?:(?:lib|main)\.rt)?|\.rt$", "", path).replace("/", "::")
-
-
 def functions_in(path, text):
     """The functions of a source file that have a body."""
     for head in HEAD.finditer(text):
@@ -126,12 +113,6 @@ def functions_in(path, text):
             name = f"{owner or module}::{head[3]}".removeprefix("::")
             cycle = cycle and f"{path} {cycle[1]}"
             yield Function(name, cycle, module, owner, head[3], brace, end.end(), "const" in head[2])
-
-
-def function_at(path, text, at):
-    """The name and the cycle of the function in whose body a place is, or None."""
-    found = [it for it in functions_in(path, text) if it.body < at < it.end]
-    return found[-1][:2] if found else None
 
 
 class Edit:
@@ -176,7 +157,8 @@ class Edit:
                 text = text_of(f"{self.crate.folder}/{path}")
                 # the first character that changes: the text before it may be the head of the function
                 at = text.find(old) + len(os.path.commonprefix([old, new]))
-                found.append(function_at(path, text, at) if path.startswith("src/") else None)
+                inside = [it[:2] for it in functions_in(path, text) if it.body < at < it.end]
+                found.append(inside[-1] if inside and path.startswith("src/") else None)
         self.is_body = None not in found
         paths = dict.fromkeys(path for path, _, _ in self.pairs)
         known = [it for path in paths for it in functions_in(path, text_of(f"{self.crate.folder}/{path}"))]
@@ -224,9 +206,7 @@ def groups_of(edits, rule):
 
 
 # ---- functions taken at their contracts
-
 HOLE = """use Rattle.{crate}.proofs.{path}.Statement.{{statement}}
-
 pub {name}_spec : {{M : Type 1}} → statement M
 {name}_spec = ?
 """
@@ -265,7 +245,6 @@ def put_hole(crate, folder, home):
 
 
 # ---- what a check says
-
 LINE = re.compile(r"fn (\S+): (proved|no holes|depends on a hole|not proved|no proof)(.*)")
 NOTE = re.compile(r"note: src/\S+: .*not proved.*\(`([^`]*)`\)(.*)")
 ERROR = re.compile(r"(?:\./)?proofs/(\S+)/\w+\.antt:\d+:\d+: error: (?:`([^`]*)`: )?(.*)")
@@ -336,7 +315,6 @@ class Report:
 
 # ---- checks
 
-
 def checked(crate, edits, functions, kept, at_contracts=False):
     """Checks these functions, or all, in a copy of the crate with these edits, over what is kept: the status and the
     output."""
@@ -403,7 +381,10 @@ class Tries:
 
     def together(self, group, kept=None):
         """Tries edits in one check. If it says nothing, one of them cannot be read or does not end."""
-        if self.at_contracts and time.time() > BEGUN + 60 * MINUTES:
+        is_late = lambda: self.at_contracts and time.time() > BEGUN + 60 * MINUTES
+        while self.at_contracts and rt.free() < MEMORY and not is_late():
+            time.sleep(2)
+        if is_late():
             return self.verdicts.update({it: ("left", "no time is left") for it in group})
         functions = [one for it in group for one in it.functions]
         with tempfile.TemporaryDirectory(prefix=f"rt-edits-{os.getpid()}-") as room:
@@ -431,7 +412,6 @@ class Tries:
 
 
 # ---- which crates are due
-
 
 def hashes():
     """Of each crate the hashes that git has for its folder and its edits, as the files are now."""
@@ -496,9 +476,12 @@ def try_all(crates, edits, is_beside):
         it.verdicts.update({edit: verdict for edit in it.left})
         return it.show()
 
-    rtlib.guarded()
-    if not is_beside:
+    if is_beside:
+        with open("/proc/self/oom_score_adj", "w", encoding="utf-8") as it:
+            it.write("800")  # where memory is used up, the kernel ends a check of edits before it ends a proof
+    else:
         share_work()
+    rtlib.guarded()
     pairs = proved_names(crates) if is_beside else ((it, build_below(it)) for it in crates)
     most = max(1, min(rt.processors() // (2 if is_beside else 1), int(rt.free() // MEMORY)))
     lanes = ThreadPoolExecutor(int(os.environ.get("RT_JOBS") or most))
@@ -530,12 +513,11 @@ def main(words):
         say(f"due: {' '.join(due([*edits], now))}")
         return 0
     if flags == {"--note"}:
-        note(names, (), now)
-        return 0
+        return note(names, (), now)
     is_wanted = lambda it: not single or it.label in single or it.crate.name in words
     wanted = {name: [*filter(is_wanted, edits[name])] for name in chosen}
     tries = try_all([it for it in crates if it.name in chosen], wanted, "--beside" in flags)
-    if not single and ("--due" not in flags or "--note" in flags):
+    if not single and "--due" not in flags:
         failed = {it.crate.name for it in tries if {kind for kind, _ in it.verdicts.values()} - {"refused", "weak"}}
         note([it.crate.name for it in tries if it.crate.name not in failed], failed, now)
     counts = Counter(kind for it in tries for kind, _ in it.verdicts.values())

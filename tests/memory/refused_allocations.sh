@@ -1,15 +1,16 @@
 #!/usr/bin/env bash
 # Refuses in turn each allocation of programs, by tests/memory/refuse_allocation.c.
 #
-# usage: tests/memory/refused_allocations.sh ROOM
+# usage: tests/memory/refused_allocations.sh ROOM FIRST TOOL
 #
 # The program `checks` of tests/programs, which builder/room.py has built in ROOM, makes the calls of the libraries. Of its
 # parts `memory` and `memory_texts` one call has to answer `Memory`, and each other call, and that one when it is made
 # again, what it answers where no allocation is refused. `refused` makes the calls on the rows of
-# tests/programs/rows again and again, and says itself which allocation is refused. The runner asn_first and the program
-# asn_tool, as `rt ci` has built them, have to end with `memory` and status 3.
+# tests/programs/rows again and again, and says itself which allocation is refused. The programs asn_first and asn_tool, FIRST
+# and TOOL, have to end with `memory` and status 3.
 set -euo pipefail
-room=$(realpath "${1:?usage: tests/memory/refused_allocations.sh ROOM}")
+[ $# = 3 ] || { echo "usage: tests/memory/refused_allocations.sh ROOM FIRST TOOL" >&2 && exit 2; }
+room=$(realpath "$1") first_program=$(realpath "$2") tool_program=$(realpath "$3")
 cd "$(dirname "$0")/../.."
 
 work=$(mktemp -d)
@@ -109,11 +110,11 @@ sed 's/^/rows: /' "$work/out"
 
 # ---- the runner and the program: the line `memory` and status 3, and of the output a beginning
 
-refuse_each crates/asn_first/out/asn_first crates/asn_first memory
+refuse_each "$first_program" crates/asn_first memory
 [ "$begun" = 0 ] || fail "asn_first writes before it ends with memory"
 runner=$runs
 # (where the plan of a type, or a reading by it, is refused memory, the message is read without it)
-refuse_each crates/asn_tool/out/asn_tool crates/asn_tool answers
+refuse_each "$tool_program" crates/asn_tool answers
 
 # other words of a command line, some of which ask for no job; examples/faults.sh and tests/program/published.py judge what is
 # answered to them. A few allocations can be done without. What is told of published types stands before `memory`
@@ -124,9 +125,9 @@ answered_to() { # what is read, and the words
   printf '%b' "$1" >"$given/stdin"
   shift
   printf '%s\n' "$@" >"$given/args"
-  crates/asn_tool/out/asn_tool "$@" <"$given/stdin" >"$given/stdout" 2>"$given/stderr" || status=$?
+  "$tool_program" "$@" <"$given/stdin" >"$given/stdout" 2>"$given/stderr" || status=$?
   echo "$status" >"$given/status"
-  refuse_each crates/asn_tool/out/asn_tool "$given" answers
+  refuse_each "$tool_program" "$given" answers
   tool=$((tool + runs))
 }
 module='M DEFINITIONS AUTOMATIC TAGS ::= BEGIN N ::= NULL END\n'

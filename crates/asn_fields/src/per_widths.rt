@@ -1,7 +1,7 @@
 //! How many bits values have in PER (X.691).
 
 use crate::extent::{Extent, octets_above, signed_octets, width_above, width_of};
-use asn_values::profile::HIGHEST_INTEGER;
+use asn_values::profile::{GENERAL_FROM, HIGHEST_INTEGER};
 use asn_values::{Alt, AsnType, Bounds, Field, Need, Size, TextKind};
 
 /// How many bits the values of the type have in PER, without what fills up a complete encoding.
@@ -130,8 +130,7 @@ fn sized_bits(size: &Size, item: Extent) -> Extent {
         };
     };
     let high = u64::from(high);
-    let length = Extent::fixed(width_of(high.saturating_sub(low)));
-    let known = length.and(item.times(low, Some(high)));
+    let known = root_bits(low, high, item);
     if !size.ext {
         return known;
     }
@@ -139,11 +138,40 @@ fn sized_bits(size: &Size, item: Extent) -> Extent {
     marked(known, Some(listed_bits(others, item)))
 }
 
-/// Of this many items or more under their general length. A few items more may have fewer bits, where they fill fragments of
-/// 16,384 items and the last length determinant is an octet shorter.
+/// Of `low` to `high` items of a root: the length is a constrained whole number where the upper bound is below 65,536,
+/// and else general (X.691, "length determinant").
+fn root_bits(low: u64, high: u64, item: Extent) -> Extent {
+    let items = item.times(low, Some(high));
+    if high < u64::from(GENERAL_FROM) {
+        return Extent::fixed(width_of(high.saturating_sub(low))).and(items);
+    }
+    Extent {
+        least: fewest_bits(low, high, item.least),
+        greatest: match (item.greatest, items.greatest) {
+            (Some(most), Some(_)) => Some(most_bits(low, high, most)),
+            _ => None,
+        },
+    }
+}
+
+/// The most bits of `low` to `high` items, of `item` bits each, under their general length: of the highest count, or of
+/// the one before its last whole block, whose length determinants may be an octet longer.
+fn most_bits(low: u64, high: u64, item: u64) -> u64 {
+    let blocks = (high / 16_384).saturating_mul(16_384);
+    let before = blocks.saturating_sub(1).max(low);
+    items_bits(high, item).max(items_bits(before, item))
+}
+
+/// Of this many items or more under their general length.
 fn listed_bits(low: u64, item: Extent) -> Extent {
-    let whole = low.div_ceil(16_384).saturating_mul(16_384);
-    Extent::from(items_bits(low, item.least).min(items_bits(whole, item.least)))
+    Extent::from(fewest_bits(low, u64::MAX, item.least))
+}
+
+/// The fewest bits of `low` to `high` items, of `item` bits each, under their general length. A few items more may have
+/// fewer bits, where they fill fragments of 16,384 items and the last length determinant is an octet shorter.
+fn fewest_bits(low: u64, high: u64, item: u64) -> u64 {
+    let whole = low.div_ceil(16_384).saturating_mul(16_384).min(high);
+    items_bits(low, item).min(items_bits(whole, item))
 }
 
 /// Of this many items, each of as many bits as the other number says, under their general length.

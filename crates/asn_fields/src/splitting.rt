@@ -3,6 +3,7 @@
 use crate::oer_widths::fixed_octets;
 use asn_rules::Unit;
 use asn_values::internal::{is_between, is_in_size};
+use asn_values::profile::{BLOCK, GENERAL_FROM};
 use asn_values::{AsnType, TextKind, Value};
 
 /// The most bits that one length determinant of PER has; more are those of fragments.
@@ -51,7 +52,11 @@ fn split_bits(ty: &AsnType, value: &Value, bits: u64) -> Split {
     Split {
         has_mark,
         is_extended: has_mark && is_outside(ty, value),
-        length: if length > LONGEST_LENGTH { 0 } else { length },
+        length: if length > LONGEST_LENGTH || (count >= BLOCK && is_general(ty, value)) {
+            0
+        } else {
+            length
+        },
         count,
         unused: None,
     }
@@ -105,6 +110,18 @@ fn is_outside(ty: &AsnType, value: &Value) -> bool {
         (AsnType::Bits(size), Value::Bits(bits)) => !is_in_size(size, bits.len()),
         (AsnType::Octets(size), Value::Octets(octets)) => !is_in_size(size, octets.len()),
         (AsnType::Text(_, size), Value::Text(codes)) => !is_in_size(size, codes.len()),
+        _ => false,
+    }
+}
+
+/// Whether a string has a general length determinant in PER: it is outside the root of its type, or no upper bound below
+/// 65,536 is there.
+fn is_general(ty: &AsnType, value: &Value) -> bool {
+    match ty {
+        AsnType::Utf8 => true,
+        AsnType::Bits(size) | AsnType::Octets(size) | AsnType::Text(_, size) => {
+            size.high.is_none_or(|high| high >= GENERAL_FROM) || is_outside(ty, value)
+        }
         _ => false,
     }
 }

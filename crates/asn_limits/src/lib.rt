@@ -22,7 +22,7 @@ pub const OFFSET_OF_ZERO: u128 = 9_223_372_036_854_775_808;
 pub const MAX_LEN: u32 = 268_435_455;
 
 /// The largest bound of a SIZE.
-pub const MAX_SIZE_BOUND: u32 = 65_535;
+pub const MAX_SIZE_BOUND: u32 = 268_435_455;
 
 /// The most components of a SEQUENCE before its extension marker.
 pub const MAX_COMPONENTS: usize = 64;
@@ -51,6 +51,10 @@ pub const BLOCK: u64 = 16_384;
 
 /// The most blocks of a fragment (X.691, "general length determinant").
 pub const MAX_BLOCKS: u64 = 4;
+
+/// The least upper bound of a count that has a general length determinant, and no constrained whole number (X.691,
+/// "length determinant").
+pub const GENERAL_FROM: u32 = 65_536;
 
 /// The constants are the numbers that the definitions name.
 pub fn numbers_are_those_of_the_definitions()

@@ -111,13 +111,13 @@ abbrev pub Again : SizeRange → Option SizeNotation → Type 0
 Again b None = b ≡ any_size
 Again b (Some x) = size_meant x ≡ b
 
-same_bound : (n : ℕ) → nat_lt 65535 n ≡ false → size_bound n ≡ n
+same_bound : (n : ℕ) → nat_lt 268435455 n ≡ false → size_bound n ≡ n
 same_bound n e = rw e refl
 
-same_size : (low : ℕ) (high : Option ℕ) (ext : Bool) → (nat_lt 65535 low || is_large high) ≡ false
+same_size : (low : ℕ) (high : Option ℕ) (ext : Bool) → (nat_lt 268435455 low || is_large high) ≡ false
     → size_meant (record { low = low; high = size_end_printed high; marked = ext }) ≡ record { low = low; high = high; extensible = ext }
-same_size low None ext e = rw (left_false (nat_lt 65535 low) false e) refl
-same_size low (Some n) ext e = rw (left_false (nat_lt 65535 low) (nat_lt 65535 n) e, right_false (nat_lt 65535 low) (nat_lt 65535 n) e) refl
+same_size low None ext e = rw (left_false (nat_lt 268435455 low) false e) refl
+same_size low (Some n) ext e = rw (left_false (nat_lt 268435455 low) (nat_lt 268435455 n) e, right_false (nat_lt 268435455 low) (nat_lt 268435455 n) e) refl
 
 is_zero : (n : ℕ) → nat_lt 0 n ≡ false → n ≡ 0
 is_zero n e = grind (arith, nat_tests)
@@ -148,10 +148,10 @@ list_means look b (Some x) tree shape e m = record { constraint = Some x.marked;
 pub sequence_of_means : (look : List ℕ → Option Meant) (b : SizeRange) (tree : Tree) (shape : Shape) → large_size (Some b) ≡ false → Means look tree shape → Means look (t.sequence_of (bracketed (size_printed b)) tree) (s.sequence_of shape b)
 sequence_of_means look b tree shape e m = list_means look b (size_printed b) tree shape (size_again b e) m
 
-few : (n : ℕ) → nat_lt 65535 n ≡ false → n < highest_number + 1
+few : (n : ℕ) → nat_lt 268435455 n ≡ false → n < highest_number + 1
 few n e = grind (arith, nat_tests)
 
-few_words : (n : ℕ) → nat_lt 65535 n ≡ false → n < 2 ^ 64
+few_words : (n : ℕ) → nat_lt 268435455 n ≡ false → n < 2 ^ 64
 few_words n e = grind (arith, nat_tests)
 
 size_end_fits : (o : Option ℕ) → is_large o ≡ false → IsSizeEnd (size_end_printed o)
@@ -161,7 +161,7 @@ size_end_fits (Some n) e = few n e
 pub size_fits : (b : SizeRange) → large_size (Some b) ≡ false → IfSome (size_printed b) IsSize
 size_fits b e =
     if_printed ((nat_lt 0 b.low || is_some b.high) || b.extensible) _ IsSize
-    (few b.low (left_false (nat_lt 65535 b.low) (is_large b.high) e), size_end_fits b.high (right_false (nat_lt 65535 b.low) (is_large b.high) e))
+    (few b.low (left_false (nat_lt 268435455 b.low) (is_large b.high) e), size_end_fits b.high (right_false (nat_lt 268435455 b.low) (is_large b.high) e))
 
 bracketed_fits : (o : Option SizeNotation) → IfSome o IsSize → IsListSize (bracketed o)
 bracketed_fits None h = tt
@@ -176,11 +176,11 @@ size_end_words (Some n) e = (tt, (few_words n e, tt))
 
 pub size_words : (b : SizeRange) → large_size (Some b) ≡ false → AreWords (g.maybe g.size_con (size_printed b))
 size_words b e =
-    let high = size_end_words b.high (right_false (nat_lt 65535 b.low) (is_large b.high) e) in
+    let high = size_end_words b.high (right_false (nat_lt 268435455 b.low) (is_large b.high) e) in
     let ends = words_append (g.size_end (size_end_printed b.high)) (g.mark b.extensible) high (mark_words b.extensible) in
     let inner = words_append (g.size_end (size_end_printed b.high) ++ g.mark b.extensible) (g.right ∷ []) ends (tt, tt) in
     let x : SizeNotation = record { low = b.low; high = size_end_printed b.high; marked = b.extensible } in
-    let size : AreWords (g.size x) = (tt, (tt, (few_words b.low (left_false (nat_lt 65535 b.low) (is_large b.high) e), inner))) in
+    let size : AreWords (g.size x) = (tt, (tt, (few_words b.low (left_false (nat_lt 268435455 b.low) (is_large b.high) e), inner))) in
     if_words ((nat_lt 0 b.low || is_some b.high) || b.extensible) x g.size_con (tt, words_append (g.size x) (g.right ∷ []) size (tt, tt))
 
 bracketed_words : (o : Option SizeNotation) → AreWords (g.maybe g.size_con o) → AreWords (g.list_sized (bracketed o))

@@ -45,9 +45,9 @@ ranges_meet a b = record { low = greater a.low b.low; high = lesser a.high b.hig
 abbrev pub any_size : SizeRange
 any_size = record { low = 0; high = None; extensible = false }
 
--- a bound above 65535 is none of the profile, whichever it is; 65536 stands for them all
+-- a bound above 2 ^ 28 - 1 is none of the profile, whichever it is; 2 ^ 28 stands for them all
 abbrev pub size_bound : ℕ → ℕ
-size_bound n = if nat_lt 65535 n then 65536 else n
+size_bound n = if nat_lt 268435455 n then 268435456 else n
 
 abbrev pub high_size : ℕ → SizeEnd → Option ℕ
 high_size low Same = Some (size_bound low)

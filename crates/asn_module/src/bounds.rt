@@ -83,7 +83,7 @@ pub(crate) fn any_size() -> Size
     }
 }
 
-/// A bound of a size, 65,536 for each that is above 65,535.
+/// A bound of a size, 268,435,456 for each that is above 268,435,455.
 fn size_bound(bound: u64) -> u32
     ensures { result ≡ spec.size_bound bound }
 {

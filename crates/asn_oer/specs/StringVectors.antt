@@ -98,6 +98,11 @@ octets_of_a_marked_fixed_size = refl
     oer_octets (octet_string any_size) (octet_list (replicate 65536 0xAB)) ≡ hex "83 01 00 00" ++ replicate 65536 0xAB
 65536_octets = refl
 
+-- SIZE (65536): the octets alone
+65536_octets_of_a_fixed_size :
+    oer_octets (octet_string (exactly 65536)) (octet_list (replicate 65536 0xAB)) ≡ replicate 65536 0xAB
+65536_octets_of_a_fixed_size = refl
+
 81920_octets :
     oer_octets (octet_string any_size) (octet_list (replicate 81920 0xAB)) ≡ hex "83 01 40 00" ++ replicate 81920 0xAB
 81920_octets = refl

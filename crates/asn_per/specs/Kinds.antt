@@ -1,6 +1,6 @@
 -- Each kind of type in PER as a language that is put together from the languages of its parts, in the terms
 -- of X.691.
-use Rattle.std.specs.Prelude.{⊤, ◌≡◌, ◌≢◌, ◌+◌, ◌-◌, ◌^◌, ◌<◌, ◌≤◌, ◌⊎◌, ◌==◌, ℕ, zero, suc, ℤ, pos, ◌+ℤ◌, ◌≤ℤ◌, Bool, true, false, List, [], ◌∷◌, ◌++◌, length, Option, Some, None, IsUtf8}
+use Rattle.std.specs.Prelude.{⊤, ◌≡◌, ◌≢◌, ◌+◌, ◌-◌, ◌^◌, ◌<◌, ◌≤◌, ◌⊎◌, ◌==◌, ℕ, zero, suc, nat_lt, ℤ, pos, ◌+ℤ◌, ◌≤ℤ◌, Bool, true, false, List, [], ◌∷◌, ◌++◌, length, Option, Some, None, IsUtf8}
 use Rattle.std.specs.Option.{option_map}
 use mathlib.Core.Logic.{inl, inr}
 use Rattle.asn_values.specs.Datum.{Datum, truth, nothing, number, item, bit_list, octet_list, characters, unicode, components, elements, alternative, component_list, components_of, elements_of}
@@ -126,10 +126,15 @@ pub record IsOtherCount (s : SizeRange) (n : ℕ) : Type 0 where
 abbrev pub CountWithin : ℕ → ℕ → ℕ → List Chunk → Type 0
 CountWithin low high = Map (λ k. low + k) (Below (width (suc (high - low))) (suc (high - low)))
 
--- items of a count in the root: after the count where there is an upper bound, else under their general length
+-- items of a count between the bounds: after the count in bits, or under their general length
+abbrev pub RootForm : {A : Type 0} → Bool → ℕ → ℕ → (A → List Chunk → Type 0) → List A → List Chunk → Type 0
+RootForm true low high L = Map after_first (Then (CountWithin low high) (λ n. Row L n))
+RootForm false low high L = General L (λ n. (low ≤ n) × (n ≤ high))
+
+-- items of a count in the root: after the count where the upper bound is below 65,536 ("length determinant")
 abbrev pub RootSized : {A : Type 0} → ℕ → Option ℕ → (A → List Chunk → Type 0) → List A → List Chunk → Type 0
-RootSized low (Some high) L = Map after_first (Then (CountWithin low high) (λ n. Row L n))
-RootSized low None L = General L (λ n. (low ≤ n) × (n ≤ max_len))
+RootSized low (Some high) L = RootForm (nat_lt high 65536) low high L
+RootSized low None L = RootForm false low max_len L
 
 -- after an extension mark, 0 and the form of the root, or 1 and the items under their general length
 abbrev pub Sized : {A : Type 0} → SizeRange → (A → List Chunk → Type 0) → List A → List Chunk → Type 0
@@ -297,13 +302,13 @@ Utf8StringsCompose = Same Utf8Strings (Values utf8_string)
 abbrev pub ListsCompose : Type 0
 ListsCompose = (t : Shape) (s : SizeRange) → InProfile (sequence_of t s) → Same (ListsOf t s) (Values (sequence_of t s))
 
--- a list of a fixed count stands without it: bits, octets, characters and elements
+-- a list of a fixed count below 65,536 has no length: bits, octets, characters and elements
 abbrev pub FixedSizesCompose : Type 0
 FixedSizesCompose =
-    ((n : ℕ) → Same (Row Bit n) (RootSized n (Some n) Bit))
-    × ((n : ℕ) → Same (Row Octet n) (RootSized n (Some n) Octet))
-    × ((k : Alphabet) (n : ℕ) → Same (Row (Character k) n) (RootSized n (Some n) (Character k)))
-    × ((t : Shape) (n : ℕ) → Same (Row (Values t) n) (RootSized n (Some n) (Values t)))
+    ((n : ℕ) → n < 65536 → Same (Row Bit n) (RootSized n (Some n) Bit))
+    × ((n : ℕ) → n < 65536 → Same (Row Octet n) (RootSized n (Some n) Octet))
+    × ((k : Alphabet) (n : ℕ) → n < 65536 → Same (Row (Character k) n) (RootSized n (Some n) (Character k)))
+    × ((t : Shape) (n : ℕ) → n < 65536 → Same (Row (Values t) n) (RootSized n (Some n) (Values t)))
 
 -- "encoding the choice type"
 abbrev pub ChoicesCompose : Type 0

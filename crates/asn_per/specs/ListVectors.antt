@@ -176,6 +176,10 @@ elements_of_a_bounded_size :
     per_octets (sequence_of boolean (size_between 2 3)) (items (truth true ∷ truth true ∷ [])) ≡ hex "60"
 elements_of_a_bounded_size = refl
 
+-- SIZE (1..65536): 00000001, then 1
+elements_of_a_size_to_65536 : per_octets (sequence_of boolean (size_between 1 65536)) (items (truth true ∷ [])) ≡ hex "01 80"
+elements_of_a_size_to_65536 = refl
+
 -- SIZE (1..2, ...): 0, 0, then 1
 elements_inside_a_marked_size :
     per_octets (sequence_of boolean (size_between_or_more 1 2)) (items (truth true ∷ [])) ≡ hex "20"

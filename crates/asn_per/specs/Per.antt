@@ -76,10 +76,14 @@ whole_number b z = after_mark (λ u. u) b.extensible (in_range b z) (ranged b.lo
 
 -- ---- lists under a size
 
--- items of a count in the root of a size: no length where there is one count only, a constrained number
--- where there is an upper bound, else the general length
+-- items of a count in the root of a size: a constrained number where the upper bound is below 65,536, which has no
+-- bits where there is one count only; else the general length ("length determinant")
 abbrev pub within : ℕ → Option ℕ → List (List Chunk) → List Chunk
-within low (Some high) items = ones (constrained (suc (high - low)) (length items - low)) ++ joined items
+within low (Some high) items =
+    elim (nat_lt high 65536) [
+      | true ↦ ones (constrained (suc (high - low)) (length items - low)) ++ joined items
+      | false ↦ general one items
+    ]
 within low None items = general one items
 
 -- outside the root of an extensible size the items stand under their general length

@@ -90,6 +90,15 @@ octets_of_the_largest_bounded_size :
     per_octets (octet_string (size_between 0 65535)) (octet_list (hex "AB")) ≡ hex "00 01 AB"
 octets_of_the_largest_bounded_size = refl
 
+-- SIZE (0..65536): the general length in 8 bits, then 10101011
+octets_of_a_size_to_65536 : per_octets (octet_string (size_between 0 65536)) (octet_list (hex "AB")) ≡ hex "01 AB"
+octets_of_a_size_to_65536 = refl
+
+-- SIZE (0..65536, ...): 0, then 00000001 and 10101011
+octets_of_a_marked_size_to_65536 :
+    per_octets (octet_string (size_between_or_more 0 65536)) (octet_list (hex "AB")) ≡ hex "00 D5 80"
+octets_of_a_marked_size_to_65536 = refl
+
 -- ---- IA5String and VisibleString: seven bits a character
 
 -- 00000010, then 1001000 1101001
@@ -225,11 +234,24 @@ a_text_of_128_octets = refl
     per_octets (bit_string (exactly 16384)) (bit_list (replicate 16384 true)) ≡ replicate 2048 0xFF
 16384_bits_of_a_fixed_size_are_no_fragments = refl
 
+-- SIZE (65536): a fragment, and the length of none
+65536_bits_of_a_fixed_size :
+    per_octets (bit_string (exactly 65536)) (bit_list (replicate 65536 true))
+    ≡ hex "C4" ++ (replicate 8192 0xFF ++ hex "00")
+65536_bits_of_a_fixed_size = refl
+
 -- ---- octets in two fragments, whatever the octets are: 65536 of them, 16384, and then the length of none
 
 -- the bits of octets, each an item
 abbrev octet_items : List ℕ → List (List Chunk)
 octet_items os = map (λ o. ones (bits 8 o)) os
+
+-- SIZE (65536): 11 and 000100; 0 and 0000000
+65536_octets_of_a_fixed_size : (os : List ℕ) → length os ≡ 65536
+    → per (octet_string (exactly 65536)) (octet_list os)
+    ≡ ones (unpacked (hex "C4")) ++ (joined (take 65536 (octet_items os)) ++ (ones (unpacked (hex "00")) ++ []))
+65536_octets_of_a_fixed_size os e =
+    ap (λ n. with_lengths one (lengths n) (octet_items os)) (length-map os (λ o. ones (bits 8 o)) ∙ e)
 
 -- 11 and 000100; 11 and 000001; 0 and 0000000
 81920_octets : (os : List ℕ) → length os ≡ 81920

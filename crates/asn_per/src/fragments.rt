@@ -15,7 +15,7 @@ use asn_bits::{BitCursor, Counts, Lengths};
 use asn_rules::Why;
 use asn_rules::internal::{Stop, read_next_length, read_up_to};
 use asn_values::Size;
-use asn_values::profile::{BLOCK, MAX_LEN};
+use asn_values::profile::{BLOCK, GENERAL_FROM, MAX_LEN};
 
 /// How many items four blocks have: after a fragment that has fewer no other fragment follows.
 const LARGEST_FRAGMENT: u64 = 4 * BLOCK;
@@ -97,7 +97,7 @@ pub enum Fragments {
 
 impl Fragments {
     /// Reads what stands before the items of a list under the size: the extension bit, and the count of a list of
-    /// the root that has an upper bound.
+    /// the root that has an upper bound below 65,536.
     pub(crate) fn start(size: &Size, bits: &mut BitCursor<'_>) -> Result<Fragments, Stop>
         requires of_profile { IsSizeOfProfile (size_range_of size.now) }
         ensures done { Reads result ahead_of (Start (size_range_of size.now)) bits.old bits.new }
@@ -159,6 +159,13 @@ fn read_root_start(size: &Size, bits: &mut BitCursor<'_>) -> Result<Fragments, S
         };
         return Ok(Fragments::Lengths(all_of(counts, None)));
     };
+    if high >= GENERAL_FROM {
+        let counts = Counts {
+            low: size.low,
+            high,
+        };
+        return Ok(Fragments::Lengths(all_of(counts, None)));
+    }
     let above = u64::from(high - size.low);
     let count = read_up_to(width(u128::from(above) + 1), above, Why::Length, bits)?;
     Ok(Fragments::Items(size.low as usize + count as usize))
@@ -181,7 +188,11 @@ fn other_counts(size: &Size) -> CountsAhead
         low: high + 1,
         high: MAX_LEN,
     };
-    all_of(above, if size.low == 0 { None } else { Some(below) })
+    if size.low == 0 {
+        all_of(above, None)
+    } else {
+        all_of(below, Some(above))
+    }
 }
 
 /// A list that may have these counts, of which nothing is read.

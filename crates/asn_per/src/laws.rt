@@ -89,7 +89,7 @@ pub fn codec_laws()
 
 /// Of each kind of type of the profile the spellings of its values are those of its parts, put together. The parts are
 /// numbers of a set in a fixed count of bits, lengths, items in a row, extension bits that fork, presence bits and
-/// open type fields. A list whose size is fixed has no count.
+/// open type fields. A list of a fixed size below 65,536 has no count.
 ///
 /// Of an ENUMERATED without a mark, and of an INTEGER without a low bound and a mark, the same is said of the values
 /// except one, as a component with a DEFAULT is spelt.

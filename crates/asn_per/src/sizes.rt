@@ -20,7 +20,7 @@ use asn_rules::internal::{Stop, read_next_length, read_up_to};
 use asn_sinks::Sink;
 use asn_values::Size;
 use asn_values::internal::is_in_size;
-use asn_values::profile::{BLOCK, MAX_LEN};
+use asn_values::profile::{BLOCK, GENERAL_FROM, MAX_LEN};
 
 /// What follows of a list.
 #[derive(Drop)]
@@ -65,7 +65,7 @@ impl Following {
 }
 
 /// Writes what stands before `count` items under a size: the extension bit where there is an extension mark, and in
-/// the root the count where there is an upper bound (X.691, "constrained whole number"). Returns what follows.
+/// the root the count where the upper bound is below 65,536 (X.691, "length determinant"). Returns what follows.
 #[inline(always)]
 pub(crate) fn write_size<S: Sink>(
     size: &Size,
@@ -78,7 +78,7 @@ pub(crate) fn write_size<S: Sink>(
     let inside = is_in_size(size, count);
     write_extension_bit(size.ext, !inside, sink)?;
     match size.high {
-        Some(high) if inside => {
+        Some(high) if inside && high < GENERAL_FROM => {
             let values = u128::from(high - size.low) + 1;
             sink.push_number(width(values), count as u64 - u64::from(size.low))?;
             Ok(Following::Items)
@@ -111,7 +111,7 @@ pub enum Fragments {
 
 impl Fragments {
     /// Reads what stands before the items of a list under the size: the extension bit, and the count of a list of
-    /// the root that has an upper bound.
+    /// the root that has an upper bound below 65,536.
     pub(crate) fn start(size: &Size, bits: &mut BitCursor<'_>) -> Result<Fragments, Stop>
         requires of_profile { IsSizeOfProfile (size_range_of size.now) }
         ensures done { Reads result ahead_of (Start (size_range_of size.now)) bits.old bits.new }
@@ -175,7 +175,7 @@ fn other_lengths(size: &Size) -> Lengths
     if size.low == 0 {
         Lengths::new(above, None)
     } else {
-        Lengths::new(above, Some(below))
+        Lengths::new(below, Some(above))
     }
 }
 
@@ -193,6 +193,13 @@ fn read_root_start(size: &Size, bits: &mut BitCursor<'_>) -> Result<Fragments, S
         };
         return Ok(Fragments::Lengths(Lengths::new(counts, None)));
     };
+    if high >= GENERAL_FROM {
+        let counts = Counts {
+            low: size.low,
+            high,
+        };
+        return Ok(Fragments::Lengths(Lengths::new(counts, None)));
+    }
     let above = u64::from(high - size.low);
     let count = read_up_to(width(u128::from(above) + 1), above, Why::Length, bits)?;
     Ok(Fragments::Items(size.low as usize + count as usize))

@@ -42,11 +42,13 @@ pub record AreIndexFields (fs : BitFields) (root : ℕ) (more : Option ℕ) : Ty
 
 -- ---- SEQUENCE OF
 
--- counts between the two bounds of a size, in as few bits as tell them apart, after the extension bit 0
+-- counts between the two bounds of a size, the high one below 65,536, in as few bits as tell them apart, after the
+-- extension bit 0 ("length determinant")
 pub record IsCountInBits (f : BitField) (s : SizeRange) : Type 0 where
   pub first : f.first ≡ 0
   pub low : f.low ≡ s.low
   pub high : s.high ≡ Some (f.low + f.most)
+  pub few : f.low + f.most < 65536
   pub bits : f.bits ≡ bit_of s.extensible + width (suc f.most)
 
 -- counts of a size whose quantity is one octet after its length ("encoding of sequence-of types")

@@ -8,6 +8,7 @@ use crate::field::{BitField, BitFields};
 use asn_bits::BitCursor;
 use asn_bits::internal::width;
 use asn_values::Size;
+use asn_values::profile::GENERAL_FROM;
 
 /// The fields that tell the alternatives of a root of this many, of a CHOICE with this many extension additions, where
 /// there is an extension mark.
@@ -50,11 +51,15 @@ pub(crate) fn count_fields(size: &Size) -> BitFields
     }
 }
 
-/// The bits of a count between two bounds, after the extension bit 0, where there is a mark.
+/// The bits of a count between two bounds, the high one below 65,536, after the extension bit 0, where there is a mark.
 fn count_in_bits(size: &Size) -> Option<BitField>
     ensures { IfSome result (λ f. IsCountInBits f (size_range_of size.now)) }
 {
-    let most = size.high?.checked_sub(size.low)?;
+    let high = size.high?;
+    if high >= GENERAL_FROM {
+        return None;
+    }
+    let most = high.checked_sub(size.low)?;
     Some(BitField {
         bits: u32::from(size.ext) + width(u128::from(most) + 1),
         first: 0,

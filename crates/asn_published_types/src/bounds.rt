@@ -102,7 +102,7 @@ pub fn lengths_between(
     if low > HIGHEST_SIZE || (cut && is_fixed) {
         return Err(refused(line, Why::Size));
     }
-    if low == 0 && high.is_none() && marked {
+    if low == 0 && marked && high.is_none_or(|high| high == HIGHEST_SIZE) {
         return Err(refused(line, Why::UselessMark));
     }
     Ok(Some(Lengths { low, high, cut }))

@@ -33,7 +33,8 @@ abbrev mutual
 
 -- ---- limits
 
--- 200 alternatives and extension additions, 10,000 types inside a type, and 32 of them inside one another
+-- 200 alternatives and extension additions, 10,000 types inside a type, and 32 of them inside one another; bounds of sizes
+-- ended at 65,535, which is no part of these limits: what is said of them is said of sizes with higher bounds too
 abbrev pub older_limits : Limits
 older_limits = record {
   highest = highest_integer;

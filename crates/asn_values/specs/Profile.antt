@@ -1,5 +1,5 @@
 -- Which types are types of the profile: those in which none of ten conditions holds.
-use Rattle.std.specs.Prelude.{◌+◌, ℕ, ℤ, pos, negsuc, Bool, true, false, not, ◌&&◌, ◌||◌, List, [], ◌∷◌, ◌++◌, map, length, Option, Some, None, IsFalse, nat_lt, nat_le, is_some, ◌==◌, bytes_eq}
+use Rattle.std.specs.Prelude.{◌+◌, ℕ, ℤ, pos, negsuc, Bool, true, false, not, ◌&&◌, ◌||◌, List, [], ◌∷◌, ◌++◌, map, length, Option, Some, None, IsFalse, nat_lt, nat_le, ◌==◌, bytes_eq}
 use Rattle.std.specs.List.{list_all, list_any}
 use Rattle.std.specs.Int.RustNames.{int_le, int_lt}
 pub use Rattle.asn_limits.specs.Limits.{largest_size_bound, most_items, most_components, most_additions, most_item_additions, most_alternatives, most_nodes, most_levels}
@@ -74,7 +74,7 @@ empty_range_under l _ = false
 abbrev pub empty_range : Shape → Bool
 empty_range = empty_range_under limits
 
--- ---- SizeTooLarge: a SIZE bound above 65535
+-- ---- SizeTooLarge: a SIZE bound above 2 ^ 28 - 1
 
 abbrev pub size_of : Shape → Option SizeRange
 size_of (bit_string s) = Some s
@@ -149,9 +149,14 @@ bad_enumeration _ = false
 
 -- ---- UselessMark: an extension marker on a root that is already every value of the profile
 
+-- no length of the profile is above the high bound
+abbrev pub is_no_limit : Option ℕ → Bool
+is_no_limit None = true
+is_no_limit (Some high) = nat_le largest_size_bound high
+
 abbrev pub is_every_length : Option SizeRange → Bool
 is_every_length None = false
-is_every_length (Some s) = s.extensible && (s.low == 0 && not (is_some s.high))
+is_every_length (Some s) = s.extensible && (s.low == 0 && is_no_limit s.high)
 
 abbrev pub useless_mark_under : Limits → Shape → Bool
 useless_mark_under l (integer b) = b.extensible && (at_least b.low lowest_integer && at_most b.high l.highest)

@@ -62,23 +62,24 @@ an_empty_range_in_an_addition = refl
 
 -- ---- SizeTooLarge
 
--- BIT STRING (SIZE (0..65535))
-the_largest_bound_of_a_size : has SizeTooLarge (bit_string (size_between 0 65535)) ≡ false
+-- BIT STRING (SIZE (0..268435455))
+the_largest_bound_of_a_size : has SizeTooLarge (bit_string (size_between 0 268435455)) ≡ false
 the_largest_bound_of_a_size = refl
 
--- BIT STRING (SIZE (0..65536))
-a_bound_of_65536 : has SizeTooLarge (bit_string (size_between 0 65536)) ≡ true
-a_bound_of_65536 = refl
+-- BIT STRING (SIZE (0..268435456))
+a_bound_above_the_largest : has SizeTooLarge (bit_string (size_between 0 268435456)) ≡ true
+a_bound_above_the_largest = refl
 
--- IA5String (SIZE (65536..MAX))
-a_low_bound_of_65536 : has SizeTooLarge (restricted ia5 (size_from 65536)) ≡ true
-a_low_bound_of_65536 = refl
+-- IA5String (SIZE (268435456..MAX))
+a_low_bound_above_the_largest : has SizeTooLarge (restricted ia5 (size_from 268435456)) ≡ true
+a_low_bound_above_the_largest = refl
 
 a_size_without_bounds : has SizeTooLarge (octet_string any_size) ≡ false
 a_size_without_bounds = refl
 
--- SEQUENCE (SIZE (0..65536, ...)) OF BOOLEAN
-a_large_bound_before_an_extension_marker : has SizeTooLarge (sequence_of boolean (size_between_or_more 0 65536)) ≡ true
+-- SEQUENCE (SIZE (0..268435456, ...)) OF BOOLEAN
+a_large_bound_before_an_extension_marker :
+    has SizeTooLarge (sequence_of boolean (size_between_or_more 0 268435456)) ≡ true
 a_large_bound_before_an_extension_marker = refl
 
 -- ---- DuplicateName
@@ -199,6 +200,14 @@ a_mark_on_all_lengths = refl
 a_mark_on_all_but_one_length : has UselessMark (octet_string (record { low = 1; high = None; extensible = true }))
     ≡ false
 a_mark_on_all_but_one_length = refl
+
+-- OCTET STRING (SIZE (0..268435455, ...))
+a_mark_after_the_largest_bound : has UselessMark (octet_string (size_between_or_more 0 268435455)) ≡ true
+a_mark_after_the_largest_bound = refl
+
+-- OCTET STRING (SIZE (0..268435454, ...))
+a_mark_below_the_largest_bound : has UselessMark (octet_string (size_between_or_more 0 268435454)) ≡ false
+a_mark_below_the_largest_bound = refl
 
 -- SEQUENCE { ... }
 a_mark_on_a_sequence_is_of_use : has UselessMark (sequence no_fields (marked no_fields)) ≡ false

@@ -12,7 +12,7 @@ pub enum TypeFault {
     /// or an ENUMERATED or CHOICE without an item or alternative before its extension marker.
     #[error("empty range")]
     EmptyRange = 1,
-    /// A bound of a SIZE above 65,535.
+    /// A bound of a SIZE above 268,435,455.
     #[error("size too large")]
     SizeTooLarge = 2,
     /// A name twice in one SEQUENCE, CHOICE or ENUMERATED, or one that is no identifier.

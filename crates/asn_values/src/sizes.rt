@@ -14,7 +14,7 @@ pub(crate) fn is_empty(size: &Size) -> bool
     size.high.is_some_and(|high| high < size.low)
 }
 
-/// Whether a bound is above 65535.
+/// Whether a bound is above 268,435,455.
 pub(crate) fn is_too_large(size: &Size) -> bool
     ensures { result ≡ large_size (Some (size_range_of size.now)) }
 {
@@ -25,7 +25,7 @@ pub(crate) fn is_too_large(size: &Size) -> bool
 pub(crate) fn has_useless_mark(size: &Size) -> bool
     ensures { result ≡ is_every_length (Some (size_range_of size.now)) }
 {
-    size.ext && size.low == 0 && size.high.is_none()
+    size.ext && size.low == 0 && size.high.is_none_or(|high| MAX_SIZE_BOUND <= high)
 }
 
 /// Whether there is no length but 0.

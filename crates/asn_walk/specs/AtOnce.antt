@@ -21,18 +21,20 @@ pub record IsOnlyLength (s : SizeRange) (n : ℕ) : Type 0 where
   pub low : s.low ≡ n
   pub high : s.high ≡ Some n
 
--- the extension bit 0, where there is a mark, and the bits of a BIT STRING of the only length
+-- the extension bit 0, where there is a mark, and the bits of a BIT STRING of the only length, which is below 65,536
 pub record BitsFirst (s : SizeRange) (d : Datum) (old new : List ℕ) : Type 0 where
   pub truths : List Bool
   pub is : d ≡ bit_list truths
   pub only : IsOnlyLength s (length truths)
+  pub few : length truths < 65536
   pub split : old ≡ extension_bit s.extensible false ++ (map bit_of truths ++ new)
 
--- the octets of an OCTET STRING of the only length, without an extension mark
+-- the octets of an OCTET STRING of the only length, which is below 65,536, without an extension mark
 pub record OctetsFirst (s : SizeRange) (d : Datum) (old new : List ℕ) : Type 0 where
   pub octets : List ℕ
   pub is : d ≡ octet_list octets
   pub only : IsOnlyLength s (length octets)
+  pub few : length octets < 65536
   pub unmarked : s.extensible ≡ false
   pub each : AllByRecursion (λ o. o < 256) octets
   pub split : old ≡ unpacked octets ++ new

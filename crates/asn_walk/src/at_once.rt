@@ -7,6 +7,7 @@ ghost use Rattle.asn_walk.specs.Views.{preamble_seen};
 use crate::leaves::Preamble;
 use asn_bits::BitCursor;
 use asn_rules::internal::{NumberSet, greatest_of_width, overwrite_bits, try_number};
+use asn_values::profile::GENERAL_FROM;
 use asn_values::{Size, Value};
 
 /// Fast path: an extension bit and a presence bitmap of `count` bits after it, as one number, where there is an
@@ -61,8 +62,8 @@ pub fn try_bits(size: &Size, slot: &mut Value, bits: &mut BitCursor<'_>) -> bool
     true
 }
 
-/// Fast path: an OCTET STRING of one size without an extension mark into one that has as many octets, where they are
-/// present; otherwise takes nothing.
+/// Fast path: an OCTET STRING of one size below 65,536 without an extension mark into one that has as many octets, where
+/// they are present; otherwise takes nothing.
 pub fn try_octets(size: &Size, slot: &mut Value, bits: &mut BitCursor<'_>) -> bool
     ensures done { result ≡ true → OctetsFirst (size_range_of size.now) (datum_of slot.new) bits.old bits.new }
     ensures none { result ≡ false → bits.new ≡ bits.old }
@@ -71,6 +72,9 @@ pub fn try_octets(size: &Size, slot: &mut Value, bits: &mut BitCursor<'_>) -> bo
         return false;
     };
     let count = octets.len();
+    if count >= GENERAL_FROM as usize {
+        return false;
+    }
     if !is_only_length(size, count) || size.ext || count > bits.octets_left() {
         return false;
     }

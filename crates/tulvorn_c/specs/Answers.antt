@@ -11,7 +11,8 @@ use Rattle.asn_values.specs.declared.value.Value.{Value}
 use Rattle.asn_view.specs.Typed.{Typed}
 use Rattle.asn_module.specs.Accepted.{ModuleTypes, Accepted, type_in}
 use Rattle.asn_module.specs.declared.fault.ModuleFault.{ModuleFault}
-use Rattle.asn_module.specs.declared.fault.ModuleFault.TheVariants as module_fault
+use Rattle.asn_module.specs.Bounded.{TellsRead}
+use Rattle.asn_module.specs.Sizes.{most_size, types_size}
 use Rattle.asn_rules.specs.Answer.{Ruling, max_octets}
 use Rattle.asn_rules.specs.Measured.{IsLength, Placed}
 use Rattle.asn_rules.specs.declared.units.Unit.{Unit}
@@ -65,8 +66,7 @@ HasBadLine text = (m : ModuleTypes) × Accepted text m
 
 abbrev pub IsNoModule : List ℕ → Fault → Type 0
 IsNoModule text fault =
-    ((why : ModuleFault) × (fault ≡ of_module why)
-    × ((why ≡ module_fault.Memory → ⊥) → (m : ModuleTypes) → Accepted text m → ⊥))
+    ((why : ModuleFault) × (fault ≡ of_module why) × TellsRead text why)
     ⊎ (fault ≡ no_memory) ⊎ ((fault ≡ bad_constraint) × HasBadLine text)
 
 abbrev pub ReadsText : List ℕ → Option Object → Option Object → Fault → Type 0
@@ -81,12 +81,12 @@ ReadsModule text old new fault =
 abbrev pub HoldsNoRefusal : List ℕ → Option Object → Type 0
 HoldsNoRefusal text new = (held_octets new ≡ Some []) × (m : ModuleTypes) × Accepted text m
 
--- the handle then holds words, since the text is no module
+-- the handle then holds words, since the text is no module, or one that is larger than is read
 pub record HoldsRefusal (text : List ℕ) (new : Option Object) : Type 0 where
   pub words : List ℕ
   pub held : held_octets new ≡ Some words
   pub not_empty : words ≡ [] → ⊥
-  pub refused : (m : ModuleTypes) → Accepted text m → ⊥
+  pub refused : (m : ModuleTypes) → Accepted text m → most_size < types_size m.types
 
 -- the handle then holds words about such a line
 pub record HoldsBadLine (text : List ℕ) (new : Option Object) : Type 0 where

@@ -87,7 +87,7 @@ pub(crate) const TOO_DEEP: u32 = 24;
 const WHY_CONSTRAINT: u32 = 8;
 
 /// The reason of a text where a line of a constraint is none of its type: the one after those of `ModuleFault`.
-const WHY_BAD_CONSTRAINT: u32 = 8;
+const WHY_BAD_CONSTRAINT: u32 = 9;
 
 /// What a call answered: a code, and, as the code says, a reason and a place.
 #[repr(C)]
@@ -289,6 +289,7 @@ impl Fault {
             ModuleFault::Twice { .. } => (5, 0),
             ModuleFault::BadType { .. } => (6, 0),
             ModuleFault::OutOfProfile { at } => (7, *at),
+            ModuleFault::TooLarge { .. } => (8, 0),
             ModuleFault::Memory => return Fault::plain(NO_MEMORY),
         };
         Fault {

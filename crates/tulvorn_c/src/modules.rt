@@ -187,7 +187,8 @@ fn refusal_words(alloc: Global, refused: RefusedText) -> Result<String, AllocErr
         | ModuleFault::Cycle { .. }
         | ModuleFault::Twice { .. }
         | ModuleFault::BadType { .. }
-        | ModuleFault::OutOfProfile { .. } => some_words(alloc, words),
+        | ModuleFault::OutOfProfile { .. }
+        | ModuleFault::TooLarge { .. } => some_words(alloc, words),
         ModuleFault::Memory => Err(AllocError),
     }
 }

@@ -1,5 +1,5 @@
-//! Values of ASN.1 types by CANONICAL-PER UNALIGNED and Canonical OER, by the proved library Tulvorn, which is linked
-//! as a static library.
+//! Values of ASN.1 types by CANONICAL-PER UNALIGNED and Canonical OER, by the proved library Tulvorn, which `build.rs`
+//! finds or builds, and links.
 //!
 //! ```
 //! use tulvorn::{Error, Module, Rules};

@@ -3,7 +3,7 @@ use Rattle.std.proofs.Common.{◌≡◌, ◌-◌, ◌^◌, ◌<◌, ◌≤◌, �
 use Rattle.std.proofs.lemmas.Bool.{ltb-false}
 use Rattle.asn_values.specs.Datum.{Datum, item}
 use Rattle.asn_values.specs.Shape.{SizeRange, enumerated, Label, marked_labels}
-use Rattle.asn_values.specs.Fits.{Fits}
+use Rattle.asn_values.specs.Fits.{Fits, max_len}
 use Rattle.asn_values.specs.Profile.{InProfile}
 use Rattle.asn_bits.specs.Numbers.{bits, padding}
 use Rattle.asn_bits.proofs.Codes.{IsCode, equal_fronts}
@@ -18,7 +18,7 @@ use Rattle.asn_rules.proofs.Live.Flat.{flat-ones}
 use Rattle.asn_rules.proofs.Live.Fronts.{sealed-ones}
 use Rattle.asn_walk.specs.Ahead.{Ahead, lengths}
 use Rattle.asn_walk.specs.Laws.{Laws}
-use Rattle.asn_per.specs.ListsAhead.{RootStart, Start, other_counts}
+use Rattle.asn_per.specs.ListsAhead.{StartForm, RootStart, Start, other_counts}
 use Rattle.asn_per.specs.Per.{per, small, small_length, constrained, rank, after_mark, per_fields}
 use Rattle.asn_per.specs.Rules.{per_ruling}
 use Rattle.asn_per.specs.Walk.{per_coding}
@@ -113,9 +113,13 @@ per_items root additions good = items_way per_loose per_laws root additions good
 
 -- ---- lists and complete encodings
 
+form_plain : (b : Bool) (low high : ℕ) (a : Ahead) (cs : List Chunk) → StartForm b low high a cs → AllSealed per_fields cs
+form_plain true low high a cs h = subst (AllSealed per_fields) (sym h.spelt.spelt.same) (sealed-ones per_fields h.spelt.spelt.units)
+form_plain false low high a cs h = subst (AllSealed per_fields) (sym h.empty) tt
+
 root_plain : (low : ℕ) (high : Option ℕ) (a : Ahead) (cs : List Chunk) → RootStart low high a cs → AllSealed per_fields cs
-root_plain low (Some high) a cs h = subst (AllSealed per_fields) (sym h.spelt.spelt.same) (sealed-ones per_fields h.spelt.spelt.units)
-root_plain low None a cs h = subst (AllSealed per_fields) (sym h.empty) tt
+root_plain low (Some high) a cs h = form_plain (nat_lt high 65536) low high a cs h
+root_plain low None a cs h = form_plain false low max_len a cs h
 
 per_start : (s : SizeRange) (a : Ahead) (cs : List Chunk) → per_loose.coding.list_start s a cs → AllSealed per_loose.coding.ruling.fielding cs
 unfolding per_loose per_coding per_ruling

@@ -26,7 +26,7 @@ use Rattle.asn_oer.proofs.Law.Strings.{one_length}
 
 -- no bound of a size of the profile is above the limit, so the one length of a fixed size is such
 pub fixed_fits : (z : SizeRange) → large_size (Some z) ≡ false → is_fixed_size z ≡ true → FitsLength z z.low
-fixed_fits z good h = (omega (arith, ltb-false 65535 z.low (or_parts (nat_lt 65535 z.low) _ good).0), go z.extensible z.high h)
+fixed_fits z good h = (omega (arith, ltb-false 268435455 z.low (or_parts (nat_lt 268435455 z.low) _ good).0), go z.extensible z.high h)
   where
     fixed : ℕ → Option ℕ → Bool
     fixed low None = false

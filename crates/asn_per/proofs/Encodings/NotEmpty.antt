@@ -86,16 +86,23 @@ within_not_empty : {A : Type 0} (code : A → List Chunk) (a : A) (low : ℕ) (h
     → size_above (record { low = low; high = high; extensible = false }) ≡ false → is_zero_size (record { low = low; high = high; extensible = false }) ≡ false
     → (is_fixed_size (record { low = low; high = high; extensible = false }) ≡ false) ⊎ (code a ≢ []) → within low high items ≢ []
 within_not_empty code a low None items e h z f = general_not_empty one items
-within_not_empty code a low (Some n) items e h z (inl f) =
-    let above : low ≤ n = ltb-false n low h in
-    let other : low ≢ n = λ s. true≢false (sym (eq-eqb low n s) ∙ f) in
-    left_not_empty _ (joined items) (ones_not_empty _ (constrained_not_empty (suc (n - low)) _ (omega arith)))
-within_not_empty code a low (Some n) items e h z (inr f) = elim (cases_lt 0 low) [
-  | inl l ↦ right_not_empty (ones (constrained (suc (n - low)) (length items - low))) (joined items) (subst (λ xs. joined xs ≢ []) (sym e) (joined_not_empty code a low l f))
-  | inr l ↦
-      let some : n ≢ 0 = λ s. true≢false (sym (both_zero low n (omega (arith, l)) s) ∙ z) in
-      left_not_empty _ (joined items) (ones_not_empty _ (constrained_not_empty (suc (n - low)) _ (omega arith)))
-]
+within_not_empty {A} code a low (Some n) items e h z f = go (nat_lt n 65536) f
+  where
+    count : List ℕ
+    count = constrained (suc (n - low)) (length items - low)
+
+    go : (b : Bool) → (is_fixed_size (record { low = low; high = Some n; extensible = false }) ≡ false) ⊎ (code a ≢ []) → elim b [ true ↦ ones count ++ joined items | false ↦ general one items ] ≢ []
+    go false f = general_not_empty one items
+    go true (inl f) =
+        let above : low ≤ n = ltb-false n low h in
+        let other : low ≢ n = λ s. true≢false (sym (eq-eqb low n s) ∙ f) in
+        left_not_empty _ (joined items) (ones_not_empty _ (constrained_not_empty (suc (n - low)) _ (omega arith)))
+    go true (inr f) = elim (cases_lt 0 low) [
+      | inl l ↦ right_not_empty (ones count) (joined items) (subst (λ xs. joined xs ≢ []) (sym e) (joined_not_empty code a low l f))
+      | inr l ↦
+          let some : n ≢ 0 = λ s. true≢false (sym (both_zero low n (omega (arith, l)) s) ∙ z) in
+          left_not_empty _ (joined items) (ones_not_empty _ (constrained_not_empty (suc (n - low)) _ (omega arith)))
+    ]
 
 -- the shortest list of a size that is not zero, of elements with chunks or of no fixed number
 pub sized_not_empty : {A : Type 0} (code : A → List Chunk) (a : A) (z : SizeRange) → size_above z ≡ false → is_zero_size z ≡ false

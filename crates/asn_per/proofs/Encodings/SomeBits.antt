@@ -8,7 +8,7 @@ use Rattle.std.specs.Int.RustNames.{int_le}
 use Rattle.asn_values.specs.Datum.{Datum, truth, number, item, bit_list, octet_list, characters, unicode, components, elements, alternative, Components, component_list, elements_of, components_of}
 use Rattle.asn_values.specs.Shape.{Alphabet, Range, ia5, numeric, visible, Shape, boolean, null, integer, enumerated, bit_string, octet_string, restricted, utf8_string, sequence, sequence_of, choice, Label, MoreLabels, closed_labels, marked_labels, must, optional, default, Fields, no_fields, field, MoreFields, closed, marked, is_marked, demands, Alternatives, no_alternatives, one_of, MoreAlternatives, closed_choice, marked_choice, is_marked_choice, count}
 use Rattle.asn_values.specs.Fits.{Fits, FitsEach, FitsMoreAlternatives, FitsLength, is_of_kind, in_range}
-use Rattle.asn_values.specs.Profile.{somewhere, some_field, some_alternative, empty_range, size_too_large, size_above, large_size, no_bits, no_field_bits, is_zero_size, is_fixed_size, is_one_number, is_closed, int_eq, low_above_high}
+use Rattle.asn_values.specs.Profile.{somewhere, some_field, some_alternative, empty_range, size_too_large, size_above, large_size, no_bits, no_field_bits, is_zero_size, is_fixed_size, is_one_number, is_closed, int_eq, low_above_high, zero_width_element}
 use Rattle.asn_bits.specs.Numbers.{bits, above, least, least_signed}
 use Rattle.asn_bits.specs.Lengths.{general_octets}
 use Rattle.asn_rules.specs.Chunks.{one, ones}
@@ -212,9 +212,9 @@ mutual
       ]
 
 -- no_bits says exactly that each value is spelt by nothing
-pub no_bits_exact : (t : Shape) → somewhere empty_range t ≡ false → somewhere size_too_large t ≡ false
+pub no_bits_exact : (t : Shape) → somewhere empty_range t ≡ false → somewhere size_too_large t ≡ false → somewhere zero_width_element t ≡ false
     → (no_bits t ≡ true) ↔ ((d : Datum) → Fits t d → per t d ≡ [])
-no_bits_exact t h g = (λ n d f. spelt_by_nothing t d n f, λ all. back all (no_bits t) refl)
+no_bits_exact t h g z = (λ n d f. spelt_by_nothing t d z n f, λ all. back all (no_bits t) refl)
   where
     back : ((d : Datum) → Fits t d → per t d ≡ []) → (b : Bool) → no_bits t ≡ b → b ≡ true
     back all true e = refl

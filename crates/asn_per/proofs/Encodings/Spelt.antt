@@ -75,9 +75,14 @@ spelt_general items h = spelt_with_lengths (lengths (length items)) items (lengt
 -- items of a count in the root of a size
 spelt_within : (low : ℕ) (high : Option ℕ) (items : List (List Chunk)) → AllByRecursion Spelt items → Spelt (within low high items)
 spelt_within low None items h = spelt_general items h
-spelt_within low (Some high) items h =
-    let count_bits = constrained (suc (high - low)) (length items - low) in
-    spelt_append (ones count_bits) (joined items) (spelt_ones count_bits (digits_bits _ _)) (spelt_joined items h)
+spelt_within low (Some high) items h = go (nat_lt high 65536)
+  where
+    count_bits : List ℕ
+    count_bits = constrained (suc (high - low)) (length items - low)
+
+    go : (b : Bool) → Spelt (elim b [ true ↦ ones count_bits ++ joined items | false ↦ general one items ])
+    go true = spelt_append (ones count_bits) (joined items) (spelt_ones count_bits (digits_bits _ _)) (spelt_joined items h)
+    go false = spelt_general items h
 
 -- items under a size
 spelt_sized : (z : SizeRange) (items : List (List Chunk)) → AllByRecursion Spelt items → Spelt (sized z items)

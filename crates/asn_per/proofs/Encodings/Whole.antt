@@ -4,7 +4,7 @@ use Rattle.std.proofs.lemmas.List.{append-nil}
 use Rattle.asn_values.specs.Datum.{Datum}
 use Rattle.asn_values.specs.Shape.{Shape}
 use Rattle.asn_values.specs.Fits.{Fits}
-use Rattle.asn_values.specs.Profile.{EmptyRange, SizeTooLarge, InProfile}
+use Rattle.asn_values.specs.Profile.{EmptyRange, SizeTooLarge, ZeroWidthElement, InProfile}
 use Rattle.asn_bits.specs.Numbers.{bits, unpacked}
 use Rattle.asn_bits.proofs.Digits.{digits_code}
 use Rattle.asn_rules.specs.Chunks.{flat}
@@ -90,4 +90,4 @@ per_laws = rules_laws per_ruling per_wholes
 
 -- no_bits says which types have no bits
 pub bits_exact : NoBitsIsExact
-bits_exact t h = no_bits_exact t (h EmptyRange) (h SizeTooLarge)
+bits_exact t h = no_bits_exact t (h EmptyRange) (h SizeTooLarge) (h ZeroWidthElement)

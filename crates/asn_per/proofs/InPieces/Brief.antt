@@ -1,6 +1,6 @@
 -- The parts of PER that a piece may cut have few bits.
-use Rattle.std.proofs.Common.{◌≡◌, ◌≤◌, ◌<◌, ◌+◌, ◌-◌, ◌*◌, ◌%◌, ◌^◌, ◌⊎◌, inl, inr, ⊎_elim, ℕ, zero, suc, ℤ, ◌≤ℤ◌, Bool, true, false, List, [], ◌∷◌, ◌++◌, length, length-append, Option, Some, None, is_some, refl, sym, ap, ◌∙◌, subst, arith}
-use Rattle.std.proofs.lemmas.Bool.{cases_lt}
+use Rattle.std.proofs.Common.{◌≡◌, ◌≤◌, ◌<◌, ◌+◌, ◌-◌, ◌*◌, ◌%◌, ◌^◌, ◌⊎◌, inl, inr, ⊎_elim, ℕ, zero, suc, ℤ, ◌≤ℤ◌, Bool, true, false, List, [], ◌∷◌, ◌++◌, length, length-append, Option, Some, None, is_some, nat_lt, refl, sym, ap, ◌∙◌, subst, arith}
+use Rattle.std.proofs.lemmas.Bool.{cases_lt, ltb-true}
 use Rattle.std.proofs.lemmas.Int.{ints}
 use Rattle.std.proofs.lemmas.List.{length-replicate}
 use Rattle.asn_values.specs.Datum.{Datum}
@@ -23,12 +23,11 @@ use Rattle.asn_rules.specs.Live.{Fielding}
 use Rattle.asn_rules.proofs.Languages.Parts.{plain_spells}
 use Rattle.asn_per.specs.Indexes.{IndexesOf}
 use Rattle.asn_per.specs.Kinds.{Values, Below, SmallBelow, Ranged, Integers, Items}
-use Rattle.asn_per.specs.ListsAhead.{RootStart, Start, other_counts}
+use Rattle.asn_per.specs.ListsAhead.{StartForm, RootStart, Start, other_counts}
 use Rattle.asn_per.specs.Per.{per_fields, filling, small_length}
 use Rattle.asn_per.specs.Rules.{per_ruling}
 use Rattle.asn_per.specs.Walk.{per_coding}
 use Rattle.asn_plan.proofs.RootItems.{root_items}
-use Rattle.asn_per.proofs.Read.ListsAhead.{high_small}
 use Rattle.asn_per.proofs.Types.BooleanAndNull.{booleans_compose, nulls_compose}
 use Rattle.asn_per.proofs.Types.EnumeratedLanguages.{items_compose, few_additions}
 use Rattle.asn_per.proofs.Types.IntegerLanguages.{offsets_below}
@@ -178,7 +177,11 @@ next_brief a = brief 16 (omega arith) (few_next a)
 
 -- in front of a list of the root
 few_root_start : (low : ℕ) (high : Option ℕ) (m : Bool) → IsSizeOfProfile (record { low = low; high = high; extensible = m }) → HasFew 16 (RootStart low high)
-few_root_start low (Some high) m good = few_map 16 (few_map 16 (few_below (suc (high - low)) 16 (omega (arith, (high_small low high m good).1))))
+few_root_start low (Some high) m good = go (nat_lt high 65536) refl
+  where
+    go : (b : Bool) → nat_lt high 65536 ≡ b → HasFew 16 (StartForm b low high)
+    go true e = (let few = ltb-true high 65536 e in few_map 16 (few_map 16 (few_below (suc (high - low)) 16 (omega (arith, few)))))
+    go false e = few_more 0 16 (omega arith) (few_nothing _)
 few_root_start low None m good = few_more 0 16 (omega arith) (few_nothing _)
 
 pub few_start : (s : SizeRange) → IsSizeOfProfile s → HasFew 17 (Start s)

@@ -138,19 +138,19 @@ fragment_read R c l new n us rest h r e = go r.read
         }
 
 -- the lists outside the root of a size are within the profile
-pub other_within : (low : ℕ) (high : Option ℕ) → low ≤ 65535 → IsWithinProfile (lengths (other_counts low high) 0 false)
+pub other_within : (low : ℕ) (high : Option ℕ) → low ≤ max_len → IsWithinProfile (lengths (other_counts low high) 0 false)
 other_within low None l n (inl h) = omega (arith, h.1, l)
 other_within low None l n (inr h) = absurd h
 other_within zero (Some high) l n (inl h) = h.1
 other_within zero (Some high) l n (inr h) = absurd h
-other_within (suc low) (Some high) l n (inl h) = h.1
-other_within (suc low) (Some high) l n (inr (inl h)) = omega (arith, h.1, l)
+other_within (suc low) (Some high) l n (inl h) = omega (arith, h.1, l)
+other_within (suc low) (Some high) l n (inr (inl h)) = h.1
 other_within (suc low) (Some high) l n (inr (inr h)) = absurd h
 
 -- those of the root of a size
-pub root_within : (low : ℕ) → IsWithinProfile (lengths ((low, Some max_len) ∷ []) 0 false)
-root_within low n (inl h) = h.1
-root_within low n (inr h) = absurd h
+pub root_within : (low high : ℕ) → high ≤ max_len → IsWithinProfile (lengths ((low, Some high) ∷ []) 0 false)
+root_within low high l n (inl h) = omega (arith, h.1, l)
+root_within low high l n (inr h) = absurd h
 
 -- the items that are read are within it
 pub so_far_fits : (is : List (ℕ × Option ℕ)) (so_far n : ℕ) (closed : Bool) → IsWithinProfile (lengths is 0 false) → SomeAhead (lengths is (so_far + n) closed) → so_far + n < 2 ^ 32

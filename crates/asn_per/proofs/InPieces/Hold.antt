@@ -1,5 +1,5 @@
 -- An element of a list has a bit in PER, and a string has at least a bit for each item.
-use Rattle.std.proofs.Common.{◌≡◌, ◌≤◌, ◌-◌, ◌*◌, ◌==◌, ℕ, suc, Bool, true, false, List, [], ◌∷◌, length, length-append, map, Option, Some, None, refl, sym, ap, ◌∙◌, subst, arith}
+use Rattle.std.proofs.Common.{◌≡◌, ◌≤◌, ◌-◌, ◌*◌, ◌==◌, ℕ, suc, Bool, true, false, List, [], ◌∷◌, length, length-append, map, Option, Some, None, nat_lt, refl, sym, ap, ◌∙◌, subst, arith}
 use Rattle.asn_values.specs.Datum.{Datum, bit_list, octet_list, characters, unicode}
 use Rattle.asn_values.specs.Fits.{Fits, in_size}
 use Rattle.asn_values.specs.Measures.{cells}
@@ -56,11 +56,17 @@ module _ {A : Type 0} (f : A → List Chunk) (each : (x : A) → 1 ≤ length (f
 
   within_many : (low : ℕ) (high : Option ℕ) → length xs ≤ length (flat spelled (within low high (map f xs)))
   within_many low None = general_many
-  within_many low (Some high) =
-      let us = constrained (suc (high - low)) (length (map f xs) - low) in
-      let e = ap length (flat-append spelled (ones us) (joined (map f xs))) ∙ length-append (flat spelled (ones us)) (flat spelled (joined (map f xs))) in
-      let j = ap length (flat-joined spelled (map f xs)) in
-      omega (arith, e, j, many f each xs)
+  within_many low (Some high) = go (nat_lt high 65536)
+    where
+      us : List ℕ
+      us = constrained (suc (high - low)) (length (map f xs) - low)
+
+      go : (b : Bool) → length xs ≤ length (flat spelled (elim b [ true ↦ ones us ++ joined (map f xs) | false ↦ general one (map f xs) ]))
+      go true =
+          let e = ap length (flat-append spelled (ones us) (joined (map f xs))) ∙ length-append (flat spelled (ones us)) (flat spelled (joined (map f xs))) in
+          let j = ap length (flat-joined spelled (map f xs)) in
+          omega (arith, e, j, many f each xs)
+      go false = general_many
 
   mark_many : (e i : Bool) (root other : List Chunk) → length xs ≤ length (flat spelled root) → length xs ≤ length (flat spelled other) → length xs ≤ length (flat spelled (after_mark one e i root other))
   mark_many false i root other p q = p

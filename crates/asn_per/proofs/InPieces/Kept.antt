@@ -1,5 +1,5 @@
 -- What is kept of open type fields and UTF8Strings in PER is their content; the other simple types are plain bits.
-use Rattle.std.proofs.Common.{◌≡◌, ◌≢◌, ◌≤◌, ◌<◌, ◌+◌, ◌-◌, ◌/◌, ◌%◌, ◌^◌, ⊎_elim, ℕ, zero, suc, Bool, true, false, List, [], ◌∷◌, ◌++◌, length, length-append, map, append-nil, append_assoc, Option, Some, None, refl, sym, ap, ◌∙◌, subst, arith}
+use Rattle.std.proofs.Common.{◌≡◌, ◌≢◌, ◌≤◌, ◌<◌, ◌+◌, ◌-◌, ◌/◌, ◌%◌, ◌^◌, ⊎_elim, ℕ, zero, suc, Bool, true, false, List, [], ◌∷◌, ◌++◌, length, length-append, map, append-nil, append_assoc, Option, Some, None, nat_lt, refl, sym, ap, ◌∙◌, subst, arith}
 use Rattle.std.proofs.lemmas.Bool.{cases_eq}
 use Rattle.std.proofs.lemmas.List.{length-map}
 use Rattle.std.proofs.lemmas.Str.{IsUtf8-nil}
@@ -122,9 +122,14 @@ general_plain ys = (_, ap (λ (n : ℕ). with_lengths one (lengths n) (map ones 
 
 within_plain : (low : ℕ) (high : Option ℕ) (ys : List (List ℕ)) → Plainly (within low high (map ones ys))
 within_plain low None ys = general_plain ys
-within_plain low (Some high) ys =
-    let us = constrained (suc (high - low)) (length (map ones ys) - low) in
-    (us ++ joined ys, ap (λ (l : List Chunk). ones us ++ l) (joined_ones ys) ∙ sym (ones-append us (joined ys)))
+within_plain low (Some high) ys = go (nat_lt high 65536)
+  where
+    us : List ℕ
+    us = constrained (suc (high - low)) (length (map ones ys) - low)
+
+    go : (b : Bool) → Plainly (elim b [ true ↦ ones us ++ joined (map ones ys) | false ↦ general one (map ones ys) ])
+    go true = (us ++ joined ys, ap (λ (l : List Chunk). ones us ++ l) (joined_ones ys) ∙ sym (ones-append us (joined ys)))
+    go false = general_plain ys
 
 mark_plain : (extensible inside : Bool) (root other : List Chunk) → Plainly root → Plainly other → Plainly (after_mark one extensible inside root other)
 mark_plain false inside root other p q = p

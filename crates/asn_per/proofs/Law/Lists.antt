@@ -1,6 +1,6 @@
 -- Lists in PER, under their general length or under a size: where the spellings of the items face each other,
 -- so do those of the lists.
-use Rattle.std.proofs.Common.{◌≡◌, ◌≤◌, ◌<◌, ◌-◌, ◌*◌, ◌/◌, ℕ, zero, suc, pred, Bool, true, false, ◌&&◌, ◌||◌, List, [], ◌∷◌, ◌++◌, length, map, take, drop, Option, Some, None, inl, inr, refl, sym, ◌∙◌, ap, subst, arith, append_assoc, length-drop, IsTrue, nat_le}
+use Rattle.std.proofs.Common.{◌≡◌, ◌≤◌, ◌<◌, ◌-◌, ◌*◌, ◌/◌, ℕ, zero, suc, pred, Bool, true, false, ◌&&◌, ◌||◌, List, [], ◌∷◌, ◌++◌, length, map, take, drop, Option, Some, None, inl, inr, refl, sym, ◌∙◌, ap, subst, arith, append_assoc, length-drop, IsTrue, nat_le, nat_lt}
 use Rattle.std.proofs.lemmas.Bool.{and_parts, leb-true}
 use Rattle.std.proofs.lemmas.List.{append-nil, length-map, length-take-le, drop-map, take-append-drop, append_cancel_left}
 use Rattle.std.proofs.Math.Seq.{take-length}
@@ -125,18 +125,23 @@ module _ {A : Type 0} (P : A → Type 0) (code : A → List Chunk) (h : IsFacing
       → AllByRecursion P xs → AllByRecursion P ys → (xs ≡ ys → Facing spelled E r s)
       → Facing spelled E (within low high (map code xs) ++ r) (within low high (map code ys) ++ s)
   within_facing E low None xs ys r s bx by p q next = general_faces P code h E xs ys r s p q next
-  within_facing E low (Some high) xs ys r s bx by p q next =
-      let x = inside low (Some high) (length xs) bx in
-      let y = inside low (Some high) (length ys) by in
-      let hx : length xs ≤ high = leb-true (length xs) high x.1 in
-      let hy : length ys ≤ high = leb-true (length ys) high y.1 in
-      let n = suc (high - low) in
-      facing_at spelled E (ap (λ k. ones (constrained n (k - low)) ++ joined (map code xs) ++ r) (length-map xs code)) (ap (λ k. ones (constrained n (k - low)) ++ joined (map code ys) ++ s) (length-map ys code))
-      (facing_parts spelled E (ones (constrained n (length xs - low))) (joined (map code xs)) r (ones (constrained n (length ys - low))) (joined (map code ys)) s
-      (plain_facing spelled E (length xs ≡ length ys) (constrained n (length xs - low)) (constrained n (length ys - low)) _ _
-      (λ t u e. (let w = digits_code 2 (omega arith) (width n) (length xs - low) (length ys - low) t u (width_fits n (length xs - low) (omega arith)) (width_fits n (length ys - low) (omega arith)) e in
-      let same : length xs - low ≡ length ys - low = w.0 in (omega arith, ap (constrained n) same)))
-      (λ l. joined_facing spelled P code h E xs ys r s l p q next)))
+  within_facing E low (Some high) xs ys r s bx by p q next = go (nat_lt high 65536)
+    where
+      go : (b : Bool) → Facing spelled E (elim b [ true ↦ ones (constrained (suc (high - low)) (length (map code xs) - low)) ++ joined (map code xs) | false ↦ general one (map code xs) ] ++ r)
+          (elim b [ true ↦ ones (constrained (suc (high - low)) (length (map code ys) - low)) ++ joined (map code ys) | false ↦ general one (map code ys) ] ++ s)
+      go false = general_faces P code h E xs ys r s p q next
+      go true =
+          let x = inside low (Some high) (length xs) bx in
+          let y = inside low (Some high) (length ys) by in
+          let hx : length xs ≤ high = leb-true (length xs) high x.1 in
+          let hy : length ys ≤ high = leb-true (length ys) high y.1 in
+          let n = suc (high - low) in
+          facing_at spelled E (ap (λ k. ones (constrained n (k - low)) ++ joined (map code xs) ++ r) (length-map xs code)) (ap (λ k. ones (constrained n (k - low)) ++ joined (map code ys) ++ s) (length-map ys code))
+          (facing_parts spelled E (ones (constrained n (length xs - low))) (joined (map code xs)) r (ones (constrained n (length ys - low))) (joined (map code ys)) s
+          (plain_facing spelled E (length xs ≡ length ys) (constrained n (length xs - low)) (constrained n (length ys - low)) _ _
+          (λ t u e. (let w = digits_code 2 (omega arith) (width n) (length xs - low) (length ys - low) t u (width_fits n (length xs - low) (omega arith)) (width_fits n (length ys - low) (omega arith)) e in
+          let same : length xs - low ≡ length ys - low = w.0 in (omega arith, ap (constrained n) same)))
+          (λ l. joined_facing spelled P code h E xs ys r s l p q next)))
 
   -- lists of lengths that the size allows
   pub sized_facing : (z : SizeRange) → IsFacing spelled (λ xs. FitsLength z (length xs) × AllByRecursion P xs) (λ xs. sized z (map code xs))

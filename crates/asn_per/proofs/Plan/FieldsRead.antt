@@ -1,5 +1,6 @@
 -- The index of a CHOICE and the count of a SEQUENCE OF, by the bits that tell it.
 use Rattle.std.proofs.Common.{◌≡◌, ◌<◌, ◌+◌, ◌-◌, ◌++◌, ◌∷◌, inl, ℕ, suc, Bool, true, false, is_some, List, Option, Some, refl, sym, ap, subst, ◌∙◌, arith}
+use Rattle.std.proofs.lemmas.Bool.{lt-ltb}
 use Rattle.asn_values.specs.Shape.{SizeRange}
 use Rattle.asn_bits.specs.Numbers.{bits, width}
 use Rattle.asn_bits.specs.Sink.{bit_of}
@@ -15,7 +16,7 @@ use Rattle.asn_plan.specs.Fields.{IsTold, IsIndexInBits, IsCountInBits, BeginsLi
 use Rattle.asn_plan.specs.declared.field.BitField.{BitField}
 use Rattle.asn_plan.proofs.FieldBits.{index_within}
 use Rattle.asn_per.specs.Indexes.{index_bits}
-use Rattle.asn_per.specs.ListsAhead.{RootStart, Start}
+use Rattle.asn_per.specs.ListsAhead.{StartForm, RootStart, Start}
 use Rattle.asn_per.specs.Per.{per_fields, constrained, spelled}
 use Rattle.asn_per.specs.Rules.{per_ruling}
 use Rattle.asn_per.specs.Walk.{per_coding}
@@ -48,24 +49,25 @@ index_in_bits f root more is n us vs h =
 -- ---- SEQUENCE OF
 
 -- the bits of a count between two bounds, after an extension bit 0
-root_count : (low high k : ℕ) (vs : List ℕ) → k < suc (high - low)
+root_count : (low high k : ℕ) (vs : List ℕ) → high < 65536 → k < suc (high - low)
     → Spells per_fields (RootStart low (Some high)) (items (low + k)) (constrained (suc (high - low)) k ++ vs) vs
-root_count low high k vs inside =
+root_count low high k vs few inside =
     let values = suc (high - low) in
     let told = set_spelt 2 (width values) {S = λ n. n < values} k inside (width_fits values k inside) in
-    map_spells {f = items} (map_spells {f = λ n. low + n} (plain_spells per_fields k (bits (width values) k) vs told))
+    let read : Spells per_fields (StartForm true low high) (items (low + k)) (constrained values k ++ vs) vs = map_spells {f = items} (map_spells {f = λ n. low + n} (plain_spells per_fields k (bits (width values) k) vs told)) in
+    subst (λ (b : Bool). Spells per_fields (StartForm b low high) (items (low + k)) (constrained values k ++ vs) vs) (sym (lt-ltb high 65536 few)) read
 
-start_first : (low high k : ℕ) (m : Bool) (us vs : List ℕ) → k < suc (high - low)
+start_first : (low high k : ℕ) (m : Bool) (us vs : List ℕ) → high < 65536 → k < suc (high - low)
     → us ≡ bits (bit_of m + width (suc (high - low))) k ++ vs
     → Spells per_fields (Start (record { low = low; high = Some high; extensible = m })) (items (low + k)) us vs
-start_first low high k false us vs inside e =
+start_first low high k false us vs few inside e =
     let values = suc (high - low) in
     let front : us ≡ constrained values k ++ vs = e ∙ ap (λ (l : List ℕ). l ++ vs) (sym (root_index_bits values k inside false (bit_of false) refl)) in
-    subst (λ (l : List ℕ). Spells per_fields (RootStart low (Some high)) (items (low + k)) l vs) (sym front) (root_count low high k vs inside)
-start_first low high k true us vs inside e =
+    subst (λ (l : List ℕ). Spells per_fields (RootStart low (Some high)) (items (low + k)) l vs) (sym front) (root_count low high k vs few inside)
+start_first low high k true us vs few inside e =
     let values = suc (high - low) in
     let front : us ≡ 0 ∷ (constrained values k ++ vs) = e ∙ ap (λ (l : List ℕ). l ++ vs) (sym (root_index_bits values k inside true (bit_of true) refl)) in
-    (mark_zero low (Some high) true us (constrained values k ++ vs) refl front).done (items (low + k)) vs (root_count low high k vs inside)
+    (mark_zero low (Some high) true us (constrained values k ++ vs) refl front).done (items (low + k)) vs (root_count low high k vs few inside)
 
 pub count_in_bits : (f : BitField) (s : SizeRange) → IsCountInBits f s → (n : ℕ) (us vs : List ℕ) → IsTold f n us vs → BeginsList per_coding s n us vs
 unfolding per_coding per_ruling
@@ -78,7 +80,7 @@ count_in_bits f s is n us vs h =
     let wide : f.bits ≡ bit_of s.extensible + width (suc (high - s.low)) = is.bits ∙ ap (λ (k : ℕ). bit_of s.extensible + width k) values in
     let split = h.split ∙ ap (λ (k : ℕ). bits f.bits k ++ vs) same ∙ ap (λ (k : ℕ). bits k h.above ++ vs) wide in
     let sized : Option ℕ → SizeRange = λ o. record { low = s.low; high = o; extensible = s.extensible } in
-    let read = start_first s.low high h.above s.extensible us vs inside split in
+    let read = start_first s.low high h.above s.extensible us vs is.few inside split in
     record {
       ahead = items n;
       between = vs;

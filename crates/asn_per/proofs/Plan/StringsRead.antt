@@ -44,6 +44,7 @@ fixed_first f (bit_string s) n good is few =
         truths = ts;
         is = refl;
         only = only;
+        few = omega (arith, many, is.4.few);
         split = e ∙ ap (λ (l : List ℕ). l ++ r) front ∙ append_assoc (extension_bit s.extensible false) (map bit_of ts) r;
       });
     }
@@ -59,6 +60,7 @@ fixed_first f (octet_string s) n good is few =
         octets = os;
         is = refl;
         only = only;
+        few = omega (arith, many, is.5.few);
         unmarked = is.2;
         each = all_octets f.length n;
         split = e ∙ ap (λ (l : List ℕ). l ++ r) front;

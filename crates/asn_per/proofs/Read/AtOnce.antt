@@ -1,6 +1,6 @@
 -- Values whose bits are taken at once: those bits are the ones that a writer puts.
 use Rattle.std.proofs.Common.{◌≡◌, ◌<◌, ◌+◌, ◌-◌, inl, ℕ, suc, Bool, true, false, List, [], ◌∷◌, ◌++◌, length, map, Option, Some, None, refl, sym, ◌∙◌, ap, subst, arith, append_assoc}
-use Rattle.std.proofs.lemmas.Bool.{le-leb}
+use Rattle.std.proofs.lemmas.Bool.{le-leb, lt-ltb}
 use Rattle.std.proofs.lemmas.List.{length-map, length-replicate}
 use Rattle.asn_values.specs.Datum.{Datum, bit_list, octet_list, item}
 use Rattle.asn_values.specs.Fits.{Fits, FitsLength, in_size}
@@ -49,18 +49,23 @@ only_size n m = record { low = n; high = Some n; extensible = m }
 only_inside : (n : ℕ) (m : Bool) → in_size (only_size n m) n ≡ true
 only_inside n m = rw (le-leb n n (omega arith)) refl
 
--- the items follow the extension bit
-only_contents : (m : Bool) (xs : List (List Chunk)) → AllContents per_fields (joined xs) → AllContents per_fields (sized (only_size (length xs) m) xs)
-only_contents false xs h = contents-append per_fields (ones (constrained (suc (length xs - length xs)) (length xs - length xs))) (joined xs) (contents-ones per_fields (constrained (suc (length xs - length xs)) (length xs - length xs))) h
-only_contents true xs h =
-    subst (λ b. AllContents per_fields (after_mark one true b (within (length xs) (Some (length xs)) xs) (general one xs))) (sym (only_inside (length xs) true))
-    (contents-append per_fields (ones (constrained (suc (length xs - length xs)) (length xs - length xs))) (joined xs) (contents-ones per_fields (constrained (suc (length xs - length xs)) (length xs - length xs))) h)
+-- items of that count
+count_contents : (n : ℕ) (xs : List (List Chunk)) → n < 65536 → AllContents per_fields (joined xs) → AllContents per_fields (within n (Some n) xs)
+count_contents n xs few h =
+    let count = constrained (suc (n - n)) (length xs - n) in
+    subst (λ (b : Bool). AllContents per_fields (elim b [ true ↦ ones count ++ joined xs | false ↦ general one xs ])) (sym (lt-ltb n 65536 few)) (contents-append per_fields (ones count) (joined xs) (contents-ones per_fields count) h)
 
-only_bits : (m : Bool) (xs : List (List Chunk)) → flat spelled (sized (only_size (length xs) m) xs) ≡ extension_bit m false ++ row_bits xs
-only_bits m xs =
+-- the items follow the extension bit
+only_contents : (m : Bool) (xs : List (List Chunk)) → length xs < 65536 → AllContents per_fields (joined xs) → AllContents per_fields (sized (only_size (length xs) m) xs)
+only_contents false xs few h = count_contents (length xs) xs few h
+only_contents true xs few h =
+    subst (λ b. AllContents per_fields (after_mark one true b (within (length xs) (Some (length xs)) xs) (general one xs))) (sym (only_inside (length xs) true)) (count_contents (length xs) xs few h)
+
+only_bits : (m : Bool) (xs : List (List Chunk)) → length xs < 65536 → flat spelled (sized (only_size (length xs) m) xs) ≡ extension_bit m false ++ row_bits xs
+only_bits m xs few =
     let n = length xs in
     let none : suc (n - n) ≡ 1 = omega arith in
-    root_bits n n m xs (only_inside n m) ∙ ap (λ k. extension_bit m false ++ (bits (width k) (n - n) ++ row_bits xs)) none
+    root_bits n n m few xs (only_inside n m) ∙ ap (λ k. extension_bit m false ++ (bits (width k) (n - n) ++ row_bits xs)) none
 
 -- what is said of that size is said of the one with these bounds
 of_only : (P : SizeRange → Type 0) (low n : ℕ) (high : Option ℕ) (m : Bool) → low ≡ n → high ≡ Some n → P (only_size n m) → P (record { low = low; high = high; extensible = m })
@@ -80,10 +85,11 @@ bits_first s d us r good h =
     let size = bits_size s good in
     let xs = map one_chunk ts in
     let many : length xs ≡ length ts = length-map ts one_chunk in
+    let few : length xs < 65536 = omega (arith, many, h.few) in
     let fits : FitsLength s (length ts) = subst (FitsLength s) (length-replicate s.low true ∙ h.only.low) (shortest_fits s true size.ordered size.small) in
     let parts : (AllContents per_fields (sized s xs)) × (flat spelled (sized s xs) ≡ extension_bit s.extensible false ++ row_bits xs) =
     of_only (λ z. AllContents per_fields (sized z xs) × (flat spelled (sized z xs) ≡ extension_bit z.extensible false ++ row_bits xs)) s.low (length xs) s.high s.extensible
-    (h.only.low ∙ sym many) (h.only.high ∙ ap Some (sym many)) (only_contents s.extensible xs (plain_items (λ b. bit_of b ∷ []) ts), only_bits s.extensible xs) in
+    (h.only.low ∙ sym many) (h.only.high ∙ ap Some (sym many)) (only_contents s.extensible xs few (plain_items (λ b. bit_of b ∷ []) ts), only_bits s.extensible xs few) in
     let e : us ≡ flat spelled (sized s xs) ++ r =
     h.split ∙ sym (append_assoc (extension_bit s.extensible false) (map bit_of ts) r) ∙ ap (λ t. (extension_bit s.extensible false ++ t) ++ r) (sym (row_of one_bit ts ∙ bits_joined ts)) ∙ ap (λ t. t ++ r) (sym parts.1) in
     rw h.is (spelt_first (bit_string s) (bit_list ts) us r fits parts.0 e)
@@ -95,10 +101,11 @@ octets_first s d us r good h =
     let size = octets_size s good in
     let xs = map octet_chunks os in
     let many : length xs ≡ length os = length-map os octet_chunks in
+    let few : length xs < 65536 = omega (arith, many, h.few) in
     let fits : FitsLength s (length os) = subst (FitsLength s) (length-replicate s.low true ∙ h.only.low) (shortest_fits s true size.ordered size.small) in
     let parts : (AllContents per_fields (sized s xs)) × (flat spelled (sized s xs) ≡ extension_bit s.extensible false ++ row_bits xs) =
     of_only (λ z. AllContents per_fields (sized z xs) × (flat spelled (sized z xs) ≡ extension_bit z.extensible false ++ row_bits xs)) s.low (length xs) s.high s.extensible
-    (h.only.low ∙ sym many) (h.only.high ∙ ap Some (sym many)) (only_contents s.extensible xs (plain_items (λ o. bits 8 o) os), only_bits s.extensible xs) in
+    (h.only.low ∙ sym many) (h.only.high ∙ ap Some (sym many)) (only_contents s.extensible xs few (plain_items (λ o. bits 8 o) os), only_bits s.extensible xs few) in
     let e : us ≡ flat spelled (sized s xs) ++ r =
     h.split ∙ ap (λ t. t ++ r) (sym (row_of (λ o. bits 8 o) os ∙ octets_joined os)) ∙ ap (λ b. (extension_bit b false ++ row_bits xs) ++ r) (sym h.unmarked) ∙ ap (λ t. t ++ r) (sym parts.1) in
     rw h.is (spelt_first (octet_string s) (octet_list os) us r (fits, h.each) parts.0 e)

@@ -2,7 +2,7 @@
 -- cites at each exit.
 use Rattle.std.proofs.Common.{◌≡◌, ◌≤◌, ◌<◌, ◌+◌, ◌-◌, ◌*◌, ◌⊎◌, inl, inr, ⊎_elim, ℕ, zero, suc, nat_lt, nat_le, Bool, true, false, ◌&&◌, List, [], ◌∷◌, ◌++◌, length, length-append, append-nil, append_assoc, Option, Some, None, refl, sym, ap, subst, ◌∙◌, arith}
 use Rattle.std.proofs.lemmas.Nat.{pow_pos}
-use Rattle.std.proofs.lemmas.Bool.{ltb-false, lt-leb, le-leb, cases_lt}
+use Rattle.std.proofs.lemmas.Bool.{ltb-false, lt-ltb, le-ltb, lt-leb, le-leb, leb-false, cases_lt}
 use Rattle.asn_values.specs.Shape.{SizeRange}
 use Rattle.asn_values.specs.Fits.{max_len, in_size}
 use Rattle.asn_values.proofs.Parts.{left_false, right_false}
@@ -29,14 +29,14 @@ use Rattle.asn_rules.proofs.Languages.Rows.{row_inhabited}
 use Rattle.asn_rules.proofs.Languages.Spellings.{same_after, same_map, same_fork}
 use Rattle.asn_rules.proofs.Languages.Then.{Follows}
 use Rattle.asn_per.specs.Per.{spelled, per_fields}
-use Rattle.asn_per.specs.Kinds.{Below, of_either, IsOtherCount, CountWithin, RootSized, Sized}
+use Rattle.asn_per.specs.Kinds.{Below, of_either, IsOtherCount, CountWithin, RootForm, RootSized, Sized}
 use Rattle.asn_rules.specs.declared.number_reader.NumberSet.{NumberSet}
 use Rattle.asn_rules.specs.NumberSets.{Admits}
 use Rattle.asn_per.specs.Reading.{Appends, StopsAtMark}
 use Rattle.asn_rules.proofs.Plain.NumberSets.{same_set}
 use Rattle.asn_walk.specs.Ahead.{Ahead, items, lengths, end, Remaining, SomeAhead, Advances, Next, StopsNext}
 use Rattle.asn_walk.specs.Laws.{IsSizeOfProfile}
-use Rattle.asn_per.specs.ListsAhead.{other_counts, RootStart, Start}
+use Rattle.asn_per.specs.ListsAhead.{other_counts, StartForm, RootStart, Start}
 use Rattle.asn_per.proofs.Encodings.PerFields.{per_fields_part}
 
 -- ---- one after the other, under views
@@ -126,18 +126,22 @@ then_either {B} {C} X Y M = record { to = λ v cs h. there v cs h.source h.seen 
 
 -- ---- counts
 
--- a low bound is small
-pub low_small : (low : ℕ) (high : Option ℕ) (m : Bool) → IsSizeOfProfile (record { low = low; high = high; extensible = m }) → low ≤ 65535
-low_small low high m good = ltb-false 65535 low (left_false (nat_lt 65535 low) _ good.small)
+-- a low bound is a length of the profile
+pub low_small : (low : ℕ) (high : Option ℕ) (m : Bool) → IsSizeOfProfile (record { low = low; high = high; extensible = m }) → low ≤ max_len
+low_small low high m good = ltb-false 268435455 low (left_false (nat_lt 268435455 low) _ good.small)
 
--- the bounds are in order, and the high one is small
-pub high_small : (low high : ℕ) (m : Bool) → IsSizeOfProfile (record { low = low; high = Some high; extensible = m }) → (low ≤ high) × (high ≤ 65535)
-high_small low high m good = (ltb-false high low good.ordered, ltb-false 65535 high (right_false (nat_lt 65535 low) _ good.small))
+-- the bounds are in order, and the high one is a length of the profile
+pub high_small : (low high : ℕ) (m : Bool) → IsSizeOfProfile (record { low = low; high = Some high; extensible = m }) → (low ≤ high) × (high ≤ max_len)
+high_small low high m good = (ltb-false high low good.ordered, ltb-false 268435455 high (right_false (nat_lt 268435455 low) _ good.small))
 
 -- a mark without an upper bound wants a low one
 low_useful : (low : ℕ) → IsSizeOfProfile (record { low = low; high = None; extensible = true }) → 0 < low
 low_useful zero good = absurd (let e = good.useful in cc)
 low_useful (suc low) good = omega arith
+
+-- and one without a low bound an upper one with lengths above it
+pub high_useful : (high : ℕ) → IsSizeOfProfile (record { low = 0; high = Some high; extensible = true }) → high < max_len
+high_useful high good = leb-false 268435455 high good.useful
 
 -- below the low bound
 outside_low : (low n : ℕ) (high : Option ℕ) → n < low → in_size (record { low = low; high = high; extensible = true }) n ≡ false
@@ -170,8 +174,8 @@ others_there zero (Some high) good n h = inl (above (cases_lt high n), h.most)
 others_there (suc low) (Some high) good n h = go (cases_lt n (suc low)) (cases_lt high n)
   where
     go : (n < suc low) ⊎ (suc low ≤ n) → (high < n) ⊎ (n ≤ high) → Spanned (other_counts (suc low) (Some high)) n
-    go (inl l) g = inr (inl (omega arith, omega arith))
-    go (inr l) (inl g) = inl (omega arith, h.most)
+    go (inl l) g = inl (omega arith, omega arith)
+    go (inr l) (inl g) = inr (inl (omega arith, h.most))
     go (inr l) (inr g) = absurd (inside (suc low) high n l g h.outside)
 
 -- and back
@@ -180,21 +184,26 @@ others_back low None good n (inl h) = record { most = omega (arith, h.1, low_sma
 others_back low None good n (inr h) = absurd h
 others_back zero (Some high) good n (inl h) = record { most = h.1; outside = outside_high 0 high n (omega (arith, h.0)) }
 others_back zero (Some high) good n (inr h) = absurd h
-others_back (suc low) (Some high) good n (inl h) = record { most = h.1; outside = outside_high (suc low) high n (omega (arith, h.0)) }
-others_back (suc low) (Some high) good n (inr (inl h)) = record { most = omega (arith, h.1, low_small (suc low) (Some high) true good); outside = outside_low (suc low) n (Some high) (omega (arith, h.1)) }
+others_back (suc low) (Some high) good n (inl h) = record { most = omega (arith, h.1, low_small (suc low) (Some high) true good); outside = outside_low (suc low) n (Some high) (omega (arith, h.1)) }
+others_back (suc low) (Some high) good n (inr (inl h)) = record { most = h.1; outside = outside_high (suc low) high n (omega (arith, h.0)) }
 others_back (suc low) (Some high) good n (inr (inr h)) = absurd h
 
 -- ---- a list under a size
 
--- a list in the root
-root_ahead : {A : Type 0} (L : A → List Chunk → Type 0) (low : ℕ) (high : Option ℕ) → Same (Map after_first (Then (RootStart low high) (λ a. Remaining L a))) (RootSized low high L)
-root_ahead L low (Some high) = same_flip (then_view items (CountWithin low high) (λ a. Remaining L a))
-root_ahead L low None = same_after (same_flip (then_nothing (lengths ((low, Some max_len) ∷ []) 0 false) (λ a. Remaining L a)))
-    (same_after (starts_spanned L ((low, Some max_len) ∷ [])) (general_sets L there (λ n h. inl h)))
+-- a list of a count between the bounds
+form_ahead : {A : Type 0} (L : A → List Chunk → Type 0) (b : Bool) (low high : ℕ) → Same (Map after_first (Then (StartForm b low high) (λ a. Remaining L a))) (RootForm b low high L)
+form_ahead L true low high = same_flip (then_view items (CountWithin low high) (λ a. Remaining L a))
+form_ahead L false low high = same_after (same_flip (then_nothing (lengths ((low, Some high) ∷ []) 0 false) (λ a. Remaining L a)))
+    (same_after (starts_spanned L ((low, Some high) ∷ [])) (general_sets L there (λ n h. inl h)))
   where
-    there : (n : ℕ) → Spanned ((low, Some max_len) ∷ []) n → (low ≤ n) × (n ≤ max_len)
+    there : (n : ℕ) → Spanned ((low, Some high) ∷ []) n → (low ≤ n) × (n ≤ high)
     there n (inl h) = h
     there n (inr h) = absurd h
+
+-- a list in the root
+root_ahead : {A : Type 0} (L : A → List Chunk → Type 0) (low : ℕ) (high : Option ℕ) → Same (Map after_first (Then (RootStart low high) (λ a. Remaining L a))) (RootSized low high L)
+root_ahead L low (Some high) = form_ahead L (nat_lt high 65536) low high
+root_ahead L low None = form_ahead L false low max_len
 
 -- a list outside the root
 other_ahead : {A : Type 0} (L : A → List Chunk → Type 0) (low : ℕ) (high : Option ℕ) → IsSizeOfProfile (record { low = low; high = high; extensible = true })
@@ -219,20 +228,31 @@ count_lawful : (low high : ℕ) → Lawful (CountWithin low high)
 count_lawful low high = map_lawful (λ a b e. omega arith) (set_lawful 2 (width (suc (high - low))) (λ n. n < suc (high - low)))
 
 -- in front of a list of the root
+form_lawful : (b : Bool) (low high : ℕ) → Lawful (StartForm b low high)
+form_lawful true low high = map_lawful (λ a b e. cc) (count_lawful low high)
+form_lawful false low high = nothing_lawful (lengths ((low, Some high) ∷ []) 0 false)
+
 root_start_lawful : (low : ℕ) (high : Option ℕ) → Lawful (RootStart low high)
-root_start_lawful low (Some high) = map_lawful (λ a b e. cc) (count_lawful low high)
-root_start_lawful low None = nothing_lawful (lengths ((low, Some max_len) ∷ []) 0 false)
+root_start_lawful low (Some high) = form_lawful (nat_lt high 65536) low high
+root_start_lawful low None = form_lawful false low max_len
+
+-- the low bound of the first counts that are ahead
+first_low : Ahead → ℕ
+first_low (lengths (i ∷ is) so_far closed) = i.0
+first_low _ = 0
+
+-- what is ahead of a list between the bounds begins at the low bound, where no count stands before it
+form_apart : (b : Bool) (low high : ℕ) (is : List (ℕ × Option ℕ)) (a : Ahead) (x : List Chunk) → StartForm b low high a x → a ≡ lengths is 0 false → low ≡ first_low (lengths is 0 false)
+form_apart true low high is a x h e = (let f = h.seen in absurd (cc))
+form_apart false low high is a x h e = ap first_low (sym h.same ∙ e)
 
 -- what is ahead of a list of the root is not what is ahead of others
 root_or_other : (low : ℕ) (high : Option ℕ) → IsSizeOfProfile (record { low = low; high = high; extensible = true }) → (a : Ahead) (x : List Chunk) → RootStart low high a x → a ≡ lengths (other_counts low high) 0 false → ⊥
-root_or_other low (Some high) good a x h e = (let f = h.seen in absurd (cc))
+root_or_other zero (Some high) good a x h e = (let z : 0 ≡ high + 1 = form_apart (nat_lt high 65536) 0 high (other_counts 0 (Some high)) a x h e in absurd (omega arith))
+root_or_other (suc low) (Some high) good a x h e = (let z : suc low ≡ 0 = form_apart (nat_lt high 65536) (suc low) high (other_counts (suc low) (Some high)) a x h e in absurd (omega arith))
 root_or_other low None good a x h e =
-    let z : low ≡ 0 = ap first_low (sym h.same ∙ e) in
+    let z : low ≡ 0 = form_apart false low max_len (other_counts low None) a x h e in
     absurd (omega (arith, low_useful low good))
-  where
-    first_low : Ahead → ℕ
-    first_low (lengths (i ∷ is) so_far closed) = i.0
-    first_low _ = 0
 
 -- a value of the one form
 zero_side : {A B : Type 0} {X : A → List Chunk → Type 0} {Y : B → List Chunk → Type 0} {a : A} {x : List Chunk} → Branch {A = A} {V = A ⊎ B} 0 inl X (inl a) x ⊎ Branch {A = B} {V = A ⊎ B} 1 inr Y (inl a) x → (r : List Chunk) × X a r
@@ -262,14 +282,18 @@ start_lawful s good = go s.low s.high s.extensible good
 pub start_some : (s : SizeRange) → IsSizeOfProfile s → (a : Ahead) (x : List Chunk) → Start s a x → SomeAhead a
 start_some s good a x h = go s.low s.high s.extensible good a x h
   where
+    form : (b : Bool) (low high : ℕ) → low ≤ high → (a : Ahead) (x : List Chunk) → StartForm b low high a x → SomeAhead a
+    form true low high o a x h = subst (λ b. SomeAhead b) (sym h.seen) tt
+    form false low high o a x h = subst (λ b. SomeAhead b) (sym h.same) ((low, at_start (inl (omega arith, omega (arith, o)))))
+
     root : (low : ℕ) (high : Option ℕ) (m : Bool) → IsSizeOfProfile (record { low = low; high = high; extensible = m }) → (a : Ahead) (x : List Chunk) → RootStart low high a x → SomeAhead a
-    root low (Some high) m good a x h = subst (λ b. SomeAhead b) (sym h.seen) tt
-    root low None m good a x h = subst (λ b. SomeAhead b) (sym h.same) ((low, at_start (inl (omega arith, omega (arith, low_small low None m good)))))
+    root low (Some high) m good a x h = form (nat_lt high 65536) low high (high_small low high m good).0 a x h
+    root low None m good a x h = form false low max_len (low_small low None m good) a x h
 
     other : (low : ℕ) (high : Option ℕ) → IsSizeOfProfile (record { low = low; high = high; extensible = true }) → SomeAhead (lengths (other_counts low high) 0 false)
     other low None good = (0, at_start (inl (omega arith, omega arith)))
-    other zero (Some high) good = (high + 1, at_start (inl (omega arith, omega (arith, (high_small zero high true good).1))))
-    other (suc low) (Some high) good = (high + 1, at_start (inl (omega arith, omega (arith, (high_small (suc low) high true good).1))))
+    other zero (Some high) good = (high + 1, at_start (inl (omega arith, omega (arith, high_useful high good))))
+    other (suc low) (Some high) good = (0, at_start (inl (omega arith, omega arith)))
 
     either : (low : ℕ) (high : Option ℕ) → IsSizeOfProfile (record { low = low; high = high; extensible = true }) → (a : Ahead) (w : Ahead ⊎ Ahead) (x : List Chunk) → a ≡ of_either w → Fork (RootStart low high) (Nothing (lengths (other_counts low high) 0 false)) w x → SomeAhead a
     either low high good a (inl b) x e h = (let r = zero_side h.side in subst (λ c. SomeAhead c) (sym e) (root low high true good b r.0 r.1))
@@ -327,15 +351,20 @@ pub some_root_count : (k above : ℕ) → Meets (λ n. Admits (root_set above) n
 some_root_count k above = set_meets 2 k 0 (omega arith, omega arith, tt) (pow_pos k)
 
 -- a reader of it is one of what stands in front
-pub root_leads : (low high above values : ℕ) (us : List ℕ) → above ≡ high - low → values ≡ above + 1
+pub root_leads : (low high above values : ℕ) (us : List ℕ) → high < 65536 → above ≡ high - low → values ≡ above + 1
     → Leads per_fields (Plain (InSet (width values) (λ n. Admits (root_set above) n))) us (λ k. items (low + k)) (RootStart low (Some high)) us
-root_leads low high above values us e f =
+root_leads low high above values us few e f =
     let v : values ≡ suc (high - low) = omega arith in
     let w = width (suc (high - low)) in
     let set = same_set {S = λ n. Admits (root_set (high - low)) n} {T = λ n. n < suc (high - low)} 2 w (λ c h. omega (arith, h.1)) (λ c h. (omega arith, omega (arith, h), tt)) in
-    let leads : Leads per_fields (Plain (InSet w (λ n. Admits (root_set (high - low)) n))) us (λ k. items (low + k)) (RootStart low (Some high)) us =
+    let leads : Leads per_fields (Plain (InSet w (λ n. Admits (root_set (high - low)) n))) us (λ k. items (low + k)) (StartForm true low high) us =
     leads_on (leads_on (leads_same per_fields us set) (leads_map per_fields (λ k. low + k) (Below w (suc (high - low))) us)) (leads_map per_fields items (CountWithin low high) us) in
-    rw (v, e) leads
+    subst (λ (b : Bool). Leads per_fields (Plain (InSet (width values) (λ n. Admits (root_set above) n))) us (λ k. items (low + k)) (StartForm b low high) us) (sym (lt-ltb high 65536 few)) (rw (v, e) leads)
+
+-- from an upper bound of 65,536 on a length is ahead
+pub root_general : (low high : ℕ) (us : List ℕ) → 65536 ≤ high → Spells per_fields (RootStart low (Some high)) (lengths ((low, Some high) ∷ []) 0 false) us us
+root_general low high us many =
+    subst (λ (b : Bool). Spells per_fields (StartForm b low high) (lengths ((low, Some high) ∷ []) 0 false) us us) (sym (le-ltb high 65536 many)) (nothing_spells per_fields (lengths ((low, Some high) ∷ []) 0 false) us)
 
 -- ---- where a reader of a list stands
 

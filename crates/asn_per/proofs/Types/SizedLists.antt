@@ -1,6 +1,6 @@
 -- Lists under a size in PER are put together from their count and their items, whatever the items are.
 use Rattle.std.proofs.Common.{◌≡◌, ◌≤◌, ◌<◌, ◌+◌, ◌-◌, ◌⊎◌, inl, inr, ℕ, suc, Bool, true, false, List, [], ◌++◌, map, length, Option, Some, None, nat_le, nat_lt, refl, sym, ap, subst, ◌∙◌, arith}
-use Rattle.std.proofs.lemmas.Bool.{and_parts, leb-true, le-leb, ltb-false}
+use Rattle.std.proofs.lemmas.Bool.{and_parts, leb-true, le-leb, ltb-false, lt-ltb}
 use Rattle.std.proofs.lemmas.List.{length-map}
 use Rattle.std.specs.List.{AllByRecursion}
 use Rattle.asn_values.specs.Shape.{SizeRange}
@@ -16,7 +16,7 @@ use Rattle.asn_rules.specs.Spellings.{SpelledBy, FitsEither, either_code}
 use Rattle.asn_rules.proofs.Numbers.Fragments.{same_general, general_spelled}
 use Rattle.asn_rules.proofs.Languages.Spellings.{same_after, same_then, same_map, same_row, same_fork, same_spelled, then_spelled, map_spelled, row_spelled, fork_spelled}
 use Rattle.asn_per.specs.Per.{constrained, within, sized}
-use Rattle.asn_per.specs.Kinds.{of_either, IsOtherCount, CountWithin, RootSized, Sized}
+use Rattle.asn_per.specs.Kinds.{of_either, IsOtherCount, CountWithin, RootForm, RootSized, Sized}
 use Rattle.asn_per.proofs.Types.BooleanAndNull.{below_spelled}
 
 -- ---- sizes of the profile
@@ -41,9 +41,13 @@ root_good low None m good = record { ordered = good.ordered; small = good.small 
 -- ---- the same items
 
 -- lists in the root, of items of the same spellings
+same_form : {A : Type 0} {K L : A → List Chunk → Type 0} → Same K L → (b : Bool) (low high : ℕ) → Same (RootForm b low high K) (RootForm b low high L)
+same_form e true low high = same_map (same_then (record { to = λ v cs h. h; from = λ v cs h. h }) (λ n. same_row e n))
+same_form e false low high = same_general e (λ n. (low ≤ n) × (n ≤ high))
+
 same_root_sized : {A : Type 0} {K L : A → List Chunk → Type 0} → Same K L → (low : ℕ) (high : Option ℕ) → Same (RootSized low high K) (RootSized low high L)
-same_root_sized e low (Some high) = same_map (same_then (record { to = λ v cs h. h; from = λ v cs h. h }) (λ n. same_row e n))
-same_root_sized e low None = same_general e (λ n. (low ≤ n) × (n ≤ max_len))
+same_root_sized e low (Some high) = same_form e (nat_lt high 65536) low high
+same_root_sized e low None = same_form e false low max_len
 
 -- lists under a size, of items of the same spellings
 pub same_sized : {A : Type 0} {K L : A → List Chunk → Type 0} → Same K L → (s : SizeRange) → Same (Sized s K) (Sized s L)
@@ -70,8 +74,8 @@ no_count_bits : (n m : ℕ) → constrained (suc (n - n)) m ≡ []
 no_count_bits n m = let none : n - n ≡ 0 = omega arith in ap (λ (k : ℕ). bits (width (suc k)) m) none
 
 -- that many items in a row, and no count
-pub fixed_sized : {A : Type 0} (L : A → List Chunk → Type 0) (n : ℕ) → Same (Row L n) (RootSized n (Some n) L)
-fixed_sized {A} L n = record {
+fixed_form : {A : Type 0} (L : A → List Chunk → Type 0) (n : ℕ) → Same (Row L n) (RootForm true n n L)
+fixed_form {A} L n = record {
   to = λ vs cs h. record {
     source = (n, vs);
     spelt = record { first = []; second = cs; spelt = (count_spelled n n (omega arith)).from n [] (record { fits = (omega arith, omega arith); same = ap ones (sym (no_count_bits n (n - n))) }); follows = h; whole = refl };
@@ -85,6 +89,9 @@ fixed_sized {A} L n = record {
       subst (λ (l : List Chunk). Row L n vs l) (sym same) (subst (λ (ws : List A). Row L n ws h.spelt.second) (sym h.seen) (subst (λ (k : ℕ). Row L k h.source.1 h.spelt.second) count h.spelt.follows));
 }
 
+pub fixed_sized : {A : Type 0} (L : A → List Chunk → Type 0) (n : ℕ) → n < 65536 → Same (Row L n) (RootSized n (Some n) L)
+fixed_sized L n few = subst (λ (b : Bool). Same (Row L n) (RootForm b n n L)) (sym (lt-ltb n 65536 few)) (fixed_form L n)
+
 -- ---- lists of items that are spelt by a function
 
 module _ {A : Type 0} (P : A → Type 0) (code : A → List Chunk) where
@@ -93,15 +100,15 @@ module _ {A : Type 0} (P : A → Type 0) (code : A → List Chunk) where
   FitSize s vs = FitsLength s (length vs) × AllByRecursion P vs
 
   -- a count, and as many items
-  bounded_spelled : (low high : ℕ) → low ≤ high → Same (RootSized low (Some high) (SpelledBy P code))
-      (SpelledBy (λ vs. ((low ≤ length vs) × (length vs ≤ high)) × AllByRecursion P vs) (λ vs. within low (Some high) (map code vs)))
+  bounded_spelled : (low high : ℕ) → low ≤ high → Same (RootForm true low high (SpelledBy P code))
+      (SpelledBy (λ vs. ((low ≤ length vs) × (length vs ≤ high)) × AllByRecursion P vs) (λ vs. ones (constrained (suc (high - low)) (length (map code vs) - low)) ++ joined (map code vs)))
   bounded_spelled low high o = same_after (same_map (same_after (same_then (count_spelled low high o) (λ n. row_spelled n)) then_spelled)) (map_spelled there back)
     where
       count_bits : ℕ → List Chunk
       count_bits n = ones (constrained (suc (high - low)) (n - low))
 
       there : (p : ℕ × List A) → ((low ≤ p.0) × (p.0 ≤ high)) × ((length p.1 ≡ p.0) × AllByRecursion P p.1)
-          → (((low ≤ length p.1) × (length p.1 ≤ high)) × AllByRecursion P p.1) × (ones (constrained (suc (high - low)) (p.0 - low)) ++ joined (map code p.1) ≡ within low (Some high) (map code p.1))
+          → (((low ≤ length p.1) × (length p.1 ≤ high)) × AllByRecursion P p.1) × (ones (constrained (suc (high - low)) (p.0 - low)) ++ joined (map code p.1) ≡ ones (constrained (suc (high - low)) (length (map code p.1) - low)) ++ joined (map code p.1))
       there p h = (
         ((omega (arith, h.0.0, h.1.0), omega (arith, h.0.1, h.1.0)), h.1.1),
         ap (λ (n : ℕ). ones (constrained (suc (high - low)) (n - low)) ++ joined (map code p.1)) (sym h.1.0 ∙ sym (length-map p.1 code)),
@@ -114,12 +121,24 @@ module _ {A : Type 0} (P : A → Type 0) (code : A → List Chunk) where
     -- lists in the root
     pub root_sized_spelled : (low : ℕ) (high : Option ℕ) → IsGoodSize (record { low = low; high = high; extensible = false })
         → Same (RootSized low high (SpelledBy P code)) (SpelledBy (FitSize (record { low = low; high = high; extensible = false })) (λ vs. within low high (map code vs)))
-    root_sized_spelled low (Some high) good =
-        let o = high_within low high false good in
-        same_after (bounded_spelled low high o.0) (same_spelled
-        (λ vs h. ((omega (arith, h.0.1, o.1), rw (le-leb low (length vs) h.0.0, le-leb (length vs) high h.0.1) refl), h.1))
-        (λ vs h. (let w = and_parts (nat_le low (length vs)) (nat_le (length vs) high) h.0.1 in ((leb-true low (length vs) w.0, leb-true (length vs) high w.1), h.1)))
-        (λ vs h. refl))
+    root_sized_spelled low (Some high) good = go (nat_lt high 65536)
+      where
+        o : (low ≤ high) × (high ≤ max_len)
+        o = high_within low high false good
+
+        Within : List A → Type 0
+        Within vs = ((low ≤ length vs) × (length vs ≤ high)) × AllByRecursion P vs
+
+        fits : (vs : List A) → Within vs → FitSize (record { low = low; high = Some high; extensible = false }) vs
+        fits vs h = ((omega (arith, h.0.1, o.1), rw (le-leb low (length vs) h.0.0, le-leb (length vs) high h.0.1) refl), h.1)
+
+        inside : (vs : List A) → FitSize (record { low = low; high = Some high; extensible = false }) vs → Within vs
+        inside vs h = (let w = and_parts (nat_le low (length vs)) (nat_le (length vs) high) h.0.1 in ((leb-true low (length vs) w.0, leb-true (length vs) high w.1), h.1))
+
+        go : (b : Bool) → Same (RootForm b low high (SpelledBy P code))
+            (SpelledBy (FitSize (record { low = low; high = Some high; extensible = false })) (λ vs. elim b [ true ↦ ones (constrained (suc (high - low)) (length (map code vs) - low)) ++ joined (map code vs) | false ↦ general one (map code vs) ]))
+        go true = same_after (bounded_spelled low high o.0) (same_spelled fits inside (λ vs h. refl))
+        go false = same_after (general_spelled P code law (λ n. (low ≤ n) × (n ≤ high))) (same_spelled fits inside (λ vs h. refl))
     root_sized_spelled low None good = same_after (general_spelled P code law (λ n. (low ≤ n) × (n ≤ max_len))) (same_spelled
         (λ vs h. ((h.0.1, rw (le-leb low (length vs) h.0.0) refl), h.1))
         (λ vs h. (let w = and_parts (nat_le low (length vs)) true h.0.1 in ((leb-true low (length vs) w.0, h.0.0), h.1)))

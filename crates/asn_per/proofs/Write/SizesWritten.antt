@@ -1,6 +1,6 @@
 -- Where a writer of items under a size stands: what is in front of them, and one length after the other.
 use Rattle.std.proofs.Common.{⊎_elim, ◌⊎◌, inl, inr, IsTrue, not, ◌||◌, ◌≡◌, ◌≤◌, ◌<◌, ◌+◌, ◌-◌, ◌*◌, ◌^◌, ℕ, suc, Bool, true, false, ◌&&◌, nat_lt, nat_le, Option, Some, None, List, [], ◌∷◌, ◌++◌, length, take, drop, refl, sym, ◌∙◌, ap, subst, arith, append_assoc}
-use Rattle.std.proofs.lemmas.Bool.{cases_lt, and_parts, leb-true, lt-ltb, ltb-true, ltb-false}
+use Rattle.std.proofs.lemmas.Bool.{cases_lt, and_parts, leb-true, lt-ltb, le-ltb, ltb-true, ltb-false}
 use Rattle.std.proofs.lemmas.List.{length-drop, drop-drop, drop_all}
 use Rattle.asn_values.specs.Shape.{SizeRange}
 use Rattle.asn_values.specs.Fits.{in_size}
@@ -39,41 +39,54 @@ root_room low high count w h m e i f =
     subst (λ (k : ℕ). count - low < 2 ^ k) (sym f) (width_fits (suc (high - low)) (count - low) (omega (arith, b.0, b.1)))
 
 -- the form of the root
-plain_bits : (low high : ℕ) (xs : List (List Chunk)) → flat spelled (within low (Some high) xs) ≡ bits (width (suc (high - low))) (length xs - low) ++ row_bits xs
-plain_bits low high xs =
+plain_bits : (low high : ℕ) (xs : List (List Chunk)) → high < 65536 → flat spelled (within low (Some high) xs) ≡ bits (width (suc (high - low))) (length xs - low) ++ row_bits xs
+plain_bits low high xs few =
     let front = constrained (suc (high - low)) (length xs - low) in
-    flat-append spelled (ones front) (joined xs) ∙ ap (λ (t : List ℕ). t ++ row_bits xs) (flat-ones spelled front)
+    ap (λ (b : Bool). flat spelled (elim b [ true ↦ ones front ++ joined xs | false ↦ general one xs ])) (lt-ltb high 65536 few)
+    ∙ flat-append spelled (ones front) (joined xs) ∙ ap (λ (t : List ℕ). t ++ row_bits xs) (flat-ones spelled front)
 
-pub root_bits : (low high : ℕ) (m : Bool) (xs : List (List Chunk)) → in_size (sizing low (Some high) m) (length xs) ≡ true
+pub root_bits : (low high : ℕ) (m : Bool) → high < 65536 → (xs : List (List Chunk)) → in_size (sizing low (Some high) m) (length xs) ≡ true
     → flat spelled (sized (sizing low (Some high) m) xs) ≡ extension_bit m false ++ (bits (width (suc (high - low))) (length xs - low) ++ row_bits xs)
-root_bits low high false xs i = plain_bits low high xs
-root_bits low high true xs i =
+root_bits low high false few xs i = plain_bits low high xs few
+root_bits low high true few xs i =
     ap (λ b. flat spelled (after_mark one true b (within low (Some high) xs) (general one xs))) i
-    ∙ ap (λ (t : List ℕ). 0 ∷ t) (plain_bits low high xs)
+    ∙ ap (λ (t : List ℕ). 0 ∷ t) (plain_bits low high xs few)
 
--- in the root, with an upper bound: the count is written, and the items follow
-pub root_written : (low high count w : ℕ) (h : Option ℕ) (m : Bool) → h ≡ Some high → in_size (sizing low h m) count ≡ true → w ≡ width (suc (high - low))
+-- in the root, with an upper bound below 65,536: the count is written, and the items follow
+pub root_written : (low high count w : ℕ) (h : Option ℕ) (m : Bool) → h ≡ Some high → high < 65536 → in_size (sizing low h m) count ≡ true → w ≡ width (suc (high - low))
     → (xs : List (List Chunk)) → length xs ≡ count → (extension_bit m false ++ bits w (count - low)) ++ row_bits xs ≡ flat spelled (sized (sizing low h m) xs)
-root_written low high count w h m e i f xs l =
+root_written low high count w h m e few i f xs l =
     let known : in_size (sizing low (Some high) m) (length xs) ≡ true = ap (λ k. in_size (sizing low k m) (length xs)) (sym e) ∙ ap (λ n. in_size (sizing low h m) n) l ∙ i in
     let front = bits (width (suc (high - low))) (length xs - low) in
     let counted : bits w (count - low) ≡ front = rw (f, l) refl in
     append_assoc (extension_bit m false) (bits w (count - low)) (row_bits xs) ∙ ap (λ (t : List ℕ). extension_bit m false ++ (t ++ row_bits xs)) counted
-    ∙ sym (root_bits low high m xs known) ∙ ap (λ k. flat spelled (sized (sizing low k m) xs)) (sym e)
+    ∙ sym (root_bits low high m few xs known) ∙ ap (λ k. flat spelled (sized (sizing low k m) xs)) (sym e)
+
+-- no upper bound is below 65,536
+abbrev pub IsGeneral : ℕ → Option ℕ → Type 0
+IsGeneral low h = (xs : List (List Chunk)) → within low h xs ≡ general one xs
+
+pub no_bound : (low : ℕ) (h : Option ℕ) → h ≡ None → IsGeneral low h
+no_bound low h e xs = ap (λ k. within low k xs) e
+
+pub large_bound : (low high : ℕ) (h : Option ℕ) → h ≡ Some high → 65536 ≤ high → IsGeneral low h
+large_bound low high h e many xs =
+    ap (λ k. within low k xs) e
+    ∙ ap (λ (b : Bool). elim b [ true ↦ ones (constrained (suc (high - low)) (length xs - low)) ++ joined xs | false ↦ general one xs ]) (le-ltb high 65536 many)
 
 -- and else the items follow under their general length
-pub other_written : (low count : ℕ) (h : Option ℕ) (m i : Bool) → i ≡ in_size (sizing low h m) count → IsTrue (m || i) → (h ≡ None) ⊎ (i ≡ false)
+pub other_written : (low count : ℕ) (h : Option ℕ) (m i : Bool) → i ≡ in_size (sizing low h m) count → IsTrue (m || i) → IsGeneral low h ⊎ (i ≡ false)
     → (xs : List (List Chunk)) → length xs ≡ count → extension_bit m (not i) ++ general_bits xs ≡ flat spelled (sized (sizing low h m) xs)
 other_written low count h m i e fits which xs l =
     let inside : in_size (sizing low h m) (length xs) ≡ i = ap (λ n. in_size (sizing low h m) n) l ∙ sym e in
     marked m i fits which ∙ ap (λ b. flat spelled (after_mark one m b (within low h xs) (general one xs))) (sym inside)
   where
-    marked : (m i : Bool) → IsTrue (m || i) → (h ≡ None) ⊎ (i ≡ false)
+    marked : (m i : Bool) → IsTrue (m || i) → IsGeneral low h ⊎ (i ≡ false)
         → extension_bit m (not i) ++ general_bits xs ≡ flat spelled (after_mark one m i (within low h xs) (general one xs))
-    marked false true f (inl n) = ap (λ k. flat spelled (within low k xs)) (sym n)
+    marked false true f (inl n) = ap (flat spelled) (sym (n xs))
     marked false true f (inr n) = absurd (cc)
     marked false false f w = absurd (cc)
-    marked true true f (inl n) = ap (λ k. 0 ∷ flat spelled (within low k xs)) (sym n)
+    marked true true f (inl n) = ap (λ c. 0 ∷ flat spelled c) (sym (n xs))
     marked true true f (inr n) = absurd (cc)
     marked true false f w = refl
 

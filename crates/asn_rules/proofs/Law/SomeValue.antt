@@ -61,7 +61,7 @@ all_same P a (suc n) h = (h, all_same P a n h)
 
 -- the shortest list of copies has a length that fits
 pub shortest_fits : {A : Type 0} (z : SizeRange) (a : A) → size_above z ≡ false → large_size (Some z) ≡ false → FitsLength z (length (replicate z.low a))
-shortest_fits z a h g = subst (FitsLength z) (sym (length-replicate z.low a)) (omega (arith, ltb-false 65535 z.low (or_parts _ _ g).0), either z.extensible)
+shortest_fits z a h g = subst (FitsLength z) (sym (length-replicate z.low a)) (omega (arith, ltb-false 268435455 z.low (or_parts _ _ g).0), either z.extensible)
   where
     inside : in_size z z.low ≡ true
     inside = let a : nat_le z.low z.low ≡ true = le-leb z.low z.low (omega arith) in rw (a, high_enough z.low z.high z.extensible h) refl

@@ -6,9 +6,9 @@ use Rattle.asn_bits.specs.Numbers.{bits, width}
 use Rattle.asn_rules.specs.Components.{extension_bit}
 use Rattle.asn_per.specs.Rules.{per_ruling}
 use Rattle.asn_per.specs.Walk.{per_coding}
-use Rattle.asn_per.proofs.Write.SizesWritten.{root_room, root_written, other_written}
+use Rattle.asn_per.proofs.Write.SizesWritten.{IsGeneral, no_bound, large_bound, root_room, root_written, other_written}
 use Rattle.asn_per.proofs.sizes.write_size.Goals as goal
-use Rattle.asn_per.proofs.sizes.write_size.Goals.{in_default-via-in-Some+else-inside, in_default-via-in_default}
+use Rattle.asn_per.proofs.sizes.write_size.Goals.{in_default-via-in-Some+else-inside, in_default-via-in-Some+else-high-lt-GENERAL_FROM, in_default-via-in_default}
 
 pub push_number-requires-clause-fits : goal.push_number-requires-clause-fits
 push_number-requires-clause-fits g c =
@@ -35,7 +35,7 @@ returns-in_ok-push_number-in-Some g c = λ xs l.
     record {
       done = extension_bit s.ext false ++ bits w (c.args.count - s.low);
       pushed = g.met.S.Sink.pushes_joined old mid new (extension_bit s.ext false) (bits w (c.args.count - s.low)) mark count;
-      rest = root_written s.low c.in-Some.high c.args.count w s.high s.ext c.in-Some.is inside (c.width.ensures.width ∙ ap width values) xs l;
+      rest = root_written s.low c.in-Some.high c.args.count w s.high s.ext c.in-Some.is (omega (arith, c.if-high-lt-GENERAL_FROM.true)) inside (c.width.ensures.width ∙ ap width values) xs l;
     }
 
 pub returns-in_default : goal.returns-in_default
@@ -43,9 +43,10 @@ unfolding per_coding per_ruling
 returns-in_default g c = λ xs l.
     let s = c.args.size.now in
     let i = c.is_in_size-inside.result in
-    let which : (s.high ≡ None) ⊎ (i ≡ false) = elim c.in_default.branch [
+    let which : IsGeneral s.low s.high ⊎ (i ≡ false) = elim c.in_default.branch [
       | in_default-via-in-Some+else-inside w ↦ inr w.if-inside.false
-      | in_default-via-in_default w ↦ inl w.in_default.is
+      | in_default-via-in-Some+else-high-lt-GENERAL_FROM w ↦ inl (large_bound s.low w.in-Some.high s.high w.in-Some.is (omega (arith, w.if-high-lt-GENERAL_FROM.false)))
+      | in_default-via-in_default w ↦ inl (no_bound s.low s.high w.in_default.is)
     ] in
     let fits : IsTrue (s.ext || i) = subst (λ (b : Bool). IsTrue (s.ext || b)) (sym c.is_in_size-inside.ensures) c.requires.1 in
     record {

@@ -26,5 +26,6 @@ returns c =
       first = refl;
       low = refl;
       high = c.in_ok-size.was ∙ ap Some sum;
+      few = omega (arith, sum, c.if-high-ge-GENERAL_FROM.false);
       bits = omega (arith, mark, c.width.ensures.width, ap width values);
     }

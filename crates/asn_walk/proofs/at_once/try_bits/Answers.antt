@@ -32,6 +32,7 @@ returns-clause-done c _ =
       truths = new;
       is = datum_of-Bits vec ∙ ap bit_list items;
       only = subst (λ n. IsOnlyLength (size_range_of c.args.size.now) n) same (c.if-not-is_only_length.ensures refl);
+      few = omega (arith, same, c.if-count-gt63.false);
       split = bits_split c.args.size.now.ext count c.in-Some.number c.greatest_of_width.result new c.args.bits.now r first c.greatest_of_width.ensures word;
     } in
     rw (c.in-Bits.truths-is, c.in-Bits.is) told

@@ -314,26 +314,6 @@ static int wide_integers(const tulvorn_handle *module) {
     return 0;
 }
 
-/* types of at most so many levels */
-static int levels(const tulvorn_handle *module) {
-    static const struct {
-        const char *name;
-        uint32_t levels;
-    } types[] = {{"Msg", 2}, {"All", 5}};
-    tulvorn_handle type = TULVORN_NONE;
-    tulvorn_fault fault;
-    for (size_t at = 0; at < sizeof types / sizeof *types; at++)
-        for (uint32_t most = 0; most < 8; most++) {
-            uint32_t code = tulvorn_type_levels(module, TEXT(types[at].name), most, &type, &fault);
-            CHECK(code == (most < types[at].levels ? TULVORN_TOO_DEEP : TULVORN_DONE) && fault.code == code);
-            CHECK((type.at == NULL) == (code == TULVORN_TOO_DEEP));
-            tulvorn_close(&type);
-        }
-    CHECK(tulvorn_type_levels(module, TEXT("Other"), 64, &type, &fault) == TULVORN_NO_NAME);
-    CHECK(tulvorn_type_levels(module, TEXT("\xff"), 64, &type, &fault) == TULVORN_NOT_TEXT && type.at == NULL);
-    return 0;
-}
-
 static int memory(const tulvorn_handle *module, const tulvorn_handle *msg, const tulvorn_handle *all, long *count) {
     const uint8_t good[2] = {0x6b, 0x04};
     tulvorn_handle value = TULVORN_NONE;
@@ -347,7 +327,6 @@ static int memory(const tulvorn_handle *module, const tulvorn_handle *msg, const
     EACH_FAILS(it, tulvorn_explain_module(TEXT(MODULE), &it));
     EACH_FAILS(it, tulvorn_explain_module(TEXT("M DEFINITIONS AUTOMATIC TAGS ::= BEGIN T ::= U END"), &it));
     EACH_FAILS(it, tulvorn_type(module, TEXT("All"), &it, &fault));
-    EACH_FAILS(it, tulvorn_type_levels(module, TEXT("All"), 5, &it, &fault));
     EACH_FAILS(it, tulvorn_share(all, &it));
     EACH_FAILS(it, tulvorn_decode(msg, TULVORN_PER, good, 2, &it, &fault));
     const tulvorn_budget most = {100, 100};
@@ -389,7 +368,7 @@ static int calls(long *refused) {
     CHECK(tulvorn_module(TEXT(MODULE), &module, &fault) == TULVORN_DONE);
     CHECK(tulvorn_type(&module, TEXT("Msg"), &msg, &fault) == TULVORN_DONE);
     CHECK(tulvorn_type(&module, TEXT("All"), &all, &fault) == TULVORN_DONE);
-    CHECK(levels(&module) == 0 && memory(&module, &msg, &all, refused) == 0);
+    CHECK(memory(&module, &msg, &all, refused) == 0);
     CHECK(newer(&module) == 0 && wide_integers(&module) == 0 && budgets() == 0);
     /* a type outlives its module and its first handle */
     CHECK(tulvorn_share(&module, &other) == TULVORN_MISUSE && tulvorn_share(&msg, &other) == TULVORN_DONE);

@@ -1,22 +1,24 @@
 """The LLVM module of a program in two halves, which two processes write side by side.
 
 Each half is of the whole program, but in one of them the functions of some crates have no body, and in the other those of
-other crates. A function with type parameters keeps its body, since each half compiles it for the types of its callers.
-Of each function the module takes a body that a half has. If no half has it, the module is made in one piece.
+other crates. A function with type parameters keeps its body, since each half compiles it for the types of its callers,
+and so does a short one. Of each function the module takes a body that a half has. If no half has it, the module is made
+in one piece.
 """
 import os
 import re
-from multiprocessing import get_context
 
 # the crates whose functions have no body in a half, and the modules of the program's own crate; in any other half each has
+# (the first half has what checks, reads and writes messages)
 EMPTIED = [it.split() for it in ("""
+asn_module asn_notation asn_constraint_text clap strsim
+asn_published_text asn_published_read asn_published_types asn_published_report asn_published_write
+""", """
 asn_plan asn_per asn_oer asn_newer asn_constrained asn_fields asn_explain asn_examples asn_resuming asn_window
 asn_walk_feed asn_walk_read asn_walk_into asn_walk_check asn_walk_write asn_json json serde_json
 asn_look asn_convert asn_tool/running
-""", """
-asn_module asn_module_files asn_notation asn_constraint_text clap strsim
-asn_published_text asn_published_read asn_published_types asn_published_report asn_published_write
 """)]
+SHORT = 2  # lines of a body that stays: what only functions without a body call is written in no half
 FUNCTION = re.compile(r"( *)(?:pub(?:\([a-z ]+\))? )?(const )?(?:unsafe )?fn \w+(<)?")
 
 
@@ -42,7 +44,7 @@ def emptied(text):
             begun = re.compile(rf"{indent}(\S.*)?\{{$")
             body = next((it + 1 for it in range(at, len(lines)) if begun.match(lines[it])), 0)
             end = next((it for it in range(body, len(lines)) if lines[it] == indent + "}"), 0) if body else 0
-            if end > body and not (is_const or opened and has_types(line[function.end() :])):
+            if end > body + SHORT and not (is_const or opened and has_types(line[function.end() :])):
                 lines[body:end] = ["loop {}"] + [""] * (end - body - 1)
             at = max(at, end)
         at += 1
@@ -88,21 +90,3 @@ def has_body(text):
         left += re.findall(r"label %([\w.]+)", block)
     return False
 
-
-def begun(write, folder):
-    """Starts writing a program's two halves, in processes side by side, and returns these, each with its folder.
-
-    `write` is called with a folder and the crates whose functions have no body.
-    """
-    halves = [(f"{folder}/half{index}", crates) for index, crates in enumerate(EMPTIED)]
-    made = [(get_context("fork").Process(target=write, args=it), it[0]) for it in halves]
-    for process, _ in made:
-        process.start()
-    return made
-
-
-def ended(made):
-    """The texts of the halves, as files, once they are written, or None if one of them was not written."""
-    for process, _ in made:
-        process.join()
-    return None if any(it.exitcode for it, _ in made) else [f"{at}/text.ll" for _, at in made]

@@ -35,7 +35,7 @@ SCRIPTS = """published limits shown versions streaming published_commands publis
 published_sequences forms bounds""".split()
 FIRST, TOOL = "crates/asn_first/out/asn_first", "crates/asn_tool/out/asn_tool"
 # the memory of one proof, and the words before what runs beside the proofs
-MEMORY, BEHIND = 5_500_000_000, ["nice", "-n", "19"]
+MEMORY, BEHIND = 4_800_000_000, ["nice", "-n", "19"]
 COUNT = re.compile(r"(\d+) passed, (\d+) failed(?:, (\d+) skipped)?")
 PROVED = re.compile(r"rt: (\w+) (?:proved$|is kept: )")
 # what `rt ci` says of a crate that is not proved, what says why in it, and what else steps say of what failed

@@ -20,12 +20,12 @@ returns c =
     let most = c.in_ok-most.most in
     let mark : c.from.result ≡ bit_of marked = c.from.ensures ∙ bool_byte-is marked in
     let bounds = c.in_ok-most.ensures in
-    let sum : c.in_ok-size.field-0 ≡ c.args.size.now.low + most = omega (arith, bounds) in
+    let sum : c.in_ok-high.high ≡ c.args.size.now.low + most = omega (arith, bounds) in
     let values : c.from-2.result + 1 ≡ suc most = omega (arith, c.from-2.ensures) in
     record {
       first = refl;
       low = refl;
-      high = c.in_ok-size.was ∙ ap Some sum;
+      high = c.in_ok-high.was ∙ ap Some sum;
       few = omega (arith, sum, c.if-high-ge-GENERAL_FROM.false);
       bits = omega (arith, mark, c.width.ensures.width, ap width values);
     }

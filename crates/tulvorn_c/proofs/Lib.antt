@@ -2,7 +2,7 @@ mod Converting
 mod Feeding
 mod Free
 mod HandleValues
-mod Levels
+mod DeepTypes
 mod LooseValues
 mod ObjectSend
 mod ShownValues

@@ -74,7 +74,7 @@ fn put_named_within(
 }
 
 /// Whether the type of that name has more levels.
-#[tactic(auto, using(crate::proofs::Levels::profile_deep))]
+#[tactic(auto, using(crate::proofs::DeepTypes::profile_deep))]
 fn is_deeper(types: &Module, name: &str, levels: u32) -> bool
     ensures deeper { IsTrue result → IsDeeper name.now levels (types_view types.now) }
     ensures within { IsFalse result → IsWithin name.now levels (types_view types.now) }

@@ -18,7 +18,7 @@ returns-in-Err-new-clause-refused c =
 
 pub returns-in-Ok-module_held-clause-read : goal.returns-in-Ok-module_held-clause-read
 returns-in-Ok-module_held-clause-read c =
-    (types_view c.in-Ok-new.module.module, c.in-Ok-module_held.ensures, subst (λ (m : Module). Accepted c.args.text.now (types_view m)) (sym c.in-Ok-new.ensures.same) c.in-Ok.ensures.accepted)
+    (types_view c.in-Ok-new.module.module, (c.in-Ok-module_held.ensures, subst (λ (m : Module). Accepted c.args.text.now (types_view m)) (sym c.in-Ok-new.ensures.same) c.in-Ok.ensures.accepted))
 
 pub returns-in-Err-module_held-clause-refused : goal.returns-in-Err-module_held-clause-refused
 returns-in-Err-module_held-clause-refused c = inr (inl c.plain.ensures)

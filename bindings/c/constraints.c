@@ -158,28 +158,6 @@ static int bad_lines(void) {
     return 0;
 }
 
-/* names that refer one to the next, each with a constraint: 256 are put together and no more */
-static int chains(void) {
-    tulvorn_handle module = TULVORN_NONE, type = TULVORN_NONE;
-    tulvorn_fault fault;
-    static char text[1 << 14];
-    for (int count = 256; count <= 257; count++) {
-        size_t size = (size_t)sprintf(text, "M DEFINITIONS AUTOMATIC TAGS ::= BEGIN\n");
-        for (int at = 0; at < count; at++)
-            size += (size_t)sprintf(text + size, "A%d ::= A%d\n--: A%d (0..5 | 7)\n", at, at + 1, at);
-        sprintf(text + size, "A%d ::= INTEGER (0..7)\nEND\n", count);
-        CHECK(tulvorn_module(TEXT(text), &module, &fault) == TULVORN_DONE);
-        CHECK(tulvorn_type(&module, TEXT("A1"), &type, &fault) == TULVORN_DONE);
-        CHECK(tulvorn_check(&type, TULVORN_PER, (const uint8_t[]){0xc0}, 1, &fault) == TULVORN_REFUSED);
-        CHECK(is_broken(&fault, 8));
-        uint32_t code = tulvorn_type(&module, TEXT("A0"), &type, &fault);
-        CHECK(code == (count == 256 ? TULVORN_DONE : TULVORN_LARGE_CONSTRAINT));
-    }
-    tulvorn_close(&type);
-    tulvorn_close(&module);
-    return 0;
-}
-
 static int memory(const tulvorn_handle *module, const tulvorn_handle *type, long *count) {
     const struct broken *row = &rows[0];
     tulvorn_handle value = TULVORN_NONE, session = TULVORN_NONE, out = TULVORN_NONE;
@@ -220,7 +198,7 @@ int main(void) {
     tulvorn_handle module = TULVORN_NONE, type = TULVORN_NONE, other = TULVORN_NONE;
     tulvorn_fault fault;
     long count = 0;
-    CHECK(bad_lines() == 0 && chains() == 0 && tulvorn_module(TEXT(MODULE), &module, &fault) == TULVORN_DONE);
+    CHECK(bad_lines() == 0 && tulvorn_module(TEXT(MODULE), &module, &fault) == TULVORN_DONE);
     for (size_t at = 0; at < sizeof rows / sizeof *rows; at++) {
         const struct broken *row = &rows[at];
         CHECK(tulvorn_type(&module, TEXT(row->type), &type, &fault) == TULVORN_DONE);

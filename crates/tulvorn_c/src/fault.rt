@@ -76,8 +76,7 @@ pub(crate) const ABSENT: u32 = 21;
 /// The value takes more than the budget.
 const OVER_BUDGET: u32 = 22;
 
-/// The constraint of the type has more than 1,000,000 parts, or more than 256 names that refer one to the next have
-/// one.
+/// The constraint of the type has more than 1,000,000 parts.
 pub(crate) const LARGE_CONSTRAINT: u32 = 23;
 
 /// The reason of a refusal where the value breaks the constraint of its type: the one after those of `Why`.

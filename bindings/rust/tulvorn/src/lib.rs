@@ -177,8 +177,7 @@ pub enum Reason {
     Absent,
     /// The octets are the encoding of a value that takes more than the budget.
     OverBudget,
-    /// The constraint of the type has more than 1,000,000 parts, or more than 256 names that refer one to the next
-    /// have one.
+    /// The constraint of the type has more than 1,000,000 parts.
     LargeConstraint,
     /// The library answered a code that this crate does not know, or the crate misused it.
     Other(u32),

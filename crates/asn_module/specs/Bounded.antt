@@ -28,7 +28,7 @@ TellsRead text e = (e ≡ fault.Memory → ⊥) → (m : ModuleTypes) → Accept
 -- why a text is neither read nor known to be no module: memory was wanting, or it is larger than the bound
 abbrev pub IsStopped : List ℕ → Option ℕ → Refusal → Type 0
 IsStopped text most refusal.Memory = ⊤
-IsStopped text most (refusal.TooLarge name size) = IsLarger text most
+IsStopped text most (refusal.TooLarge name) = IsLarger text most
 IsStopped text most _ = ⊥
 
 -- there is a bound, and whatever types the assignments have are larger
@@ -39,5 +39,5 @@ AreLarger all (Some most) = (ts : List Typed) → AreAllTypes all ts → most < 
 -- the same of the types of assignments
 abbrev pub AreStopped : List AssignmentNotation → Option ℕ → Refusal → Type 0
 AreStopped all most refusal.Memory = ⊤
-AreStopped all most (refusal.TooLarge name size) = AreLarger all most
+AreStopped all most (refusal.TooLarge name) = AreLarger all most
 AreStopped all most _ = ⊥

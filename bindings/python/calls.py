@@ -251,19 +251,6 @@ def no_modules():
         assert fault.at == (0 if at is None else len(head) + at), text
 
 
-def too_large():
-    """A text whose types come to more than 10,000,000, references followed, is refused with a name and both numbers."""
-    names = ", ".join(f"{chr(98 + i) * 999} NULL" for i in range(10))
-    uses = ", ".join(f"b{i} B" for i in range(60))
-    grown = "\n".join(f"Grown{i} ::= SEQUENCE {{ c C }}" for i in range(20))
-    types = f"B ::= SEQUENCE {{ {names} }}\nC ::= SEQUENCE {{ {uses} }}\n{grown}"
-    text = f"M DEFINITIONS AUTOMATIC TAGS ::= BEGIN\n{types}\nEND\n"
-    fault = raised(tulvorn.ModuleError, lambda: tulvorn.compile_string(text))
-    assert (fault.code, fault.why, fault.at) == (tulvorn.NO_MODULE, "too large", 0)
-    words = str(fault).partition("\n")[0]
-    assert "Grown" in words and words.endswith(", more than 10000000, references followed"), words
-
-
 def files():
     """A file whose lines end with CR and LF is read as it stands: each place counts its octets."""
     text = "M DEFINITIONS AUTOMATIC TAGS ::= BEGIN\r\n-- \u00e4\r\nT ::= BOOLEAN\r\n".encode()
@@ -409,7 +396,6 @@ if __name__ == "__main__":
     wide_integers(spec)
     faults(spec)
     no_modules()
-    too_large()
     files()
     octets_given(spec)
     values_given(spec)

@@ -149,7 +149,6 @@ of_module (module_fault.Cycle name) = no_module 4 0
 of_module (module_fault.Twice name) = no_module 5 0
 of_module (module_fault.BadType name fault) = no_module 6 0
 of_module (module_fault.OutOfProfile at) = no_module 7 at
-of_module (module_fault.TooLarge most size name) = no_module 8 0
 of_module module_fault.Memory = no_memory
 
 -- a line of a constraint is none of its type

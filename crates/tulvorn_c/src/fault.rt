@@ -285,7 +285,6 @@ impl Fault {
             ModuleFault::Twice { .. } => (5, 0),
             ModuleFault::BadType { .. } => (6, 0),
             ModuleFault::OutOfProfile { at } => (7, *at),
-            ModuleFault::TooLarge { .. } => (8, 0),
             ModuleFault::Memory => return Fault::plain(NO_MEMORY),
         };
         Fault {

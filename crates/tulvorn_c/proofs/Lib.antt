@@ -1,6 +1,4 @@
-mod Converting
-mod Feeding
-mod Free
+mod Conversions
 mod HandleValues
 mod LooseValues
 mod ObjectSend

@@ -3,11 +3,9 @@
 //! `bindings/c/tulvorn.h`.
 #![tactic(auto)]
 
-mod conversions;
 mod explain;
 mod fault;
 mod handle;
-mod held;
 mod json;
 mod loose;
 mod messages;
@@ -19,7 +17,6 @@ mod octets;
 mod part_octets;
 mod parts;
 mod paths;
-mod pieces;
 mod sessions;
 mod shown;
 mod within;

@@ -16,8 +16,9 @@
  *     are those of the memory, below 2^63. What a call reads, octets or a fault, was written before.
  *   - malloc, realloc and free are those of one allocator, and align a block to each power of two up to 16 that divides
  *     its size. No call is made from a signal handler, or from the child that a program with threads has forked.
- *   - The processor is an x86-64 of level v2 or above. A call has enough stack: 512 KiB for a library that LLVM
- *     compiled, 1 MiB for one that Rattle's own compiler did, and half for types of 32 levels (bindings/README.md).
+ *   - The processor is an x86-64 of level v2 or above, or a 64-bit ARM for a library that was built for it. A call has
+ *     enough stack: 512 KiB for a library that LLVM compiled, 1 MiB for one that Rattle's own compiler did, and half
+ *     for types of 32 levels (bindings/README.md).
  * THREADS. Calls that take a handle as `const` write neither the handle nor its object: threads may pass one handle to
  * them at once, without a lock. Any other use of a handle is by one thread at a time. It may go to another thread, as
  * by a lock, or by starting or joining that thread. tulvorn_share is for threads that each close a handle of their own.

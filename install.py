@@ -46,7 +46,7 @@ def build(program):
 def waited_for(words):
     """Runs a compilation, and shows on standard error how long it has taken so far."""
     started = time.monotonic()
-    print(f"compiling {NAME}, which takes some {USUAL} s on four idle processors", file=sys.stderr, flush=True)
+    print(f"compiling {NAME}, which takes some {USUAL} s on four processors", file=sys.stderr, flush=True)
     with subprocess.Popen(words, stdin=subprocess.DEVNULL) as ran:
         while ran.poll() is None:
             try:

@@ -1,5 +1,5 @@
--- Words of hexadecimal dumps: what stands between blanks, numbers, and the text column.
-use Rattle.std.specs.Prelude.{◌==◌, ◌||◌, ◌&&◌, ◌+◌, ◌*◌, ◌-◌, ℕ, Bool, true, false, not, List, [], ◌∷◌, length, take, drop, nat_lt, if◌then◌else◌, Option, Some, None, unwrap_or}
+-- Words of hexadecimal dumps: what is between blanks, numbers, and the text column.
+use Rattle.std.specs.Prelude.{◌==◌, ◌||◌, ◌&&◌, ◌+◌, ◌*◌, ◌-◌, ℕ, Bool, true, false, List, [], ◌∷◌, length, take, drop, nat_lt, if◌then◌else◌, Option, Some, None, unwrap_or}
 use Rattle.std.specs.Io.BufRead.{ends_with_byte}
 use Rattle.std.specs.List.{before_first, list_all, position_or_len}
 use Rattle.hex.specs.Hex.{hex_digit_value, is_hex_digit}
@@ -63,7 +63,7 @@ is_text (x ∷ xs) (c ∷ cs) = ((c == x) || (c == 46)) && is_text xs cs
 is_text [] (c ∷ cs) = false
 is_text (x ∷ xs) [] = false
 
--- what stands before the last n octets, and these
+-- what is before the last n octets, and these
 abbrev pub before_last : ℕ → List ℕ → List ℕ
 before_last n xs = take (length xs - n) xs
 

@@ -40,8 +40,8 @@ const MORE: &str = "only lines that end with ; may follow an array; an empty lin
 /// Why a line is refused, and its column, counted in octets from 1.
 type Reason = (usize, String);
 
-/// Why a text at this place is no dump, as `octets_in` reads one: the line, the column, counted in octets from 1, and the
-/// reason.
+/// Why a text at this place is no dump, as `octets_in` reads one: the line, the column, counted in octets from 1, and
+/// the reason.
 ///
 /// # Errors
 /// `AllocError` if an allocation failed.

@@ -62,7 +62,8 @@ pub(crate) fn begins_with_blank(text: &[u8]) -> bool
 
 /// The text without this octet at its end, if it is there.
 pub(crate) fn without_end(text: &[u8], end: u8) -> Option<&[u8]>
-    ensures { MatchOption result (without_end end text.now ≡ None) (λ front. without_end end text.now ≡ Some front.now) }
+    ensures { MatchOption result (without_end end text.now ≡ None)
+        (λ front. without_end end text.now ≡ Some front.now) }
 {
     if text.last() == Some(&end) {
         Some(text.split_at(text.len() - 1).0)

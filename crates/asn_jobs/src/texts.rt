@@ -22,8 +22,8 @@ pub enum OctetForm {
     Hex,
     /// The same on several lines.
     HexBlock,
-    /// Lines as xxd, od -Ax -tx1, hexdump -C, Wireshark and tcpdump write them: an offset, octets and the text column; or
-    /// octets without offsets, also as an array of C.
+    /// Lines as xxd, od -Ax -tx1, hexdump -C, Wireshark and tcpdump write them: an offset, octets and the text column;
+    /// or octets without offsets, also as an array of C.
     Dump,
     /// Base64 (RFC 4648, "Base 64 Encoding"), with its padding.
     Base64,

@@ -20,5 +20,5 @@ pub returns : goal.returns
 returns c = (
   sym c.in-Some.ensures,
   sym (ap Some c.in_ok-type_name.ensures.ok ∙ (c.in-Some-get_str.ensures ∙ first_value-rows (found_of c.args.options.now) (codes "type"))),
-  sym (ap (option_map rules_of) (c.in-Some-get_str-2.ensures ∙ first_value-rows (found_of c.args.options.now) (codes "rules"))) ∙ ap Some (sym c.rules_of.ensures),
+  sym (ap (option_map rules_of) (c.in-Some-get_str-2.ensures ∙ first_value-rows (found_of c.args.options.now) (codes "rules"))) ∙ ap Some (sym c.rules_of-rules.ensures),
 )

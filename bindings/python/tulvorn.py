@@ -48,8 +48,8 @@ RULES = {"per": PER, "uper": PER, "oer": OER, PER: PER, OER: OER}
 (
     DONE, NO_MEMORY, MISUSE, REFUSED, TRUNCATED, REST, TOO_LONG, TOO_SHORT, NOT_TEXT, NO_MODULE, NO_NAME, NOT_OF_TYPE,
     NO_JSON, SHAPE, NO_PATH, OTHER_KIND, NO_MESSAGE, CUT_MESSAGE, TOO_MANY_ADDITIONS, MORE, SPENT,
-    ABSENT, OVER_BUDGET,
-) = range(23)
+    ABSENT, OVER_BUDGET, LARGE_CONSTRAINT,
+) = range(24)
 
 # the kinds of types, of which `Value.kind` gives one
 (
@@ -57,8 +57,11 @@ RULES = {"per": PER, "uper": PER, "oer": OER, PER: PER, OER: OER}
 ) = range(1, 11)
 
 # the reasons, by their numbers: of octets that are refused, and of a text that is no module
-WHY = ("", "sealed", "default", "length", "extension", "character", "padding", "number")
-WHY_NO_MODULE = ("", "bad character", "unexpected", "unknown", "cycle", "twice", "bad type", "out of profile")
+WHY = ("", "sealed", "default", "length", "extension", "character", "padding", "number", "constraint")
+WHY_NO_MODULE = (
+    "", "bad character", "unexpected", "unknown", "cycle", "twice", "bad type", "out of profile", "too large",
+    "bad constraint",
+)
 REASONS = {REFUSED: WHY, NO_MODULE: WHY_NO_MODULE}
 
 
@@ -160,8 +163,8 @@ class TulvornError(Exception):
 
 
 class ModuleError(TulvornError):
-    """A text is no module. Where `why` is `bad character`, `unexpected` or `out of profile`, `at` is the place in its
-    octets, from 0; else it is 0. The words have the line, with a mark."""
+    """A text is no module, or a larger one than is read (`too large`). Where `why` is `bad character`, `unexpected` or
+    `out of profile`, `at` is the place in its octets, from 0; else it is 0. The words have the line, with a mark."""
 
 
 class DecodeError(TulvornError):

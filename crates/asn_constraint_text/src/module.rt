@@ -87,7 +87,8 @@ impl ConstrainedModule {
     /// where it meets no constraint on the way.
     ///
     /// # Errors
-    /// `TooLarge` where it has more than `MOST_PARTS`; `Memory` where an allocation failed.
+    /// `TooLarge` where it has more than `MOST_PARTS`, or more than `MOST_LEVELS` names that refer one to the next have
+    /// one; `Memory` where an allocation failed.
     pub fn constraint_named(
         &self,
         alloc: Global,

@@ -1,4 +1,6 @@
-mod Conversions
+mod Converting
+mod Feeding
+mod Free
 mod HandleValues
 mod LooseValues
 mod ObjectSend

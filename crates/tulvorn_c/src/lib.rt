@@ -3,9 +3,11 @@
 //! `bindings/c/tulvorn.h`.
 #![tactic(auto)]
 
+mod conversions;
 mod explain;
 mod fault;
 mod handle;
+mod held;
 mod json;
 mod loose;
 mod messages;
@@ -17,6 +19,7 @@ mod octets;
 mod part_octets;
 mod parts;
 mod paths;
+mod pieces;
 mod sessions;
 mod shown;
 mod within;

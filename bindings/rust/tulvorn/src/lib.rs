@@ -100,10 +100,20 @@ pub enum Why {
     Padding,
     /// Anything else.
     Number,
+    /// The last unit of the encoding of a value that breaks the constraint of its type.
+    Constraint,
 }
 
-const WHYS: [Why; 7] =
-    [Why::Sealed, Why::Default, Why::Length, Why::Extension, Why::Character, Why::Padding, Why::Number];
+const WHYS: [Why; 8] = [
+    Why::Sealed,
+    Why::Default,
+    Why::Length,
+    Why::Extension,
+    Why::Character,
+    Why::Padding,
+    Why::Number,
+    Why::Constraint,
+];
 
 /// Why a call did not do what it was asked for.
 #[derive(Clone, Copy, Debug, PartialEq, Eq, Hash)]
@@ -143,7 +153,7 @@ pub enum Reason {
     },
     /// The module has no type of that name.
     NoName,
-    /// The value is none of the type.
+    /// The value is none of the type, or breaks its constraint.
     NotOfType,
     /// The text is no JSON, or has a number past what is read, as `1e400`, half of a surrogate pair, or more than 127
     /// levels.
@@ -167,6 +177,9 @@ pub enum Reason {
     Absent,
     /// The octets are the encoding of a value that takes more than the budget.
     OverBudget,
+    /// The constraint of the type has more than 1,000,000 parts, or more than 256 names that refer one to the next
+    /// have one.
+    LargeConstraint,
     /// The library answered a code that this crate does not know, or the crate misused it.
     Other(u32),
 }
@@ -212,6 +225,7 @@ impl Error {
             20 => Reason::Spent,
             21 => Reason::Absent,
             22 => Reason::OverBudget,
+            23 => Reason::LargeConstraint,
             code => Reason::Other(code),
         };
         Error { reason, fault: (fault.code, fault.why, fault.at), rules, words: None }

@@ -184,6 +184,64 @@ static int chains(void) {
     return 0;
 }
 
+/* types of at most so many levels */
+static int levels(const tulvorn_handle *module) {
+    static const struct {
+        const char *name;
+        uint32_t levels;
+    } types[] = {{"S", 1}, {"P", 2}, {"L", 3}, {"G", 3}};
+    tulvorn_handle type = TULVORN_NONE;
+    tulvorn_fault fault;
+    for (size_t at = 0; at < sizeof types / sizeof *types; at++)
+        for (uint32_t most = 0; most < 8; most++) {
+            uint32_t code = tulvorn_type_levels(module, TEXT(types[at].name), most, &type, &fault);
+            CHECK(code == (most < types[at].levels ? TULVORN_TOO_DEEP : TULVORN_DONE) && fault.code == code);
+            CHECK((type.at == NULL) == (code == TULVORN_TOO_DEEP));
+            tulvorn_close(&type);
+        }
+    CHECK(tulvorn_type_levels(module, TEXT("None"), 64, &type, &fault) == TULVORN_NO_NAME);
+    CHECK(tulvorn_type_levels(module, TEXT("\xff"), 64, &type, &fault) == TULVORN_NOT_TEXT && type.at == NULL);
+    return 0;
+}
+
+/* how types differ from the published ones, of which the text has lines */
+static int differences(void) {
+    static const char text[] =
+        "M DEFINITIONS AUTOMATIC TAGS ::= BEGIN\n"
+        "A ::= SEQUENCE { b SEQUENCE OF B, c C }\n"
+        "B ::= OCTET STRING\n"
+        "--! B wider: a constraint is not looked at\n"
+        "C ::= CHOICE { d D, e E }\n"
+        "D ::= BOOLEAN\n"
+        "--: E (2 | 4)\n"
+        "--! E narrower\n"
+        "E ::= INTEGER\n"
+        "END\n";
+    static const struct {
+        const char *name, *words;
+    } types[] = {
+        {"B", "wider: a constraint is not looked at"}, {"C", "narrower"}, {"D", ""}, {"E", "narrower"}, {NULL, NULL},
+    };
+    tulvorn_handle module = TULVORN_NONE, words = TULVORN_NONE;
+    tulvorn_fault fault;
+    size_t size = 0;
+    CHECK(tulvorn_module(TEXT(text), &module, &fault) == TULVORN_DONE);
+    for (size_t at = 0; types[at].words; at++) {
+        CHECK(tulvorn_difference(&module, TEXT(types[at].name), &words) == TULVORN_DONE);
+        CHECK(holds_text(&words, types[at].words) == 0);
+    }
+    /* one of those of the names that it refers to */
+    CHECK(tulvorn_difference(&module, TEXT("A"), &words) == TULVORN_DONE);
+    CHECK(tulvorn_copy(&words, NULL, 0, &size) == TULVORN_TOO_SHORT && size > 0);
+    CHECK(tulvorn_difference(&module, TEXT("F"), &words) == TULVORN_NO_NAME && words.at != NULL);
+    CHECK(tulvorn_difference(&module, TEXT("\xff"), &words) == TULVORN_NOT_TEXT && words.at != NULL);
+    EACH_FAILS(words, tulvorn_difference(&module, TEXT("A"), &words));
+    EACH_FAILS(words, tulvorn_difference(&module, TEXT("D"), &words));
+    tulvorn_close(&words);
+    tulvorn_close(&module);
+    return 0;
+}
+
 static int memory(const tulvorn_handle *module, const tulvorn_handle *type, long *count) {
     const struct broken *row = &rows[0];
     tulvorn_handle value = TULVORN_NONE, session = TULVORN_NONE, out = TULVORN_NONE;
@@ -195,6 +253,7 @@ static int memory(const tulvorn_handle *module, const tulvorn_handle *type, long
     EACH_FAILS(it, tulvorn_module(TEXT(MODULE), &it, &fault));
     EACH_FAILS(it, tulvorn_explain_module(TEXT(MODULE), &it));
     EACH_FAILS(it, tulvorn_type(module, TEXT("L"), &it, &fault));
+    EACH_FAILS(it, tulvorn_type_levels(module, TEXT("L"), 3, &it, &fault));
     EACH_FAILS(it, tulvorn_share(type, &it));
     EACH_FAILS(it, tulvorn_open(type, TULVORN_PER, &it));
     EACH_FAILS(it, tulvorn_decode(type, TULVORN_PER, good, 1, &it, &fault));
@@ -233,6 +292,7 @@ int main(void) {
     }
     CHECK(tulvorn_type(&module, TEXT("S"), &type, &fault) == TULVORN_DONE && of_own_type(&module, &type) == 0);
     CHECK(tulvorn_type(&module, TEXT("P"), &type, &fault) == TULVORN_DONE && memory(&module, &type, &count) == 0);
+    CHECK(levels(&module) == 0 && differences() == 0);
     /* another handle of the type has its constraint */
     CHECK(tulvorn_share(&type, &other) == TULVORN_DONE);
     tulvorn_close(&type);

@@ -18,8 +18,8 @@
  *     its size. No call is made from a signal handler, or from the child that a program with threads has forked.
  *   - The processor is an x86-64 of level v2 or above, or a 64-bit ARM for a library that was built for it. A call has
  *     enough stack: 512 KiB for a library that LLVM compiled, 1 MiB for one that Rattle's own compiler did, and half
- *     for types of 32 levels (bindings/README.md). tulvorn_module and tulvorn_explain_module of a text with
- *     constraints take up to 1 MiB and 3 MiB.
+ *     for types of 32 levels (bindings/README.md), as tulvorn_type_levels finds. tulvorn_module and
+ *     tulvorn_explain_module of a text with constraints take up to 1 MiB and 3 MiB.
  * THREADS. Calls that take a handle as `const` write neither the handle nor its object: threads may pass one handle to
  * them at once, without a lock. Any other use of a handle is by one thread at a time. It may go to another thread, as
  * by a lock, or by starting or joining that thread. tulvorn_share is for threads that each close a handle of their own.
@@ -93,9 +93,10 @@ enum {
                                        DEFAULT, another alternative is chosen, or the list has fewer elements */
     /* of tulvorn_check_within and tulvorn_decode_within alone: */
     TULVORN_OVER_BUDGET = 22,       /* the octets are the encoding of a value that takes more than the budget */
-    /* of tulvorn_type alone: */
-    TULVORN_LARGE_CONSTRAINT = 23   /* the constraint of the type has more than 1,000,000 parts, or more than 256 names
+    /* of tulvorn_type and tulvorn_type_levels alone: */
+    TULVORN_LARGE_CONSTRAINT = 23,  /* the constraint of the type has more than 1,000,000 parts, or more than 256 names
                                        that refer one to the next have one */
+    TULVORN_TOO_DEEP = 24           /* of tulvorn_type_levels: the type has more levels */
 };
 
 /* ---- why, where octets are TULVORN_REFUSED: what was being read */
@@ -147,13 +148,13 @@ typedef struct tulvorn_fault {
 
 /* Reads the text of a module (X.680, in the notation of the profile), and puts the module into `module`. Its types are
    as the text says, and their encodings are those of the text. A module that `asn_tool flatten` wrote of published ones
-   can have types that differ from the published types: flatten's report names them, and `flatten --strict` leaves
+   can have types that differ from the published types: tulvorn_difference returns how, and `flatten --strict` leaves
    them out. Answers NOT_TEXT, NO_MODULE, NO_MEMORY. */
 uint32_t tulvorn_module(const uint8_t *text, size_t len, tulvorn_handle *module, tulvorn_fault *fault);
 
 /* Puts into `words`, as octets, why the text is no module, in some lines of text: the line and the column, what is
    expected there, and the line itself with a mark. Control characters of the line are not replaced. Of a bad line of a
-   constraint its number and what is expected. No octets if the text is a module. Answers NOT_TEXT, NO_MEMORY. */
+   constraint or difference its number and what is expected. No octets if the text is a module. Answers NOT_TEXT, NO_MEMORY. */
 uint32_t tulvorn_explain_module(const uint8_t *text, size_t len, tulvorn_handle *words);
 
 /* Puts the type that the module assigns to the name into `type`, with its constraint. It outlives the module, which is as
@@ -161,6 +162,20 @@ uint32_t tulvorn_explain_module(const uint8_t *text, size_t len, tulvorn_handle 
    NO_MEMORY. */
 uint32_t tulvorn_type(const tulvorn_handle *module, const uint8_t *name, size_t len, tulvorn_handle *type,
                       tulvorn_fault *fault);
+
+/* As tulvorn_type, of a type of at most that many levels: what each call on it takes of the stack grows with them. A
+   simple type has one level, a SEQUENCE or CHOICE one more than the deepest type inside it, and a SEQUENCE OF two more than
+   its element; no type has more than 64. Answers as tulvorn_type, and TOO_DEEP. */
+uint32_t tulvorn_type_levels(const tulvorn_handle *module, const uint8_t *name, size_t len, uint32_t levels,
+                             tulvorn_handle *type, tulvorn_fault *fault);
+
+/* Puts into `words`, as octets, how the type that the module assigns to the name differs from the published type. Its
+   messages are then others than those of the published type: a caller that wants these alone refuses the type. It is what
+   a line `--! NAME WORDS` of the text says of the name, or of one that its type refers to. `asn_tool flatten` writes such a
+   line for each type that is not the same: its status, and the first reason, as `wider: a.b: a constraint is not looked
+   at`. No octets if the text has no such line. Answers MISUSE where `module` holds no module, NOT_TEXT, NO_NAME,
+   NO_MEMORY. */
+uint32_t tulvorn_difference(const tulvorn_handle *module, const uint8_t *name, size_t len, tulvorn_handle *words);
 
 /* Puts another handle of the same type into `other`, for another thread, say. Both share one tree and constraint.
    Answers MISUSE where `type` holds no type, NO_MEMORY. */

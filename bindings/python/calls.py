@@ -229,7 +229,9 @@ def faults(spec):
     assert raised(tulvorn.EncodeError, lambda: spec.encode("Msg", {"id": 9})).code == tulvorn.NOT_OF_TYPE
     assert raised(tulvorn.EncodeError, lambda: spec.encode("Msg", {})).code == tulvorn.SHAPE
     assert raised(tulvorn.ModuleError, lambda: tulvorn.compile_string("M")).at == 1
-    assert raised(KeyError, lambda: spec.type("Other"))
+    assert raised(KeyError, lambda: spec.type("Other")) and raised(KeyError, lambda: spec.type("Other", 64))
+    assert raised(tulvorn.ModuleError, lambda: spec.type("Msg", 1)).code == tulvorn.TOO_DEEP
+    assert spec.type("Msg", 2) is spec.type("Msg")
     for rules in ("ber", "PER", 2, True, False):
         assert raised(ValueError, lambda: spec.encode("Msg", {"id": 1}, rules))
         assert raised(ValueError, lambda: spec.type("Msg").decode(b"\x28", rules))
@@ -381,7 +383,10 @@ def constraints():
         else:
             assert kind.misfit(kind.read_newer(octets, rules)[0]) == words
     assert spec.type("L").misfit(spec.type("L").of([2, 4])) is None
-    for line in "--: S (2..", "--: T (2..3)", "--: S (SIZE (3))":
+    assert spec.difference("L") is None and raised(KeyError, lambda: spec.difference("T"))
+    spec = tulvorn.compile_string(CONSTRAINED.replace("END", "--! S wider: $.a\nEND"))
+    assert spec.difference("S") == spec.difference("L") == "wider: $.a" and spec.difference("P") is None
+    for line in "--: S (2..", "--: T (2..3)", "--: S (SIZE (3))", "--! S", "--! T wider", "--! S a -- b":
         fault = raised(tulvorn.ModuleError, lambda: tulvorn.compile_string(CONSTRAINED.replace("--: S (2..4 | 6..8)", line)))
         assert (fault.code, fault.why) == (tulvorn.NO_MODULE, "bad constraint") and str(fault).startswith("line 7: ")
 

@@ -2,6 +2,7 @@ mod Converting
 mod Feeding
 mod Free
 mod HandleValues
+mod DeepTypes
 mod LooseValues
 mod ObjectSend
 mod ShownValues

@@ -53,6 +53,9 @@ not_of_type = plain 11
 abbrev pub large_constraint : Fault
 large_constraint = plain 23
 
+abbrev pub too_deep : Fault
+too_deep = plain 24
+
 abbrev pub too_long : Fault
 too_long = plain 6
 

@@ -64,6 +64,7 @@ words_of_code n =
     else if nat_eq n 19 then codes "more octets wanted" else if nat_eq n 20 then codes "session spent"
     else if nat_eq n 21 then codes "absent" else if nat_eq n 22 then codes "over budget"
     else if nat_eq n 23 then codes "constraint too large"
+    else if nat_eq n 24 then codes "too many levels"
     else codes "unknown code"
 
 abbrev pub words_by : Unit → ℕ → Option DecodeFault → List ℕ

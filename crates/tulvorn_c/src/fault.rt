@@ -80,6 +80,9 @@ const OVER_BUDGET: u32 = 22;
 /// one.
 pub(crate) const LARGE_CONSTRAINT: u32 = 23;
 
+/// The type has more levels than are asked for.
+pub(crate) const TOO_DEEP: u32 = 24;
+
 /// The reason of a refusal where the value breaks the constraint of its type: the one after those of `Why`.
 const WHY_CONSTRAINT: u32 = 8;
 

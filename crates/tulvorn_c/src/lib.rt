@@ -4,11 +4,13 @@
 #![tactic(auto)]
 
 mod conversions;
+mod differences;
 mod explain;
 mod fault;
 mod handle;
 mod held;
 mod json;
+mod levels;
 mod loose;
 mod messages;
 mod misfits;

@@ -239,7 +239,12 @@ fn put_type_of(alloc: Global, types: &ConstrainedModule, name: &[u8], out: &mut 
 }
 
 /// Puts the type of that name into the handle, with its constraint.
-fn put_type(alloc: Global, types: &ConstrainedModule, name: &str, out: &mut Handle) -> Fault
+pub(crate) fn put_type(
+    alloc: Global,
+    types: &ConstrainedModule,
+    name: &str,
+    out: &mut Handle,
+) -> Fault
     ensures { FindsName name.now out.old.kept out.new.kept (types_view types.now.module) result }
 {
     let Some(ty) = types.module.type_named(name) else {

@@ -174,6 +174,7 @@ fn words_of_code(code: u32) -> &'static str
         21 => "absent",
         22 => "over budget",
         23 => "constraint too large",
+        24 => "too many levels",
         _ => "unknown code",
     }
 }

@@ -180,6 +180,8 @@ pub enum Reason {
     /// The constraint of the type has more than 1,000,000 parts, or more than 256 names that refer one to the next
     /// have one.
     LargeConstraint,
+    /// The type has more levels than were asked for.
+    TooDeep,
     /// The library answered a code that this crate does not know, or the crate misused it.
     Other(u32),
 }
@@ -226,6 +228,7 @@ impl Error {
             21 => Reason::Absent,
             22 => Reason::OverBudget,
             23 => Reason::LargeConstraint,
+            24 => Reason::TooDeep,
             code => Reason::Other(code),
         };
         Error { reason, fault: (fault.code, fault.why, fault.at), rules, words: None }
@@ -382,12 +385,49 @@ impl Module {
     /// The type that the module assigns to a name. It outlives the module.
     ///
     /// # Errors
-    /// `NoName`, `Memory`.
+    /// `NoName`, `LargeConstraint`, `Memory`.
     pub fn ty(&self, name: &str) -> Result<Type, Error> {
         let (mut held, mut fault) = (Held::nothing(), Fault::default());
         // SAFETY: as in `read`; the two handles are two objects'.
         let code =
             unsafe { ffi::tulvorn_type(self.0.get(), name.as_ptr(), name.len(), held.fill(), &raw mut fault) };
+        look(code, fault, Rules::Per)?;
+        Ok(Type(held))
+    }
+
+    /// How the type that the module assigns to a name differs from the published type, as the text of the module says;
+    /// None where it says nothing. Its messages are then others than those of the published type.
+    ///
+    /// # Errors
+    /// `NoName`, `Memory`.
+    ///
+    /// ```
+    /// let module = tulvorn::Module::read(
+    ///     "M DEFINITIONS AUTOMATIC TAGS ::= BEGIN\nT ::= OCTET STRING\n--! T wider: a constraint is not looked at\nEND",
+    /// )?;
+    /// assert_eq!(module.difference("T")?.as_deref(), Some("wider: a constraint is not looked at"));
+    /// # Ok::<(), tulvorn::Error>(())
+    /// ```
+    pub fn difference(&self, name: &str) -> Result<Option<String>, Error> {
+        let mut held = Held::nothing();
+        // SAFETY: as in `read`; the two handles are two objects'.
+        let code = unsafe { ffi::tulvorn_difference(self.0.get(), name.as_ptr(), name.len(), held.fill()) };
+        look(code, Fault { code, why: 0, at: 0 }, Rules::Per)?;
+        Ok(held.words())
+    }
+
+    /// The type that the module assigns to a name, if it has at most so many levels. What each call on it takes of the
+    /// stack grows with them.
+    ///
+    /// # Errors
+    /// `NoName`, `TooDeep`, `LargeConstraint`, `Memory`.
+    pub fn ty_of_levels(&self, name: &str, levels: u32) -> Result<Type, Error> {
+        let (mut held, mut fault) = (Held::nothing(), Fault::default());
+        let (octets, len) = (name.as_ptr(), name.len());
+        // SAFETY: as in `read`; the two handles are two objects'.
+        let code = unsafe {
+            ffi::tulvorn_type_levels(self.0.get(), octets, len, levels, held.fill(), &raw mut fault)
+        };
         look(code, fault, Rules::Per)?;
         Ok(Type(held))
     }

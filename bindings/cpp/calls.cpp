@@ -95,7 +95,7 @@ int main() {
     Type type = module.type("Msg");
     CHECK(code_of([&] { module.type("Other"); }) == TULVORN_NO_NAME);
     CHECK(code_of([&] { module.type("Msg", 1); }) == TULVORN_TOO_DEEP);
-    CHECK(module.type("Msg", 2).decode(Rules::Per, Octets{0x6b, 0x04}).integer("id") == 5);
+    CHECK(module.type("Msg", 2).from_json(R"({"id":5})").integer("id") == 5);
     CHECK(module.difference("Msg").empty() && module.difference("Wide") == "narrower");
     CHECK(code_of([&] { module.difference("Other"); }) == TULVORN_NO_NAME);
     CHECK(code_of([&] { Module wrong("M"); }) == TULVORN_NO_MODULE);

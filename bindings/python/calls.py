@@ -386,7 +386,7 @@ def constraints():
     assert spec.difference("L") is None and raised(KeyError, lambda: spec.difference("T"))
     spec = tulvorn.compile_string(CONSTRAINED.replace("END", "--! S wider: $.a\nEND"))
     assert spec.difference("S") == spec.difference("L") == "wider: $.a" and spec.difference("P") is None
-    for line in "--: S (2..", "--: T (2..3)", "--: S (SIZE (3))", "--! S", "--! T wider", "--! S a -- b":
+    for line in "--: S (2..", "--: T (2..3)", "--: S (SIZE (3))", "--! S", "--! T wider", "--! S a --":
         fault = raised(tulvorn.ModuleError, lambda: tulvorn.compile_string(CONSTRAINED.replace("--: S (2..4 | 6..8)", line)))
         assert (fault.code, fault.why) == (tulvorn.NO_MODULE, "bad constraint") and str(fault).startswith("line 7: ")
 

@@ -22,6 +22,7 @@ pub mod Placing
 pub mod Ranks
 pub mod RootItems
 pub mod Rows
+pub mod Singles
 pub mod Sorting
 pub mod StringsPut
 pub mod WordsTaken

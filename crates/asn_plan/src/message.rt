@@ -5,13 +5,14 @@ ghost use Rattle.asn_values.specs.Shape.{Shape};
 ghost use Rattle.asn_values.specs.View.{shape_of, datum_of};
 ghost use Rattle.asn_rules.specs.Answer.{IsEncoding, max_octets};
 ghost use Rattle.asn_rules.specs.Codec.{Decoded};
-ghost use Rattle.asn_plan.specs.Lean.{lean as lean_shape};
+ghost use Rattle.asn_plan.specs.Lean.{AreLean};
 ghost use Rattle.asn_plan.specs.Plans.{IsPlanOf, BuildsMessage, Checks};
 ghost use Rattle.asn_plan.specs.Within.{CheckedWithin, DecodedWithin, IsTaken};
 
 use crate::budget::{Budget, Taken, WithinFault};
 use crate::build::{Build, Nothing};
 use crate::counting::Counting;
+use crate::lean::Leans;
 use crate::open::build_complete;
 use crate::plan::Plan;
 use crate::reused::{Reused, Spare};
@@ -59,23 +60,29 @@ pub fn check_exactly<R: PlanRules>(
     check_message::<R>(alloc, ty, octets)
 }
 
-/// The same as `check_exactly`, by the lean type if there is one, whose spellings are the same.
+/// The same as `check_exactly`, by a lean type if there is one, whose spellings are the same.
 #[inline(never)]
 fn check_leanly<R: PlanRules>(
     alloc: Global,
     ty: &Checked,
-    lean: &Option<Checked>,
+    leans: &Leans,
     octets: &[u8],
 ) -> Result<(), DecodeFault>
-    requires { IfSome lean.now (λ l. shape_of l ≡ lean_shape (shape_of ty.now)) }
+    requires { AreLean leans.now (shape_of ty.now) }
     ensures { Checks R.ruling result (shape_of ty.now) octets.now }
 {
-    let Some(lean) = lean else {
-        return check_exactly::<R>(alloc, ty, octets);
-    };
     <R as ReadLeaves>::keep_laws();
     R::keep_nothing();
     ty.get();
+    if R::single_is_empty()
+        && let Some(lean) = &leans.single
+    {
+        lean.get();
+        return check_exactly::<R>(alloc, lean, octets);
+    }
+    let Some(lean) = &leans.any else {
+        return check_exactly::<R>(alloc, ty, octets);
+    };
     lean.get();
     check_exactly::<R>(alloc, lean, octets)
 }
@@ -89,19 +96,19 @@ fn check_leanly<R: PlanRules>(
 pub(crate) fn check_by<R: PlanRules>(
     alloc: Global,
     ty: &Checked,
-    lean: &Option<Checked>,
+    leans: &Leans,
     plan: &Plan,
     octets: &[u8],
 ) -> Result<(), DecodeFault>
     requires plan { IsPlanOf plan.now (shape_of ty.now) }
-    requires lean { IfSome lean.now (λ l. shape_of l ≡ lean_shape (shape_of ty.now)) }
+    requires lean { AreLean leans.now (shape_of ty.now) }
     ensures { Checks R.ruling result (shape_of ty.now) octets.now }
 {
     ty.get();
     if let Some(()) = build_octets::<R, Nothing>(alloc, plan, octets, &mut ()) {
         return Ok(());
     }
-    check_leanly::<R>(alloc, ty, lean, octets)
+    check_leanly::<R>(alloc, ty, leans, octets)
 }
 
 /// The value of the type whose complete encoding the octets are: what `asn_rules::decode` answers.
@@ -191,16 +198,11 @@ pub(crate) fn taken_by<R: PlanRules>(
 
 /// The fault of octets at which the walk gave up: it does so at no encoding unless an allocation failed.
 #[inline(never)]
-fn fault_of<R: PlanRules>(
-    alloc: Global,
-    ty: &Checked,
-    lean: &Option<Checked>,
-    octets: &[u8],
-) -> DecodeFault
-    requires { IfSome lean.now (λ l. shape_of l ≡ lean_shape (shape_of ty.now)) }
+fn fault_of<R: PlanRules>(alloc: Global, ty: &Checked, leans: &Leans, octets: &[u8]) -> DecodeFault
+    requires { AreLean leans.now (shape_of ty.now) }
     ensures { Decoded R.ruling (Err result) (shape_of ty.now) octets.now }
 {
-    match check_leanly::<R>(alloc, ty, lean, octets) {
+    match check_leanly::<R>(alloc, ty, leans, octets) {
         Ok(()) => DecodeFault::Memory,
         Err(why) => why,
     }
@@ -214,18 +216,18 @@ fn fault_of<R: PlanRules>(
 pub(crate) fn check_within_by<R: PlanRules>(
     alloc: Global,
     ty: &Checked,
-    lean: &Option<Checked>,
+    leans: &Leans,
     plan: &Plan,
     octets: &[u8],
     budget: &Budget,
 ) -> Result<Taken, WithinFault>
     requires plan { IsPlanOf plan.now (shape_of ty.now) }
-    requires lean { IfSome lean.now (λ l. shape_of l ≡ lean_shape (shape_of ty.now)) }
+    requires lean { AreLean leans.now (shape_of ty.now) }
     ensures { CheckedWithin R.ruling budget.now result (shape_of ty.now) octets.now }
 {
     ty.get();
     let Some(taken) = taken_by::<R>(alloc, ty, plan, octets) else {
-        let why = fault_of::<R>(alloc, ty, lean, octets);
+        let why = fault_of::<R>(alloc, ty, leans, octets);
         return Err(WithinFault::Decode(why));
     };
     if !taken.is_within(budget) {
@@ -242,19 +244,19 @@ pub(crate) fn check_within_by<R: PlanRules>(
 pub(crate) fn decode_within_by<R: PlanRules>(
     alloc: Global,
     ty: &Checked,
-    lean: &Option<Checked>,
+    leans: &Leans,
     plan: &Plan,
     octets: &[u8],
     budget: &Budget,
 ) -> Result<Value, WithinFault>
     requires plan { IsPlanOf plan.now (shape_of ty.now) }
-    requires lean { IfSome lean.now (λ l. shape_of l ≡ lean_shape (shape_of ty.now)) }
+    requires lean { AreLean leans.now (shape_of ty.now) }
     ensures { DecodedWithin R.ruling budget.now result (shape_of ty.now) octets.now }
 {
     <R as Rules>::keep_laws();
     ty.get();
     let Some(taken) = taken_by::<R>(alloc, ty, plan, octets) else {
-        return Err(WithinFault::Decode(fault_of::<R>(alloc, ty, lean, octets)));
+        return Err(WithinFault::Decode(fault_of::<R>(alloc, ty, leans, octets)));
     };
     if !taken.is_within(budget) {
         return Err(WithinFault::OverBudget);

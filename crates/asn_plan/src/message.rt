@@ -5,7 +5,8 @@ ghost use Rattle.asn_values.specs.Shape.{Shape};
 ghost use Rattle.asn_values.specs.View.{shape_of, datum_of};
 ghost use Rattle.asn_rules.specs.Answer.{IsEncoding, max_octets};
 ghost use Rattle.asn_rules.specs.Codec.{Decoded};
-ghost use Rattle.asn_plan.specs.Lean.{AreLean};
+ghost use Rattle.asn_plan.specs.Lean.{AreLean, lean as lean_shape};
+ghost use Rattle.asn_plan.specs.Nothing.{SpellsNothing};
 ghost use Rattle.asn_plan.specs.Plans.{IsPlanOf, BuildsMessage, Checks};
 ghost use Rattle.asn_plan.specs.Within.{CheckedWithin, DecodedWithin, IsTaken};
 
@@ -60,7 +61,25 @@ pub fn check_exactly<R: PlanRules>(
     check_message::<R>(alloc, ty, octets)
 }
 
-/// The same as `check_exactly`, by a lean type if there is one, whose spellings are the same.
+/// The same as `check_exactly`, by what the type is without the components that have no units, whose spellings are the same.
+fn check_as_lean<R: PlanRules>(
+    alloc: Global,
+    ty: &Checked,
+    lean: &Checked,
+    _single: bool,
+    octets: &[u8],
+) -> Result<(), DecodeFault>
+    requires lean { shape_of lean.now ≡ lean_shape _single (shape_of ty.now) }
+    requires law { SpellsNothing _single R.rules.code }
+    ensures { Checks R.ruling result (shape_of ty.now) octets.now }
+{
+    <R as ReadLeaves>::keep_laws();
+    ty.get();
+    lean.get();
+    check_exactly::<R>(alloc, lean, octets)
+}
+
+/// The same as `check_exactly`, by a lean type if there is one.
 #[inline(never)]
 fn check_leanly<R: PlanRules>(
     alloc: Global,
@@ -71,20 +90,16 @@ fn check_leanly<R: PlanRules>(
     requires { AreLean leans.now (shape_of ty.now) }
     ensures { Checks R.ruling result (shape_of ty.now) octets.now }
 {
-    <R as ReadLeaves>::keep_laws();
-    R::keep_nothing();
-    ty.get();
     if R::single_is_empty()
         && let Some(lean) = &leans.single
     {
-        lean.get();
-        return check_exactly::<R>(alloc, lean, octets);
+        return check_as_lean::<R>(alloc, ty, lean, true, octets);
     }
-    let Some(lean) = &leans.any else {
-        return check_exactly::<R>(alloc, ty, octets);
-    };
-    lean.get();
-    check_exactly::<R>(alloc, lean, octets)
+    R::keep_nothing();
+    match &leans.any {
+        Some(lean) => check_as_lean::<R>(alloc, ty, lean, false, octets),
+        None => check_exactly::<R>(alloc, ty, octets),
+    }
 }
 
 /// Whether the octets are the encoding of some value of the type: `Ok` exactly where they are, unless an allocation failed,

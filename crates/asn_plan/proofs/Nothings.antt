@@ -7,7 +7,7 @@ use Rattle.asn_values.specs.Datum.{component_list}
 use Rattle.asn_values.specs.Fits.{Fits, FitsEach, FitsLength, FitsNumber, not_above}
 use Rattle.asn_values.specs.Parts.{AreOfProfile}
 use Rattle.asn_values.specs.Profile.{InProfile, is_one_number, is_zero_size, is_closed}
-use Rattle.asn_values.specs.Shape.{Range, SizeRange, Shape, null, integer, enumerated, bit_string, octet_string, restricted, sequence, sequence_of, closed, Fields, no_fields, field, Demand, must, demands}
+use Rattle.asn_values.specs.Shape.{Range, SizeRange, Shape, null, integer, enumerated, bit_string, octet_string, restricted, sequence, closed, Fields, no_fields, field, Demand, must, demands}
 use Rattle.asn_values.proofs.Parts.{components_of_profile}
 use Rattle.asn_rules.proofs.Plain.IntegerSets.{low_bound}
 use Rattle.asn_rules.specs.Languages.{Spells}
@@ -66,7 +66,6 @@ mutual
   only_fits single (sequence root closed) good h =
       let none : drop (length (demands root)) (component_list (only_components root)) ≡ [] = only_these root in
       rw none (only_each single root (components_of_profile root closed good) h, tt)
-  only_fits single (sequence_of t s) good h = (no_length s (and_parts single (is_zero_size s) h).1, tt)
   only_fits single t good h = not_such h
 
   only_each : (single : Bool) (fs : Fields) → AreOfProfile fs → have_nothing single fs ≡ true

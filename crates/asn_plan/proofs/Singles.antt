@@ -1,11 +1,9 @@
 -- Which nodes are of types whose only value has no units, and one entry.
-use Rattle.std.proofs.Common.{◌≡◌, ◌∙◌, ◌&&◌, Bool, true, false, List, refl, sym, ap}
+use Rattle.std.proofs.Common.{◌≡◌, Bool, true, List, refl, sym}
 use Rattle.std.proofs.lemmas.Bool.{true≢false}
-use Rattle.asn_values.specs.Profile.{is_zero_size}
 use Rattle.asn_values.specs.Shape.{Shape, enumerated, sequence, sequence_of, choice}
-use Rattle.asn_values.specs.View.{shape_of, size_range_of}
+use Rattle.asn_values.specs.View.{shape_of}
 use Rattle.asn_plan.specs.declared.plan.Between.{Between}
-use Rattle.asn_plan.specs.declared.plan.ElementRow.{ElementRow}
 use Rattle.asn_plan.specs.declared.plan.Items.{Items}
 use Rattle.asn_plan.specs.declared.plan.Kind.TheVariants as kind
 use Rattle.asn_plan.specs.declared.plan.Leaf.{Leaf}
@@ -39,8 +37,3 @@ item_counted single ns t e h p = rw (item_is ns t e p) (h, enumerated_entries (s
 pub leaf_counted : (single : Bool) (ns : List Node) (t : Shape) (l : Leaf) → has_nothing single (shape_of l.ty) ≡ true
     → IsPlan ns t (kind.Leaf l) → HasEntries single 1 t
 leaf_counted single ns t l h p = rw (leaf_is ns t l p).0 (h, simple_entries (shape_of l.ty) l.simple)
-
-pub list_counted : (single : Bool) (ns : List Node) (t : Shape) (l : ElementRow)
-    → (single && is_zero_size (size_range_of l.size)) ≡ true → IsPlan ns t (kind.List l) → HasEntries single 1 t
-list_counted single ns (sequence_of t s) l h p = rw p.1 (h, refl)
-list_counted single ns t l h p = absurd p

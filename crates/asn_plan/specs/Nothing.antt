@@ -1,10 +1,10 @@
 -- Types whose values have no units: by any rules NULL, and SEQUENCEs of components that have to be there and are such; by
--- rules that spell the only value of a type by nothing (`single`) also the simple types and lists with one value.
+-- rules that spell the only value of a type by nothing (`single`) also the simple types with one value.
 use Rattle.std.specs.Prelude.{◌≡◌, ◌<◌, ◌==◌, ◌&&◌, ℕ, ℤ, pos, Bool, true, false, List, [], length, Option, Some, None}
-use Rattle.asn_values.specs.Datum.{Datum, nothing, number, item, bit_list, octet_list, characters, components, elements, Components, no_components, present, no_elements}
+use Rattle.asn_values.specs.Datum.{Datum, nothing, number, item, bit_list, octet_list, characters, components, Components, no_components, present}
 use Rattle.asn_values.specs.Fits.{Fits}
 use Rattle.asn_values.specs.Profile.{is_one_number, is_zero_size, is_closed}
-use Rattle.asn_values.specs.Shape.{Shape, null, integer, enumerated, bit_string, octet_string, restricted, sequence, sequence_of, closed, Fields, no_fields, field, must}
+use Rattle.asn_values.specs.Shape.{Shape, null, integer, enumerated, bit_string, octet_string, restricted, sequence, closed, Fields, no_fields, field, must}
 use Rattle.asn_rules.specs.Chunks.{Chunk}
 use Rattle.asn_plan.specs.Taken.{entries_of}
 
@@ -18,7 +18,6 @@ abbrev mutual
   has_nothing single (octet_string s) = single && is_zero_size s
   has_nothing single (restricted k s) = single && is_zero_size s
   has_nothing single (sequence root closed) = have_nothing single root
-  has_nothing single (sequence_of t s) = single && is_zero_size s
   has_nothing single _ = false
 
   -- whether these components are
@@ -44,7 +43,6 @@ abbrev mutual
   only_value (octet_string s) = octet_list []
   only_value (restricted k s) = characters []
   only_value (sequence root more) = components (only_components root)
-  only_value (sequence_of t s) = elements no_elements
   only_value _ = nothing
 
   pub only_components : Fields → Components

@@ -82,12 +82,11 @@ pub(crate) fn has_nothing(ty: &AsnType, single: bool) -> bool
         AsnType::Null => true,
         AsnType::Int(bounds) => single && is_one_number(bounds),
         AsnType::Enum { root, ext } => single && root.len() == 1 && ext.is_none(),
-        AsnType::Bits(size)
-        | AsnType::Octets(size)
-        | AsnType::Text(_, size)
-        | AsnType::SeqOf(_, size) => single && is_zero(size),
+        AsnType::Bits(size) | AsnType::Octets(size) | AsnType::Text(_, size) => {
+            single && is_zero(size)
+        }
         AsnType::Seq { root, ext } => ext.is_none() && have_nothing(root, single),
-        AsnType::Bool | AsnType::Utf8 | AsnType::Choice { .. } => false,
+        AsnType::Bool | AsnType::Utf8 | AsnType::SeqOf(..) | AsnType::Choice { .. } => false,
     }
 }
 

@@ -1,5 +1,5 @@
 //! How many entries a value has that has no units.
-ghost use Rattle.std.specs.Prelude.{◌≡◌, ◌<◌, ◌&&◌, true, List, Option, None};
+ghost use Rattle.std.specs.Prelude.{◌≡◌, ◌<◌, true, List, Option, None};
 ghost use Rattle.asn_values.specs.Profile.{is_one_number, is_zero_size};
 ghost use Rattle.asn_values.specs.Shape.{Shape, Demand, must, Fields, sequence, closed};
 ghost use Rattle.asn_values.specs.View.{range_of, size_range_of};
@@ -39,16 +39,9 @@ fn number_has_nothing(range: &Ranged, single: bool) -> bool
     single && !range.marked && range.low == range.high
 }
 
-/// The same of a list that has no elements.
-fn list_has_nothing(size: &Size, single: bool) -> bool
-    ensures { result ≡ (single && is_zero_size (size_range_of size.now)) }
-{
-    single && is_zero(size)
-}
-
 impl Kind {
-    /// Whether a value without parts, or a list without elements, has no units, by any rules; with `single`, by rules that
-    /// spell the only value of a type by nothing.
+    /// Whether a value without parts has no units, by any rules; with `single`, by rules that spell the only value of a type
+    /// by nothing.
     fn is_one_entry(&self, single: bool) -> bool
         ensures { result ≡ true → (ns : List Node) (t : Shape) → IsPlan ns t self.now → HasEntries single 1 t }
     {
@@ -56,8 +49,7 @@ impl Kind {
             Kind::Number(number) => number_has_nothing(&number.range, single),
             Kind::Item(items) => has_nothing(&items.of.ty, single),
             Kind::Leaf(leaf) => has_nothing(&leaf.ty, single),
-            Kind::List(row) => list_has_nothing(&row.size, single),
-            Kind::Truth | Kind::Sequence(_) | Kind::Choice(_) => false,
+            Kind::Truth | Kind::Sequence(_) | Kind::List(_) | Kind::Choice(_) => false,
         }
     }
 }

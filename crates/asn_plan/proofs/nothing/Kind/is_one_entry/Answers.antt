@@ -1,5 +1,5 @@
 use Rattle.std.proofs.Common.{◌∙◌, sym}
-use Rattle.asn_plan.proofs.Singles.{number_counted, item_counted, leaf_counted, list_counted}
+use Rattle.asn_plan.proofs.Singles.{number_counted, item_counted, leaf_counted}
 use Rattle.asn_plan.proofs.nothing.Kind.is_one_entry.Goals as goal
 
 pub returns-in-Number : goal.returns-in-Number
@@ -13,7 +13,3 @@ returns-in-Item c some ns t p =
 pub returns-in-Leaf : goal.returns-in-Leaf
 returns-in-Leaf c some ns t p =
     leaf_counted c.args.single ns t c.in-Leaf.leaf (sym c.has_nothing-in-Leaf.ensures ∙ some) (rw c.in-Leaf.is at p)
-
-pub returns-in-List : goal.returns-in-List
-returns-in-List c some ns t p =
-    list_counted c.args.single ns t c.in-List.row (sym c.list_has_nothing.ensures ∙ some) (rw c.in-List.is at p)

@@ -1,6 +1,6 @@
 use Rattle.std.proofs.Common.{◌∙◌, sym}
 use Rattle.asn_plan.proofs.Singles.{number_counted, item_counted, leaf_counted}
-use Rattle.asn_plan.proofs.nothing.Kind.is_one_entry.Goals as goal
+use Rattle.asn_plan.proofs.plan.Kind.is_one_entry.Goals as goal
 
 pub returns-in-Number : goal.returns-in-Number
 returns-in-Number c some ns t p =

@@ -22,6 +22,11 @@ impl PlanLeaves for Per {
     }
 
     #[inline(always)]
+    fn spells_indexes() -> bool {
+        true
+    }
+
+    #[inline(always)]
     fn take_word(run: Run, units: &mut BitCursor<'_>) -> Word {
         take_bits(run.bits, units)
     }

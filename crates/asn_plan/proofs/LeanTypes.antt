@@ -7,7 +7,7 @@ use Rattle.std.proofs.lemmas.List.{drop_all, map-append}
 use Rattle.asn_values.specs.declared.types.Field.{Field}
 use Rattle.asn_values.specs.Shape.{Shape, Demand, must, optional, default, Fields, no_fields, field, append_fields, Alternatives, no_alternatives, one_of}
 use Rattle.asn_values.specs.View.{Part, Branch, fields_of, part_of_field, alternatives_of}
-use Rattle.asn_plan.specs.Lean.{lean, lean_root, lean_alternatives, is_left_out}
+use Rattle.asn_plan.specs.Lean.{lean, lean_root, lean_each, lean_alternatives, is_left_out, is_single}
 use Rattle.asn_plan.specs.Nothing.{has_nothing}
 
 -- the next part, and those after it
@@ -44,7 +44,8 @@ left_next single p fs h = go p.demand p.shape h
 
 -- one that is not
 pub kept_next : (single : Bool) (p : Part) (fs : Fields) → is_left_out single p ≡ false
-    → lean_root single (field p.name p.demand p.shape fs) ≡ field p.name p.demand (lean single p.shape) (lean_root single fs)
+    → lean_root single (field p.name p.demand p.shape fs)
+    ≡ field p.name p.demand (lean (is_single single p.demand) p.shape) (lean_root single fs)
 kept_next single p fs h = go p.demand p.shape h
   where
     of_false : (t : Shape) (b : Bool) → b ≡ false
@@ -54,15 +55,26 @@ kept_next single p fs h = go p.demand p.shape h
     of_false t false h = refl
 
     go : (d : Demand) (t : Shape) → is_left_out single (record { name = p.name; demand = d; shape = t }) ≡ false
-        → lean_root single (field p.name d t fs) ≡ field p.name d (lean single t) (lean_root single fs)
+        → lean_root single (field p.name d t fs) ≡ field p.name d (lean (is_single single d) t) (lean_root single fs)
     go must t h = of_false t (has_nothing single t) h
     go optional t h = refl
     go (default d) t h = refl
 
+-- an extension addition
+pub each_next : (single : Bool) (p : Part) (fs : Fields)
+    → lean_each single (field p.name p.demand p.shape fs)
+    ≡ field p.name p.demand (lean (is_single single p.demand) p.shape) (lean_each single fs)
+each_next single p fs = go p.demand
+  where
+    go : (d : Demand) → lean_each single (field p.name d p.shape fs) ≡ field p.name d (lean (is_single single d) p.shape) (lean_each single fs)
+    go must = refl
+    go optional = refl
+    go (default d) = refl
+
 -- ---- components that are kept, which stand before those that are left to do; G says what becomes of these
 
 abbrev pub lean_part : Bool → Part → Part
-lean_part single p = record { name = p.name; demand = p.demand; shape = lean single p.shape }
+lean_part single p = record { name = p.name; demand = p.demand; shape = lean (is_single single p.demand) p.shape }
 
 abbrev pub DoneAndLeft : (Fields → Fields) → List Field → List Field → Fields → Type 0
 DoneAndLeft G kept rest all =
@@ -71,7 +83,7 @@ DoneAndLeft G kept rest all =
 pub one_kept : (single : Bool) (G : Fields → Fields) (kept : List Field) (f x : Field) (fs : List Field) (i : ℕ) (all : Fields)
     → i < length fs → x ≡ get_or fs i x → part_of_field f ≡ lean_part single (part_of_field x)
     → ((rest : Fields) → G (field (part_of_field x).name (part_of_field x).demand (part_of_field x).shape rest)
-    ≡ field (part_of_field x).name (part_of_field x).demand (lean single (part_of_field x).shape) (G rest))
+    ≡ field (part_of_field x).name (part_of_field x).demand (lean (is_single single (part_of_field x).demand) (part_of_field x).shape) (G rest))
     → DoneAndLeft G kept (drop i fs) all → DoneAndLeft G (kept ++ f ∷ []) (drop (i + 1) fs) all
 one_kept single G kept f x fs i all less e is step h =
     let p = part_of_field x in

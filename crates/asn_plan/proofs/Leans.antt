@@ -2,10 +2,10 @@
 use Rattle.std.proofs.Common.{◌≡◌, ◌⊎◌, ℕ, zero, suc, Bool, true, false, List, [], ◌∷◌, ◌++◌, length, Option, Some, None, inl, inr, refl, sym, ap, ◌∙◌, subst}
 use Rattle.std.specs.Prelude.{⊤}
 use Rattle.std.proofs.lemmas.Bool.{true≢false}
-use Rattle.asn_values.specs.Datum.{Datum, elements, elements_of}
+use Rattle.asn_values.specs.Datum.{Datum, item, elements, elements_of}
 use Rattle.asn_values.specs.Parts.{AreOfProfile, AreAllOfProfile}
 use Rattle.asn_values.specs.Profile.{InProfile}
-use Rattle.asn_values.specs.Shape.{Shape, sequence, sequence_of, choice, must, optional, default, Fields, no_fields, field, MoreFields, closed, marked, demands, Alternatives, no_alternatives, one_of, MoreAlternatives, closed_choice, marked_choice, count}
+use Rattle.asn_values.specs.Shape.{Shape, Label, MoreLabels, enumerated, sequence, sequence_of, choice, must, optional, default, Fields, no_fields, field, MoreFields, closed, marked, demands, Alternatives, no_alternatives, one_of, MoreAlternatives, closed_choice, marked_choice, count}
 use Rattle.asn_values.proofs.InnerTypes.{element_of_profile, root_alternatives_of_profile, added_alternatives_of_profile, additions_of_profile}
 use Rattle.asn_values.proofs.Parts.{components_of_profile}
 use Rattle.asn_bits.specs.Numbers.{bits}
@@ -18,6 +18,7 @@ use Rattle.asn_rules.specs.Listed.{Spelt, Listed, Before, bitmap_length}
 use Rattle.asn_rules.specs.Reading.{Wholes}
 use Rattle.asn_walk.specs.Coding.{Coding, PreambleOf, AdditionBitmapOf, IndexOf, OpenOf, OpenListed, AdditionsOf, AddedOf, SequencesOf, sequence_told, ChoicesOf, ChosenOf, ChosenBy, chosen_value, added, added_alternatives, absent_entries}
 use Rattle.asn_walk.specs.Laws.{Laws}
+use Rattle.asn_plan.specs.InOrder.{numbered, numbered_if, AreSpeltAs, SpellsIndexes}
 use Rattle.asn_plan.specs.Lean.{lean, lean_root, lean_each, lean_more, lean_alternatives, lean_others}
 use Rattle.asn_plan.specs.Nothing.{has_nothing, only_value, SpellsNothing}
 use Rattle.asn_plan.specs.SimpleTypes.{is_simple}
@@ -78,11 +79,11 @@ encodes_alike r t u k v o h =
 
 -- ---- what the two types have in common
 
-lean_simple : (single : Bool) (t : Shape) → is_simple t ≡ true → lean single t ≡ t
-lean_simple single (sequence root more) e = absurd (true≢false (sym e))
-lean_simple single (sequence_of t s) e = absurd (true≢false (sym e))
-lean_simple single (choice root more) e = absurd (true≢false (sym e))
-lean_simple single t e = refl
+lean_simple : (t : Shape) → is_simple t ≡ true → lean false t ≡ t
+lean_simple (sequence root more) e = absurd (true≢false (sym e))
+lean_simple (sequence_of t s) e = absurd (true≢false (sym e))
+lean_simple (choice root more) e = absurd (true≢false (sym e))
+lean_simple t e = refl
 
 lean_bitmap : (single : Bool) (fs : Fields) → bitmap_length (lean_root single fs) ≡ bitmap_length fs
 lean_bitmap single no_fields = refl
@@ -96,7 +97,9 @@ lean_bitmap single (field name (default d) t fs) = ap suc (lean_bitmap single fs
 
 lean_many : (single : Bool) (fs : Fields) → length (demands (lean_each single fs)) ≡ length (demands fs)
 lean_many single no_fields = refl
-lean_many single (field name demand t fs) = ap suc (lean_many single fs)
+lean_many single (field name must t fs) = ap suc (lean_many single fs)
+lean_many single (field name optional t fs) = ap suc (lean_many single fs)
+lean_many single (field name (default d) t fs) = ap suc (lean_many single fs)
 
 lean_added : (single : Bool) (more : MoreFields) → added (lean_more single more) ≡ added more
 lean_added single closed = refl
@@ -129,7 +132,7 @@ others_of_profile root (marked_choice alts) good = added_alternatives_of_profile
 
 -- ---- spellings
 
-module _ (c : Coding) (laws : Laws c) (single : Bool) (law : SpellsNothing single c.code) where
+module _ (c : Coding) (laws : Laws c) (single : Bool) (law : SpellsNothing single c.code) (indexes : single ≡ true → SpellsIndexes c.code) where
   -- the whole encodings, and open type fields
   wholes_alike : (t u : Shape) → InProfile t → InProfile u → AreAlike (Spelt c.code None t) (Spelt c.code None u)
       → AreAlike (Wholes c.ruling t) (Wholes c.ruling u)
@@ -168,6 +171,24 @@ module _ (c : Coding) (laws : Laws c) (single : Bool) (law : SpellsNothing singl
           },
         ));
   }
+
+  -- items that are spelt as others are
+  items_cover : (root : List Label) (more : MoreLabels) (u : Shape) → AreSpeltAs c.code (enumerated root more) u
+      → Covers (Spelt c.code None (enumerated root more)) (Spelt c.code None u)
+  items_cover root more u k (item p) cs h =
+      let w = k p h.fits.0 in
+      (item w.0, record { fits = (w.1, tt); same = h.same ∙ w.2 })
+  items_cover root more u k v cs h = absurd h.fits.0
+
+  items_alike : (b : Bool) → (b ≡ true → SpellsIndexes c.code) → (root : List Label) (more : MoreLabels) → InProfile (enumerated root more)
+      → AreAlike (Spelt c.code None (enumerated root more)) (Spelt c.code None (enumerated (numbered_if b root) more))
+  items_alike true k root more good =
+      let w = k refl root more good in
+      record {
+        to = items_cover root more (enumerated (numbered 0 root) more) w.0;
+        from = items_cover (numbered 0 root) more (enumerated root more) w.1;
+      }
+  items_alike false k root more good = alike_self (Spelt c.code None (enumerated root more))
 
   -- SEQUENCEs whose parts are alike
   sequences_alike : (root other : Fields) (more others : MoreFields) → bitmap_length other ≡ bitmap_length root
@@ -215,6 +236,7 @@ module _ (c : Coding) (laws : Laws c) (single : Bool) (law : SpellsNothing singl
 
   mutual
     pub lean_alike : (t : Shape) → InProfile t → InProfile (lean single t) → AreAlike (Spelt c.code None t) (Spelt c.code None (lean single t))
+    lean_alike (enumerated root more) good other = items_alike single indexes root more good
     lean_alike (sequence root more) good other =
         alike_on (alike_from (laws.sequences root more good))
         (alike_on (sequences_alike root (lean_root single root) more (lean_more single more) (lean_bitmap single root) (lean_added single more)
@@ -255,7 +277,7 @@ module _ (c : Coding) (laws : Laws c) (single : Bool) (law : SpellsNothing singl
     root_alike (field name optional t fs) good other (zero ∷ bs) = alike_absent (root_alike fs good.2 other.2 bs)
     root_alike (field name optional t fs) good other [] = no_language
     root_alike (field name (default d) t fs) good other (suc b ∷ bs) =
-        rw (lean_simple single t (default_is_simple t d good.1)) (alike_before (alike_self (Spelt c.code (Some d) t)) (root_alike fs good.2 other.2 bs))
+        rw (lean_simple t (default_is_simple t d good.1)) (alike_before (alike_self (Spelt c.code (Some d) t)) (root_alike fs good.2 other.2 bs))
     root_alike (field name (default d) t fs) good other (zero ∷ bs) =
         alike_map (λ es. Some d ∷ es) (λ es. Some d ∷ es) (root_alike fs good.2 other.2 bs)
     root_alike (field name (default d) t fs) good other [] = no_language
@@ -272,10 +294,18 @@ module _ (c : Coding) (laws : Laws c) (single : Bool) (law : SpellsNothing singl
     each_alike : (fs : Fields) → AreOfProfile fs → AreOfProfile (lean_each single fs) → (bs : List ℕ)
         → AreAlike (OpenListed c fs bs) (OpenListed c (lean_each single fs) bs)
     each_alike no_fields good other bs = alike_self (OpenListed c no_fields bs)
-    each_alike (field name demand t fs) good other (suc b ∷ bs) =
+    each_alike (field name must t fs) good other (suc b ∷ bs) =
         alike_before (open_alike t good.0 other.0 (lean_alike t good.0 other.0)) (each_alike fs good.2 other.2 bs)
-    each_alike (field name demand t fs) good other (zero ∷ bs) = alike_absent (each_alike fs good.2 other.2 bs)
-    each_alike (field name demand t fs) good other [] = no_language
+    each_alike (field name must t fs) good other (zero ∷ bs) = alike_absent (each_alike fs good.2 other.2 bs)
+    each_alike (field name must t fs) good other [] = no_language
+    each_alike (field name optional t fs) good other (suc b ∷ bs) =
+        alike_before (open_alike t good.0 other.0 (lean_alike t good.0 other.0)) (each_alike fs good.2 other.2 bs)
+    each_alike (field name optional t fs) good other (zero ∷ bs) = alike_absent (each_alike fs good.2 other.2 bs)
+    each_alike (field name optional t fs) good other [] = no_language
+    each_alike (field name (default d) t fs) good other (suc b ∷ bs) =
+        rw (lean_simple t (default_is_simple t d good.1)) (alike_before (alike_self (OpenOf c t)) (each_alike fs good.2 other.2 bs))
+    each_alike (field name (default d) t fs) good other (zero ∷ bs) = alike_absent (each_alike fs good.2 other.2 bs)
+    each_alike (field name (default d) t fs) good other [] = no_language
 
     others_chosen : (root : Alternatives) (more : MoreAlternatives) → OthersOfProfile more → OthersOfProfile (lean_others single more)
         → (i : ℕ) → AreAlike (ChosenBy c root more (inr i)) (ChosenBy c (lean_alternatives single root) (lean_others single more) (inr i))

@@ -9,6 +9,7 @@ pub mod FieldBits
 pub mod FixedSizes
 pub mod Growing
 pub mod IntegerRanges
+pub mod ItemNumbers
 pub mod LeafTypes
 pub mod LeanAnswers
 pub mod LeanTypes

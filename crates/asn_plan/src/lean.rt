@@ -1,13 +1,14 @@
 //! Types without the components that have no units, which the exact reader reads faster.
 ghost use Rattle.std.specs.Prelude.{◌≡◌, IfOk, IfSome};
-ghost use Rattle.asn_values.specs.View.{shape_of, fields_seen, alternatives_seen, part_of_field, branch_of, Part, Branch};
+ghost use Rattle.asn_values.specs.View.{shape_of, fields_seen, alternatives_seen, labels_seen, demand_of, part_of_field, branch_of, Part, Branch};
 ghost use Rattle.asn_plan.specs.Nothing.{has_nothing, have_nothing};
-ghost use Rattle.asn_plan.specs.Lean.{AreLean, lean, lean_root, lean_each, lean_alternatives, is_left_out};
+ghost use Rattle.asn_plan.specs.InOrder.{numbered, numbered_if};
+ghost use Rattle.asn_plan.specs.Lean.{AreLean, lean, lean_root, lean_each, lean_alternatives, is_left_out, is_single};
 
-use crate::copies::copy_simple;
+use crate::copies::{copy_items, copy_simple};
 use crate::nothing::{is_one_number, is_zero};
-use crate::plan::Plan;
-use asn_values::{Alt, AsnType, Checked, Field, Need, TypeFault};
+use crate::plan::{Kind, Plan};
+use asn_values::{Alt, AsnType, Checked, Field, Item, Need, TypeFault};
 use std::alloc::{AllocError, Global};
 
 /// Of fewer parts without units no lean type is made.
@@ -18,7 +19,8 @@ const FEW: usize = 64;
 pub(crate) struct Leans {
     /// By any rules, where there are many of these.
     pub(crate) any: Option<Checked>,
-    /// By rules that spell the only value of a type by nothing, where there are many, and more than by any rules.
+    /// By rules that spell the only value of a type by nothing and an item by its index, where there are more of these, and
+    /// many, or items out of order.
     pub(crate) single: Option<Checked>,
 }
 
@@ -31,13 +33,14 @@ pub(crate) fn leans_of(alloc: Global, ty: &Checked, plan: &Plan) -> Result<Leans
 {
     let parts = count_nothing(plan, false);
     let single_parts = count_nothing(plan, true);
+    let is_leaner = FEW <= single_parts && parts < single_parts;
     let any = lean_type(alloc, ty, FEW <= parts, false)?;
-    let single = lean_type(alloc, ty, FEW <= single_parts && parts < single_parts, true)?;
+    let single = lean_type(alloc, ty, is_leaner || has_items_out_of_order(plan), true)?;
     Ok(Leans { any, single })
 }
 
 /// The type without the components that have no units by any rules, if it is wanted; else none. With `single`, the same by
-/// rules that spell the only value of a type by nothing.
+/// rules that spell the only value of a type by nothing and an item by its index.
 ///
 /// # Errors
 /// `AllocError` where an allocation failed.
@@ -70,6 +73,18 @@ fn count_nothing(plan: &Plan, single: bool) -> usize {
         }
     }
     parts
+}
+
+/// Whether the plan has an ENUMERATED whose items are written in another order than that of their numbers.
+fn has_items_out_of_order(plan: &Plan) -> bool {
+    for node in plan.nodes.as_slice() {
+        if let Kind::Item(items) = &node.kind
+            && !items.of.order.sorted.is_empty()
+        {
+            return true;
+        }
+    }
+    false
 }
 
 /// Whether no value of the type has a unit, by any rules; with `single`, by rules that spell the only value of a type by
@@ -110,7 +125,31 @@ fn is_left_out(field: &Field, single: bool) -> bool
     matches!(field.need, Need::Must) && has_nothing(&field.ty, single)
 }
 
-/// The type without the components that have no units.
+/// The items; with `single`, with the numbers from the least of 32 bits on, in the order in which they are written.
+fn lean_items(alloc: Global, items: &[Item], single: bool) -> Result<Vec<Item>, AllocError>
+    ensures { IfOk result (λ v. labels_seen v.items ≡ numbered_if single (labels_seen items.now)) }
+{
+    if single {
+        return numbered_items(alloc, items);
+    }
+    copy_items(alloc, items)
+}
+
+/// The items with the numbers from the least of 32 bits on.
+fn numbered_items(alloc: Global, items: &[Item]) -> Result<Vec<Item>, AllocError>
+    ensures { IfOk result (λ v. labels_seen v.items ≡ numbered 0 (labels_seen items.now)) }
+{
+    let mut numbered = Vec::with_capacity(alloc, items.len())?;
+    for (place, item) in items.iter().enumerate() {
+        let name = String::from_str(alloc, item.name.as_str())?;
+        let number = place as i64 - 2_147_483_648;
+        numbered.push(Item { name, number })?;
+    }
+    Ok(numbered)
+}
+
+/// The type without the components that have no units; with `single`, and with numbers of items in the order in which these
+/// are written.
 #[cycle(lean)]
 fn lean_of(alloc: Global, ty: &AsnType, single: bool) -> Result<AsnType, AllocError>
     ensures { IfOk result (λ l. shape_of l ≡ lean single (shape_of ty.now)) }
@@ -142,10 +181,20 @@ fn lean_of(alloc: Global, ty: &AsnType, single: bool) -> Result<AsnType, AllocEr
                 ext: Some(more),
             })
         }
+        AsnType::Enum { root, ext } => {
+            let root = lean_items(alloc, root.as_slice(), single)?;
+            let Some(more) = ext else {
+                return Ok(AsnType::Enum { root, ext: None });
+            };
+            let more = copy_items(alloc, more.as_slice())?;
+            Ok(AsnType::Enum {
+                root,
+                ext: Some(more),
+            })
+        }
         AsnType::Bool
         | AsnType::Null
         | AsnType::Int(_)
-        | AsnType::Enum { .. }
         | AsnType::Bits(_)
         | AsnType::Octets(_)
         | AsnType::Text(..)
@@ -179,13 +228,23 @@ fn lean_each(alloc: Global, fields: &[Field], single: bool) -> Result<Vec<Field>
     Ok(kept)
 }
 
+/// Whether items are numbered in the type of such a component: not where an item is its DEFAULT.
+fn is_single(need: &Need, single: bool) -> bool
+    ensures { result ≡ is_single single (demand_of need.now) }
+{
+    match need {
+        Need::Must | Need::Optional => single,
+        Need::Default(_) => false,
+    }
+}
+
 /// A component of the lean type.
 #[cycle(lean)]
 fn lean_field(alloc: Global, field: &Field, single: bool) -> Result<Field, AllocError>
     ensures { IfOk result (λ f. part_of_field f ≡ record {
       name = (part_of_field field.now).name;
       demand = (part_of_field field.now).demand;
-      shape = lean single (part_of_field field.now).shape;
+      shape = lean (is_single single (part_of_field field.now).demand) (part_of_field field.now).shape;
     }) }
 {
     let need = match &field.need {
@@ -195,7 +254,7 @@ fn lean_field(alloc: Global, field: &Field, single: bool) -> Result<Field, Alloc
     };
     Ok(Field {
         name: String::from_str(alloc, field.name.as_str())?,
-        ty: lean_of(alloc, &field.ty, single)?,
+        ty: lean_of(alloc, &field.ty, is_single(&field.need, single))?,
         need,
     })
 }

@@ -5,6 +5,7 @@ ghost use Rattle.asn_values.specs.Shape.{Shape};
 ghost use Rattle.asn_values.specs.View.{shape_of, datum_of};
 ghost use Rattle.asn_rules.specs.Answer.{IsEncoding, max_octets};
 ghost use Rattle.asn_rules.specs.Codec.{Decoded};
+ghost use Rattle.asn_plan.specs.InOrder.{SpellsIndexes};
 ghost use Rattle.asn_plan.specs.Lean.{AreLean, lean as lean_shape};
 ghost use Rattle.asn_plan.specs.Nothing.{SpellsNothing};
 ghost use Rattle.asn_plan.specs.Plans.{IsPlanOf, BuildsMessage, Checks};
@@ -71,6 +72,7 @@ fn check_as_lean<R: PlanRules>(
 ) -> Result<(), DecodeFault>
     requires lean { shape_of lean.now ≡ lean_shape _single (shape_of ty.now) }
     requires law { SpellsNothing _single R.rules.code }
+    requires indexes { _single ≡ true → SpellsIndexes R.rules.code }
     ensures { Checks R.ruling result (shape_of ty.now) octets.now }
 {
     <R as ReadLeaves>::keep_laws();
@@ -91,6 +93,7 @@ fn check_leanly<R: PlanRules>(
     ensures { Checks R.ruling result (shape_of ty.now) octets.now }
 {
     if R::single_is_empty()
+        && R::spells_indexes()
         && let Some(lean) = &leans.single
     {
         return check_as_lean::<R>(alloc, ty, lean, true, octets);
@@ -134,15 +137,20 @@ pub(crate) fn check_by<R: PlanRules>(
 pub(crate) fn decode_by<R: PlanRules>(
     alloc: Global,
     ty: &Checked,
+    leans: &Leans,
     plan: &Plan,
     octets: &[u8],
 ) -> Result<Value, DecodeFault>
-    requires { IsPlanOf plan.now (shape_of ty.now) }
+    requires plan { IsPlanOf plan.now (shape_of ty.now) }
+    requires lean { AreLean leans.now (shape_of ty.now) }
     ensures { Decoded R.ruling result (shape_of ty.now) octets.now }
 {
     ty.get();
     if let Some(value) = build_octets::<R, Values>(alloc, plan, octets, &mut ()) {
         return Ok(value);
+    }
+    if let Err(why) = check_leanly::<R>(alloc, ty, leans, octets) {
+        return Err(why);
     }
     R::decode(alloc, ty, octets)
 }
@@ -180,18 +188,23 @@ fn overwrite<R: PlanLeaves>(
 pub(crate) fn decode_into_by<R: PlanRules>(
     alloc: Global,
     ty: &Checked,
+    leans: &Leans,
     plan: &Plan,
     octets: &[u8],
     value: &mut Value,
     spare: &mut Spare,
 ) -> Result<(), DecodeFault>
-    requires { IsPlanOf plan.now (shape_of ty.now) }
+    requires plan { IsPlanOf plan.now (shape_of ty.now) }
+    requires lean { AreLean leans.now (shape_of ty.now) }
     ensures done { OnOk result (Decoded R.ruling (Ok value.new) (shape_of ty.now) octets.now) }
     ensures fault { IfErr result (λ why. Decoded R.ruling (Err why) (shape_of ty.now) octets.now) }
 {
     ty.get();
     if overwrite::<R>(alloc, plan, octets, value, spare) {
         return Ok(());
+    }
+    if let Err(why) = check_leanly::<R>(alloc, ty, leans, octets) {
+        return Err(why);
     }
     R::decode_into(alloc, ty, octets, value)
 }
@@ -276,7 +289,7 @@ pub(crate) fn decode_within_by<R: PlanRules>(
     if !taken.is_within(budget) {
         return Err(WithinFault::OverBudget);
     }
-    match decode_by::<R>(alloc, ty, plan, octets) {
+    match decode_by::<R>(alloc, ty, leans, plan, octets) {
         Ok(value) => Ok(value),
         Err(why) => Err(WithinFault::Decode(why)),
     }

@@ -90,7 +90,7 @@ impl Planned {
     pub fn decode<R: PlanRules>(&self, alloc: Global, octets: &[u8]) -> Result<Value, DecodeFault>
         ensures { Decoded R.ruling result (shape_of self.now) octets.now }
     {
-        decode_by::<R>(alloc, &self.ty, &self.plan, octets)
+        decode_by::<R>(alloc, &self.ty, &self.leans, &self.plan, octets)
     }
 
     /// Decodes the value of the type whose complete encoding by the rules R the octets are into the one that is there,
@@ -110,7 +110,15 @@ impl Planned {
         ensures done { OnOk result (Decoded R.ruling (Ok value.new) (shape_of self.now) octets.now) }
         ensures fault { IfErr result (λ why. Decoded R.ruling (Err why) (shape_of self.now) octets.now) }
     {
-        decode_into_by::<R>(alloc, &self.ty, &self.plan, octets, value, spare)
+        decode_into_by::<R>(
+            alloc,
+            &self.ty,
+            &self.leans,
+            &self.plan,
+            octets,
+            value,
+            spare,
+        )
     }
 
     /// What is built, in this room, of the value of the type whose complete encoding by the rules R the octets are.

@@ -13,6 +13,7 @@ ghost use Rattle.asn_walk.specs.Reading.{Reads, ValuesOf};
 ghost use Rattle.asn_plan.specs.Enumerations.{IsEnumeration};
 ghost use Rattle.asn_plan.specs.Fields.{AreCountFields, AreIndexFields, BeginsList};
 ghost use Rattle.asn_plan.specs.FixedStrings.{IsFixedString};
+ghost use Rattle.asn_plan.specs.InOrder.{SpellsIndexes};
 ghost use Rattle.asn_plan.specs.Nothing.{SpellsNothing};
 ghost use Rattle.asn_plan.specs.Plans.{BeginsOpen, EndsOpen, TellsString};
 ghost use Rattle.asn_plan.specs.Ranged.{ranged, IsRanged};
@@ -39,6 +40,14 @@ pub trait PlanLeaves: ReadLeaves {
     #[inline(always)]
     fn single_is_empty() -> bool
         ensures { result ≡ true → SpellsNothing true Self.rules.code }
+    {
+        false
+    }
+
+    /// Whether an item is spelled by its index, as by PER.
+    #[inline(always)]
+    fn spells_indexes() -> bool
+        ensures { result ≡ true → SpellsIndexes Self.rules.code }
     {
         false
     }

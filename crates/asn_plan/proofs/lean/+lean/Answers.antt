@@ -6,13 +6,13 @@ use Rattle.asn_values.proofs.Views.{shape_of-Seq, shape_of-Choice, choice_of_alt
 use Rattle.asn_walk.proofs.Parts.{marked_type}
 use Rattle.asn_plan.specs.Lean.{lean, lean_root, lean_each, lean_alternatives}
 use Rattle.asn_plan.proofs.Growing.{branch_next}
-use Rattle.asn_plan.proofs.LeanTypes.{one_kept, one_left, kept_next, left_next, all_done, alternatives_next}
+use Rattle.asn_plan.proofs.LeanTypes.{one_kept, one_left, kept_next, left_next, each_next, all_done, alternatives_next}
 use Rattle.asn_plan.proofs.lean.+lean.Goals.{lean_root-then-not-is_left_out+in_ok-lean_field+in_ok-push, lean_root-else-not-is_left_out}
 use Rattle.asn_plan.proofs.lean.+lean.Goals as goal
 
 pub lean_each-loop-field-preserved : goal.lean_each-loop-field-preserved
 lean_each-loop-field-preserved t c =
-    rw c.in_ok-push.ensures.items (one_kept c.args.single (lean_each c.args.single) c.loop-field.kept.items c.in_ok-lean_field.field-0 c.field-item.result c.args.fields.now c.loop-field.field-index (lean_each c.args.single (fields_seen c.args.fields.now)) c.loop-field-test.true c.field-item.is c.in_ok-lean_field.ensures (λ rest. refl) c.loop-field.invariant)
+    rw c.in_ok-push.ensures.items (one_kept c.args.single (lean_each c.args.single) c.loop-field.kept.items c.in_ok-lean_field.field-0 c.field-item.result c.args.fields.now c.loop-field.field-index (lean_each c.args.single (fields_seen c.args.fields.now)) c.loop-field-test.true c.field-item.is c.in_ok-lean_field.ensures (λ rest. each_next c.args.single (part_of_field c.field-item.result) rest) c.loop-field.invariant)
 
 pub lean_each-returns : goal.lean_each-returns
 lean_each-returns t c =

@@ -3,6 +3,7 @@ use Rattle.std.proofs.Common.{◌≡◌, ◌+◌, ◌<◌, ◌≤◌, ◌++◌, 
 use Rattle.std.proofs.Math.Numerals.{add-one}
 use Rattle.std.proofs.Math.Seq.{take-suc}
 use Rattle.std.proofs.lemmas.List.{length-map, length-take-le, map-append}
+use Rattle.std.specs.Prelude.{string_bytes}
 use Rattle.asn_values.specs.Shape.{Label}
 use Rattle.asn_values.specs.View.{label_of}
 use Rattle.asn_values.specs.declared.types.Item.{Item}
@@ -27,11 +28,13 @@ items_next xs i x h e =
     ap (map label_of) split ∙ map-append label_of (take i xs) (x ∷ [])
 
 pub one_numbered : (made xs : List Item) (i : ℕ) (x y : Item) → i < length xs → x ≡ get_or xs i x
-    → label_of y ≡ renumbered (label_of x) i → map label_of made ≡ numbered 0 (map label_of (take i xs))
+    → string_bytes y.name ≡ string_bytes x.name → y.number ≡ pos i -ℤ pos 2147483648
+    → map label_of made ≡ numbered 0 (map label_of (take i xs))
     → map label_of (made ++ y ∷ []) ≡ numbered 0 (map label_of (take (i + 1) xs))
-one_numbered made xs i x y less same is h =
+one_numbered made xs i x y less same named counted h =
     let before = map label_of (take i xs) in
-    let count : 0 + length before ≡ i = omega (arith, length-map label_of (take i xs), length-take-le i xs (omega (arith, less))) in
+    let count : 0 + length before ≡ i = omega (arith, length-map (take i xs) label_of, length-take-le i xs (omega (arith, less))) in
+    let is : label_of y ≡ renumbered (label_of x) i = ap (λ (n : List ℕ). record { name = n; number = y.number }) named ∙ ap (λ (z : ℤ). record { name = string_bytes x.name; number = z }) counted in
     map-append label_of made (y ∷ []) ∙ ap (λ (ls : List Label). ls ++ label_of y ∷ []) h
     ∙ ap (λ (l : Label). numbered 0 before ++ l ∷ []) (is ∙ ap (renumbered (label_of x)) (sym count))
     ∙ sym (numbered_next 0 before (label_of x)) ∙ ap (numbered 0) (sym (items_next xs i x less same))

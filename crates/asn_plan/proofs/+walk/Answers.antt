@@ -1,4 +1,4 @@
-use Rattle.std.proofs.Common.{◌≡◌, ◌<◌, ◌/◌, ◌%◌, ◌^◌, refl, sym, ap, ◌∙◌, ℕ, List, Some, None, inl, inr, length, arith, ◌-◌, []}
+use Rattle.std.proofs.Common.{◌≡◌, ◌<◌, ◌/◌, ◌%◌, ◌^◌, refl, sym, ap, ◌∙◌, ℕ, List, Some, None, inl, inr, length, arith, ◌-◌, [], true, false}
 use Rattle.std.proofs.lemmas.List.{drop_all, nil_from_length}
 use Rattle.asn_values.specs.Datum.{truth, number, item, alternative}
 use Rattle.asn_values.specs.Profile.{InProfile}

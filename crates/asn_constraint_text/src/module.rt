@@ -8,10 +8,13 @@ ghost use Rattle.asn_constraint_text.specs.Refused.{SaysOfText};
 use crate::cursor::Cursor;
 use crate::fault::{ConstrainedFault, ConstraintTextFault, WholeFault};
 use crate::lines::{constraint_line, has_constraints};
-use crate::reading::constraint_after;
+use crate::read::Read;
+use crate::reading::constraints_after;
 use crate::references::{Named, indices_of, names_of};
 use crate::whole::whole_named;
+use crate::whole_contents::contents_named;
 use asn_constraints::Constraint;
+use asn_contents::Contents;
 use asn_module::{Module, read};
 use asn_notation::read_notation;
 use asn_values::profile::MAX_LEVELS;
@@ -105,6 +108,31 @@ impl ConstrainedModule {
         Ok(Some(constraint))
     }
 
+    /// Which octets of the values of the type of a name are encodings: those that the text has for it, and at each place of
+    /// the type that refers to another name that name's. None where the module assigns no such name. The position of a type
+    /// is that of its name in the module, counted from 0 (`name_at`).
+    ///
+    /// # Errors
+    /// `TooLarge` where they have more than `MOST_PARTS`; `Memory` where an allocation failed.
+    pub fn contents_named(&self, alloc: Global, name: &str) -> Result<Option<Contents>, WholeFault>
+        ensures { IfOk result (λ c. is_some c ≡ is_some (type_in (types_view self.now.module).types name.now)) }
+    {
+        let Some(ty) = self.module.type_named(name) else {
+            return Ok(None);
+        };
+        let Some(index) = self.indices.get(name) else {
+            return Ok(Some(Contents::Nowhere));
+        };
+        let contents = contents_named(alloc, ty.get(), *index, &self.names)?;
+        Ok(Some(contents))
+    }
+
+    /// The name with this position in the module, counted from 0; None where there is none, or the text has no constraint.
+    /// Takes no memory.
+    pub fn name_at(&self, position: usize) -> Option<&str> {
+        Some(self.names.get(position)?.name.as_str())
+    }
+
     /// The constraint that the text has for a name; None where it has none. Takes no memory.
     pub fn own_constraint(&self, name: &str) -> Option<&Constraint> {
         let index = *self.indices.get(name)?;
@@ -138,16 +166,17 @@ fn read_lines(
 }
 
 /// Reads a line, and keeps its constraint if it has one.
-fn read_line(
+fn read_line<'t>(
     alloc: Global,
     module: &Module,
-    indices: &HashMap<String, usize>,
+    indices: &'t HashMap<String, usize>,
     names: &mut Vec<Named>,
-    line: &str,
+    line: &'t str,
 ) -> Result<(), ConstraintTextFault> {
     let Some(mut cursor) = constraint_line(line)? else {
         return Ok(());
     };
+    cursor.take_names(indices);
     let Some(name) = name_at(&mut cursor) else {
         return Err(cursor.fault(NAME));
     };
@@ -161,7 +190,7 @@ fn read_line(
         return Err(cursor.fault(NAME));
     }
     let _ = cursor.take_word();
-    let own = constraint_after(alloc, ty.get(), &mut cursor)?;
+    let own = constraints_after(alloc, ty.get(), &mut cursor)?;
     keep(names, *index, own);
     Ok(())
 }
@@ -171,10 +200,11 @@ fn has_own(names: &[Named], index: usize) -> bool {
     index < names.len() && names[index].own.is_some()
 }
 
-/// Keeps the constraint of the name at an index.
-fn keep(names: &mut Vec<Named>, index: usize, own: Constraint) {
-    if index < names.len() {
-        names[index].own = Some(own);
+/// Keeps what was read for the name at an index.
+fn keep(names: &mut Vec<Named>, index: usize, read: Read) {
+    if let Some(named) = names.get_mut(index) {
+        named.own = Some(read.constraint);
+        named.contents = read.contents;
     }
 }
 

@@ -1,5 +1,6 @@
 //! Where a type refers to names.
 use asn_constraints::Constraint;
+use asn_contents::Contents;
 use asn_notation::{AlternativeNotation, AssignmentNotation, ComponentNotation, TypeNotation};
 use std::alloc::{AllocError, Global};
 use std::collections::HashMap;
@@ -24,11 +25,14 @@ impl References {
     }
 }
 
-/// A name of a module: what its type refers to, and the constraint of its line, if it has one.
+/// A name of a module: what its type refers to, and the constraint of its line, if it has one, with which octets are
+/// encodings.
 #[derive(Debug, Drop)]
 pub(crate) struct Named {
+    pub name: String,
     pub references: References,
     pub own: Option<Constraint>,
+    pub contents: Contents,
 }
 
 /// The index of each name.
@@ -53,8 +57,10 @@ pub(crate) fn names_of(
     for assignment in assignments {
         let references = references_of(alloc, &assignment.ty, indices)?;
         names.push(Named {
+            name: String::from_str(alloc, assignment.name)?,
             references,
             own: None,
+            contents: Contents::Nowhere,
         })?;
     }
     Ok(names)

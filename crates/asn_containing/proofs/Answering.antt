@@ -1,6 +1,5 @@
 -- What is answered to whole messages, by what is answered of the type under its constraint and of the contents.
-use Rattle.std.proofs.Common.{◌≡◌, ◌<◌, ◌≤◌, ℕ, true, false, Ok, Err, Some, None, List, length, take, subst, sym, arith}
-use Rattle.std.specs.Prelude.{Option, Result}
+use Rattle.std.proofs.Common.{◌≡◌, ◌<◌, ℕ, false, Ok, Err, Some, List, length, take, subst, sym}
 use Rattle.std.proofs.lemmas.Bool.{true≢false}
 use Rattle.std.proofs.lemmas.List.{take_all}
 use Rattle.asn_values.specs.declared.value.Value.{Value}

@@ -1,7 +1,7 @@
 -- What is found in the contents of a value.
-use Rattle.std.proofs.Common.{◌≡◌, ◌<◌, ◌≤◌, ◌-◌, ◌+◌, ℕ, zero, suc, List, [], ◌∷◌, length, get_or, take, drop, map, reverse, Option, Some, None, subst, sym, ap, refl, ◌∙◌, inl, inr, ◌⊎◌, arith}
+use Rattle.std.proofs.Common.{◌≡◌, ◌<◌, ◌≤◌, ◌-◌, ◌+◌, ℕ, zero, suc, List, [], ◌∷◌, length, get_or, drop, map, reverse, Option, Some, None, subst, sym, refl, inl, inr, ◌⊎◌, arith}
 use Rattle.std.specs.Prelude.{Result, Ok, Err, IfOk}
-use Rattle.std.specs.List.{AllByRecursion, Contains, slice_get, slice_index_or}
+use Rattle.std.specs.List.{Contains, slice_get, slice_index_or}
 use Rattle.std.proofs.lemmas.List.{drop_all}
 use Rattle.std.proofs.Math.Seq.{drop-cons}
 use Rattle.std.proofs.Math.Numerals.{add-one}
@@ -14,9 +14,9 @@ use Rattle.asn_containing.specs.declared.broken.BrokenContents.{BrokenContents}
 use Rattle.asn_containing.specs.declared.broken.ContentsReason.{ContentsReason}
 use Rattle.asn_containing.specs.declared.broken.ContentsReason.TheVariants as reasons
 use Rattle.asn_containing.specs.declared.table.TableType as declared
-use Rattle.asn_containing.specs.Containing.{TableType, type_in, AllMeet, Within, MeetWithin, MeetContents}
-use Rattle.asn_containing.specs.View.{Place, place_of, place_of_content, type_of, table_of}
-use Rattle.asn_containing.specs.Judged.{NotContent, IsContentOnly, IsAt, BreaksAt, itself, inside, Breaks, FindsIn, Finds, Judged, most_levels}
+use Rattle.asn_containing.specs.Containing.{TableType, type_in, AllMeet, Within, MeetContents}
+use Rattle.asn_containing.specs.View.{place_of, place_of_content, type_of, table_of}
+use Rattle.asn_containing.specs.Judged.{NotContent, IsContentOnly, IsAt, itself, inside, Breaks, FindsIn, Finds, Judged, most_levels}
 use Rattle.asn_containing.proofs.Meeting.{holds_within, broken_not_met}
 
 -- ---- the table

@@ -1,10 +1,9 @@
 -- Octets that are decoded under a constraint, or are not.
-use Rattle.std.proofs.Common.{◌≡◌, ℕ, true, false, Ok, Err, List, length, take, subst}
+use Rattle.std.proofs.Common.{◌≡◌, ℕ, false, Ok, Err, List, subst}
 use Rattle.std.proofs.lemmas.Bool.{true≢false}
 use Rattle.std.proofs.Math.Seq.{take-length}
 use Rattle.asn_values.specs.declared.value.Value.{Value}
 use Rattle.asn_values.specs.Datum.{Datum}
-use Rattle.asn_values.specs.Shape.{Shape}
 use Rattle.asn_values.specs.Profile.{InProfile}
 use Rattle.asn_values.specs.View.{datum_of}
 use Rattle.asn_rules.specs.Answer.{Ruling, IsEncoding}

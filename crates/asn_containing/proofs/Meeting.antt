@@ -1,14 +1,14 @@
 -- What breaks somewhere does not meet, and what meets in few contents meets in more.
-use Rattle.std.proofs.Common.{◌≡◌, ◌<◌, ◌+◌, ℕ, zero, suc, List, [], ◌∷◌, length, Option, Some, None, subst, sym, refl, arith}
+use Rattle.std.proofs.Common.{◌≡◌, ◌<◌, ◌+◌, ℕ, zero, suc, List, [], ◌∷◌, length, Option, Some, None, subst, refl, arith}
 use Rattle.std.specs.List.{AllByRecursion, Contains, slice_index_or}
 use Rattle.asn_values.specs.Datum.{Datum}
 use Rattle.asn_rules.specs.Answer.{Ruling}
 use Rattle.asn_contents.specs.Contents.{Contents, Content, places_in}
 use Rattle.asn_containing.specs.declared.broken.ContentsReason.{ContentsReason}
 use Rattle.asn_containing.specs.declared.broken.ContentsReason.TheVariants as reason
-use Rattle.asn_containing.specs.Containing.{TableType, type_in, IsContent, AllMeet, HoldsValue, Within, MeetWithin, MeetContents}
+use Rattle.asn_containing.specs.Containing.{TableType, type_in, IsContent, AllMeet, HoldsValue, Within, MeetWithin}
 use Rattle.asn_containing.specs.View.{Place}
-use Rattle.asn_containing.specs.Judged.{NotContent, IsContentOnly, BreaksAt, itself, inside, Breaks}
+use Rattle.asn_containing.specs.Judged.{NotContent, BreaksAt, itself, inside, Breaks}
 
 -- what all elements meet each meets
 element_meets : {X : Type 0} (P : X → Type 0) (xs : List X) (k : ℕ) (x : X) → k < length xs → slice_index_or xs k x ≡ x → AllByRecursion P xs → P x

@@ -5,7 +5,6 @@ use Rattle.asn_values.specs.Datum.{Datum}
 use Rattle.asn_values.specs.View.{datum_of}
 use Rattle.asn_rules.specs.Answer.{Ruling, done, max_octets}
 use Rattle.asn_rules.specs.declared.fault.DecodeFault.TheVariants as decode
-use Rattle.asn_rules.specs.declared.fault.EncodeFault.TheVariants as encode
 use Rattle.asn_constrained.specs.declared.fault.ConstrainedFault.{ConstrainedFault}
 use Rattle.asn_constrained.specs.declared.fault.ConstrainedFault.TheVariants as under
 use Rattle.asn_constrained.specs.Under.{IsEncodingUnder, AnswerUnder, DecodedUnder, NotEncodedUnder}

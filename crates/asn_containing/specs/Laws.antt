@@ -1,5 +1,5 @@
 -- What contents keep.
-use Rattle.std.specs.Prelude.{◌+◌, ◌≡◌, ℕ, List}
+use Rattle.std.specs.Prelude.{◌+◌, ℕ, List}
 use Rattle.asn_values.specs.Datum.{Datum}
 use Rattle.asn_rules.specs.Answer.{Ruling}
 use Rattle.asn_contents.specs.Contents.{Contents}

@@ -1,5 +1,5 @@
 -- What a session answers where contents are judged too: by what a session of the type under its constraint answers.
-use Rattle.std.specs.Prelude.{◌≡◌, ℕ, Option, Some, None, Result, Ok, Err, List, ⊤}
+use Rattle.std.specs.Prelude.{◌≡◌, ℕ, Some, Result, Ok, Err, List, ⊤}
 use Rattle.asn_values.specs.Shape.{Shape}
 use Rattle.asn_values.specs.View.{datum_of}
 use Rattle.asn_rules.specs.Answer.{Ruling}

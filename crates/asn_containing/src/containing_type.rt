@@ -158,7 +158,8 @@ impl ContainingType {
         ensures took { IfOk result (λ q. TookUnder R.ruling R.took q.inner.inner
             (constraint_of q.inner.constraint.value) q.inner.end (shape_of self.now.outer.value.ty.planned)
             (constraint_of self.now.outer.value.ty.constraint.value) (waiting [])) }
-        ensures table { IfOk result (λ q. (q.table ≡ self.now.table) × (q.outer ≡ self.now.outer)) }
+        ensures table { IfOk result (λ q. q.table.value ≡ self.now.table.value) }
+        ensures outer { IfOk result (λ q. q.outer.value ≡ self.now.outer.value) }
     {
         let outer = self.outer.clone()?;
         let table = self.table.clone()?;

@@ -70,10 +70,9 @@ enum Finding {
     Deeper(u32),
     /// It breaks the constraint.
     Broken(Broken),
-    /// Octets in it are not the encoding that they have to be.
-    Contents(BrokenContents),
-    /// It is to be converted, and the octets at this path are an encoding.
-    Unconverted(String),
+    /// Octets in it are not the encoding that they have to be, or are one and cannot be converted: the refusal, without its
+    /// LF, and what is said of it.
+    Refused(String, &'static str),
     /// Parts of it are not looked at.
     Looked(Looked),
     /// It is a value of the published type.
@@ -102,14 +101,8 @@ fn answer_value<W: Write>(
             let refusal = refusal_of(rt.alloc(), &broken, digits.len() / 2, asked)?;
             refuse_value(rt, answers, place, refusal.as_str(), asked, BROKEN)
         }
-        Finding::Contents(broken) => {
-            let refusal = contents_refusal(rt.alloc(), &broken, digits.len() / 2, asked)?;
-            refuse_value(rt, answers, place, refusal.as_str(), asked, WRONG_CONTENTS)
-        }
-        Finding::Unconverted(path) => {
-            let path = path.as_str();
-            let refusal = format!(in rt.alloc(); "! contents cannot be converted yet at {path}")?;
-            refuse_value(rt, answers, place, refusal.as_str(), asked, NOT_CONVERTED)
+        Finding::Refused(refusal, words) => {
+            refuse_value(rt, answers, place, refusal.as_str(), asked, words)
         }
         Finding::Looked(looked) => {
             let words = unlooked_words(rt.alloc(), &looked)?;
@@ -163,12 +156,17 @@ fn finding_inside<R: PlanRules>(
 ) -> Result<Finding, RunFault> {
     let value = match asked.messages.ty.decode::<R>(alloc, octets) {
         Ok(value) => value,
-        Err(ContainingFault::Contents { broken, .. }) => return Ok(Finding::Contents(broken)),
+        Err(ContainingFault::Contents { broken, .. }) => {
+            let refusal = contents_refusal(alloc, &broken, octets.len(), asked)?;
+            return Ok(Finding::Refused(refusal, WRONG_CONTENTS));
+        }
         Err(ContainingFault::Type(fault)) => return finding_of_fault(fault),
     };
     if asked.order == Order::Convert {
         if let Some(path) = asked.messages.first_contents(alloc, &value)? {
-            return Ok(Finding::Unconverted(path));
+            let path = path.as_str();
+            let refusal = format!(in alloc; "! contents cannot be converted yet at {path}")?;
+            return Ok(Finding::Refused(refusal, NOT_CONVERTED));
         }
     }
     finding_of_value(alloc, &value, asked)

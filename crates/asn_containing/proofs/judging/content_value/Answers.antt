@@ -1,6 +1,5 @@
 use Rattle.std.proofs.Common.{◌≡◌, false, Ok, Err}
 use Rattle.asn_values.specs.Profile.{InProfile}
-use Rattle.asn_values.specs.View.{shape_of}
 use Rattle.asn_constrained.specs.Under.{DecodedUnder}
 use Rattle.asn_containing.specs.View.{type_of}
 use Rattle.asn_containing.specs.Judged.{is_memory}

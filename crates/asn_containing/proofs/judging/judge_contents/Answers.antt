@@ -1,4 +1,4 @@
-use Rattle.std.proofs.Common.{Some, None, subst}
+use Rattle.std.proofs.Common.{subst}
 use Rattle.std.specs.Prelude.{Option}
 use Rattle.asn_values.specs.View.{datum_of}
 use Rattle.asn_contents.specs.View.{contents_of}

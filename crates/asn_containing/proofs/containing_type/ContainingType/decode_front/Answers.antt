@@ -1,4 +1,4 @@
-use Rattle.std.proofs.Common.{◌<◌, Ok, Err, length, arith}
+use Rattle.std.proofs.Common.{◌<◌, length, arith}
 use Rattle.asn_containing.specs.View.{table_of, type_of}
 use Rattle.asn_containing.proofs.Answering.{front_fault, whole_front}
 use Rattle.asn_containing.proofs.containing_type.ContainingType.decode_front.Goals as goal

@@ -11,7 +11,7 @@ use crate::lines::{constraint_line, has_constraints};
 use crate::read::Read;
 use crate::reading::constraints_after;
 use crate::references::{Named, indices_of, names_of};
-use crate::whole::whole_named;
+use crate::whole::{MOST_PARTS, whole_named};
 use crate::whole_contents::contents_named;
 use asn_constraints::Constraint;
 use asn_contents::Contents;
@@ -98,13 +98,29 @@ impl ConstrainedModule {
     ) -> Result<Option<Constraint>, WholeFault>
         ensures { IfOk result (λ c. is_some c ≡ is_some (type_in (types_view self.now.module).types name.now)) }
     {
+        let mut room = MOST_PARTS;
+        self.constraint_within(alloc, name, &mut room)
+    }
+
+    /// The same, of which the parts are taken from `room`.
+    ///
+    /// # Errors
+    /// `TooLarge` where there is no room; `Memory` where an allocation failed.
+    pub fn constraint_within(
+        &self,
+        alloc: Global,
+        name: &str,
+        room: &mut usize,
+    ) -> Result<Option<Constraint>, WholeFault>
+        ensures { IfOk result (λ c. is_some c ≡ is_some (type_in (types_view self.now.module).types name.now)) }
+    {
         let Some(ty) = self.module.type_named(name) else {
             return Ok(None);
         };
         let Some(index) = self.indices.get(name) else {
             return Ok(Some(Constraint::Free));
         };
-        let constraint = whole_named(alloc, ty.get(), *index, &self.names)?;
+        let constraint = whole_named(alloc, ty.get(), *index, &self.names, room)?;
         Ok(Some(constraint))
     }
 
@@ -117,13 +133,29 @@ impl ConstrainedModule {
     pub fn contents_named(&self, alloc: Global, name: &str) -> Result<Option<Contents>, WholeFault>
         ensures { IfOk result (λ c. is_some c ≡ is_some (type_in (types_view self.now.module).types name.now)) }
     {
+        let mut room = MOST_PARTS;
+        self.contents_within(alloc, name, &mut room)
+    }
+
+    /// The same, of which the parts are taken from `room`.
+    ///
+    /// # Errors
+    /// `TooLarge` where there is no room; `Memory` where an allocation failed.
+    pub fn contents_within(
+        &self,
+        alloc: Global,
+        name: &str,
+        room: &mut usize,
+    ) -> Result<Option<Contents>, WholeFault>
+        ensures { IfOk result (λ c. is_some c ≡ is_some (type_in (types_view self.now.module).types name.now)) }
+    {
         let Some(ty) = self.module.type_named(name) else {
             return Ok(None);
         };
         let Some(index) = self.indices.get(name) else {
             return Ok(Some(Contents::Nowhere));
         };
-        let contents = contents_named(alloc, ty.get(), *index, &self.names)?;
+        let contents = contents_named(alloc, ty.get(), *index, &self.names, room)?;
         Ok(Some(contents))
     }
 

@@ -29,7 +29,7 @@ pub(crate) fn leaf(constraint: Constraint) -> Read {
     }
 }
 
-/// The octets are encodings, and each value meets it.
+/// Which octets are encodings, with no constraint on other values.
 pub(crate) fn leaf_of_contents(contents: Contents) -> Read {
     Read {
         constraint: Constraint::Free,
@@ -63,18 +63,24 @@ pub(crate) fn either(
         return Err(cursor.fault(SAME));
     }
     let levels = above(cursor, first.levels.max(second.levels))?;
-    if is_contents(&first) && is_contents(&second) {
-        return Ok(Read { levels, ..first });
-    }
+    let are_contents = is_contents(&first) && is_contents(&second);
     let Read {
-        constraint,
+        constraint: one,
         contents,
         levels: _,
     } = first;
-    let one = Box::new(alloc, constraint)?;
-    let other = Box::new(alloc, second.constraint)?;
+    let Read {
+        constraint: other,
+        contents: _other_contents,
+        levels: _,
+    } = second;
+    let constraint = if are_contents {
+        one
+    } else {
+        Constraint::Either(Box::new(alloc, one)?, Box::new(alloc, other)?)
+    };
     Ok(Read {
-        constraint: Constraint::Either(one, other),
+        constraint,
         contents,
         levels,
     })
@@ -89,19 +95,26 @@ pub(crate) fn both(
 ) -> Result<Read, ConstraintTextFault> {
     let levels = above(cursor, first.levels.max(second.levels))?;
     let (is_first, is_second) = (is_contents(&first), is_contents(&second));
-    let contents = both_contents(alloc, first.contents, second.contents)?;
+    let Read {
+        constraint: one,
+        contents,
+        levels: _,
+    } = first;
+    let Read {
+        constraint: other,
+        contents: other_contents,
+        levels: _,
+    } = second;
     let constraint = if is_second {
-        first.constraint
+        one
     } else if is_first {
-        second.constraint
+        other
     } else {
-        let one = Box::new(alloc, first.constraint)?;
-        let other = Box::new(alloc, second.constraint)?;
-        Constraint::Both(one, other)
+        Constraint::Both(Box::new(alloc, one)?, Box::new(alloc, other)?)
     };
     Ok(Read {
         constraint,
-        contents,
+        contents: both_contents(alloc, contents, other_contents)?,
         levels,
     })
 }
@@ -207,14 +220,20 @@ pub(crate) fn elements_of(
     cursor: &Cursor<'_>,
 ) -> Result<Read, ConstraintTextFault> {
     let levels = above(cursor, inner.levels)?;
-    let constraint = if is_contents(&inner) {
+    let is_free = is_contents(&inner);
+    let Read {
+        constraint,
+        contents,
+        levels: _,
+    } = inner;
+    let constraint = if is_free {
         Constraint::Free
     } else {
-        Constraint::Elements(Box::new(alloc, inner.constraint)?)
+        Constraint::Elements(Box::new(alloc, constraint)?)
     };
     Ok(Read {
         constraint,
-        contents: contents_of_elements(alloc, inner.contents)?,
+        contents: contents_of_elements(alloc, contents)?,
         levels,
     })
 }

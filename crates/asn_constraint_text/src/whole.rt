@@ -96,18 +96,18 @@ pub(crate) fn shape_in<'a>(references: &'a References, names: &'a [Named]) -> &'
     }
 }
 
-/// The whole constraint of a type that is the one of a name.
+/// The whole constraint of a type that is the one of a name. Takes its parts from `room`.
 ///
 /// # Errors
-/// `TooLarge` where it has more than `MOST_PARTS`; `Memory` where an allocation failed.
+/// `TooLarge` where there is no room; `Memory` where an allocation failed.
 pub(crate) fn whole_named(
     alloc: Global,
     ty: &AsnType,
     index: usize,
     names: &[Named],
+    room: &mut usize,
 ) -> Result<Constraint, WholeFault> {
-    let mut room = MOST_PARTS;
-    whole(alloc, ty, &References::Name(index), names, &mut room)
+    whole(alloc, ty, &References::Name(index), names, room)
 }
 
 /// The constraint of a type that refers to these names.

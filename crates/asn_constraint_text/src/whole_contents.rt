@@ -2,24 +2,24 @@
 use crate::copying::take;
 use crate::fault::WholeFault;
 use crate::references::{Named, References};
-use crate::whole::{MOST_PARTS, name_in, next_name, shape_in};
+use crate::whole::{name_in, next_name, shape_in};
 use asn_contents::{Contents, Selection, both_contents, contents_of_elements, contents_of_parts};
 use asn_values::internal::additions;
 use asn_values::{Alt, AsnType, Field};
 use std::alloc::Global;
 
-/// The octets that are encodings in the values of a type that is the one of a name.
+/// The octets that are encodings in the values of a type that is the one of a name. Takes their parts from `room`.
 ///
 /// # Errors
-/// `TooLarge` where they have more than `MOST_PARTS`; `Memory` where an allocation failed.
+/// `TooLarge` where there is no room; `Memory` where an allocation failed.
 pub(crate) fn contents_named(
     alloc: Global,
     ty: &AsnType,
     index: usize,
     names: &[Named],
+    room: &mut usize,
 ) -> Result<Contents, WholeFault> {
-    let mut room = MOST_PARTS;
-    whole(alloc, ty, &References::Name(index), names, &mut room)
+    whole(alloc, ty, &References::Name(index), names, room)
 }
 
 /// What the text has for the names on the way from one to the next; nothing of what is no name.

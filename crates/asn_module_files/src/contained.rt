@@ -1,10 +1,13 @@
 //! The types whose encodings octets of a message contain (X.682, "contents constraint"), one after the other.
-use crate::kept::{constraint_in, contents_in};
+use crate::kept::{constraint_within, contents_in, contents_within};
 use asn_constraint_text::ConstrainedModule;
 use asn_constraints::Constraint;
 use asn_contents::{Contents, is_nowhere, moved, push_types};
 use asn_published::{Flattened, PublishedFault};
 use std::alloc::{AllocError, Global};
+
+/// How many parts the constraints and contents of all types may have that octets contain.
+const MOST_PARTS: usize = 10_000_000;
 
 /// A type that octets contain: its name in the module, the constraint on its values, and which of their octets are encodings.
 #[derive(Drop)]
@@ -119,6 +122,7 @@ pub(crate) fn containing_own(
     let of_type = contents_in(alloc, own, name)?;
     let contents = positions.taken(alloc, &of_type)?;
     let mut types = Vec::new(alloc);
+    let mut room = MOST_PARTS;
     for _ in 0..u64::MAX {
         let Some(at) = positions.found.get(types.len()) else {
             break;
@@ -126,10 +130,10 @@ pub(crate) fn containing_own(
         let Some(name) = own.name_at(*at) else {
             break;
         };
-        let inner = contents_in(alloc, own, name)?;
+        let inner = contents_within(alloc, own, name, &mut room, MOST_PARTS)?;
         types.push(ContainedType {
             name: String::from_str(alloc, name)?,
-            constraint: constraint_in(alloc, own, name)?,
+            constraint: constraint_within(alloc, own, name, &mut room, MOST_PARTS)?,
             contents: positions.taken(alloc, &inner)?,
         })?;
     }

@@ -5,10 +5,11 @@ use asn_constraint_text::{
     ConstrainedModule, MOST_PARTS, WholeFault, constraint_text, contents_text, with_constraints,
 };
 use asn_constraints::Constraint;
-use asn_contents::{Contents, is_nowhere, moved};
+use asn_contents::{Contents, is_nowhere, moved, push_types};
 use asn_published::{Flattened, PublishedFault};
 use asn_values::AsnType;
 use std::alloc::{AllocError, Global};
+use std::collections::HashMap;
 
 /// How many octets the constraints of the types of a module may have as text.
 const MOST_OCTETS: u32 = 80_000_000;
@@ -55,6 +56,13 @@ impl Lines {
             return Ok(());
         }
         let name = String::from_str(alloc, name)?;
+        let octets = octets_of_names(alloc, contents, names)?;
+        if self.octets.saturating_add(octets) > MOST_OCTETS as usize {
+            return Err(PublishedFault::TooLarge {
+                most: MOST_OCTETS,
+                name,
+            });
+        }
         let mut text = if is_free {
             String::new(alloc)
         } else {
@@ -87,6 +95,23 @@ impl Lines {
         }
         with_constraints(alloc, text, lines.as_slice())
     }
+}
+
+/// How many octets the names of types have that contents name.
+fn octets_of_names(
+    alloc: Global,
+    contents: &Contents,
+    names: &[&str],
+) -> Result<usize, AllocError> {
+    let mut types = Vec::new(alloc);
+    push_types(contents, &mut types)?;
+    let mut octets = 0usize;
+    for ty in &types {
+        if let Some(name) = names.get(*ty) {
+            octets = octets.saturating_add(name.len());
+        }
+    }
+    Ok(octets)
 }
 
 /// The constraints of a module of the profile, with references written out.
@@ -125,6 +150,10 @@ pub(crate) fn lines_of_flattened(
     for one in &flattened.report {
         names.push(one.name.as_str())?;
     }
+    let places = match own {
+        Some(own) => places_in_report(alloc, own, names.as_slice())?,
+        None => Vec::new(alloc),
+    };
     for (index, one) in flattened.report.iter().enumerate() {
         let name = one.name.as_str();
         if let Some(ty) = flattened.module.type_named(name) {
@@ -134,7 +163,7 @@ pub(crate) fn lines_of_flattened(
                 None => published,
             };
             let contents = match own {
-                Some(own) => contents_in_report(alloc, own, name, names.as_slice())?,
+                Some(own) => moved(alloc, &contents_in(alloc, own, name)?, places.as_slice())?,
                 None => flattened.contents_at(alloc, index)?,
             };
             lines.push(
@@ -162,22 +191,24 @@ fn names_of<'m>(alloc: Global, own: &'m ConstrainedModule) -> Result<Vec<&'m str
     Ok(names)
 }
 
-/// Which octets of the values of the type of a name are encodings, by the positions of these names.
-fn contents_in_report(
+/// The positions of the names of a module among these names.
+fn places_in_report(
     alloc: Global,
     own: &ConstrainedModule,
-    name: &str,
     names: &[&str],
-) -> Result<Contents, PublishedFault> {
-    let contents = contents_in(alloc, own, name)?;
-    if is_nowhere(&contents) {
-        return Ok(contents);
+) -> Result<Vec<Option<usize>>, AllocError> {
+    let mut indices = HashMap::new(alloc);
+    for (index, name) in names.iter().enumerate() {
+        let _before = indices.insert(*name, index)?;
     }
     let mut places = Vec::new(alloc);
-    for of_own in &names_of(alloc, own)? {
-        places.push(names.iter().position(|one| **one == **of_own))?;
+    for name in &names_of(alloc, own)? {
+        places.push(match indices.get(*name) {
+            Some(index) => Some(*index),
+            None => None,
+        })?;
     }
-    Ok(moved(alloc, &contents, places.as_slice())?)
+    Ok(places)
 }
 
 /// Both constraints, or one where the other is free.
@@ -202,7 +233,21 @@ pub(crate) fn constraint_in(
 ) -> Result<Constraint, PublishedFault> {
     match own.constraint_named(alloc, name) {
         Ok(constraint) => Ok(constraint.unwrap_or(Constraint::Free)),
-        Err(fault) => Err(fault_of_whole(alloc, fault, name)?),
+        Err(fault) => Err(fault_of_whole(alloc, fault, name, MOST_PARTS)?),
+    }
+}
+
+/// The same, of which the parts are taken from `room`, which was so large.
+pub(crate) fn constraint_within(
+    alloc: Global,
+    own: &ConstrainedModule,
+    name: &str,
+    room: &mut usize,
+    most: usize,
+) -> Result<Constraint, PublishedFault> {
+    match own.constraint_within(alloc, name, room) {
+        Ok(constraint) => Ok(constraint.unwrap_or(Constraint::Free)),
+        Err(fault) => Err(fault_of_whole(alloc, fault, name, most)?),
     }
 }
 
@@ -217,19 +262,34 @@ pub(crate) fn contents_in(
 ) -> Result<Contents, PublishedFault> {
     match own.contents_named(alloc, name) {
         Ok(contents) => Ok(contents.unwrap_or(Contents::Nowhere)),
-        Err(fault) => Err(fault_of_whole(alloc, fault, name)?),
+        Err(fault) => Err(fault_of_whole(alloc, fault, name, MOST_PARTS)?),
     }
 }
 
-/// Why the constraint of a name is not put together.
+/// The same, of which the parts are taken from `room`, which was so large.
+pub(crate) fn contents_within(
+    alloc: Global,
+    own: &ConstrainedModule,
+    name: &str,
+    room: &mut usize,
+    most: usize,
+) -> Result<Contents, PublishedFault> {
+    match own.contents_within(alloc, name, room) {
+        Ok(contents) => Ok(contents.unwrap_or(Contents::Nowhere)),
+        Err(fault) => Err(fault_of_whole(alloc, fault, name, most)?),
+    }
+}
+
+/// Why the constraint of a name is not put together, where it may have so many parts.
 fn fault_of_whole(
     alloc: Global,
     fault: WholeFault,
     name: &str,
+    most: usize,
 ) -> Result<PublishedFault, AllocError> {
     match fault {
         WholeFault::TooLarge => Ok(PublishedFault::TooLarge {
-            most: u32::try_from(MOST_PARTS).unwrap_or(u32::MAX),
+            most: u32::try_from(most).unwrap_or(u32::MAX),
             name: String::from_str(alloc, name)?,
         }),
         WholeFault::Memory => Ok(PublishedFault::Memory),

@@ -70,6 +70,34 @@ enum Given {
     More,
 }
 
+/// What both allow, or the first alone.
+fn first_or_both(
+    alloc: Global,
+    one: Constraint,
+    other: Constraint,
+    is_first: bool,
+) -> Result<Constraint, AllocError> {
+    if is_first {
+        Ok(one)
+    } else {
+        both(alloc, one, other)
+    }
+}
+
+/// The octets of both, or of the first alone.
+fn first_or_both_contents(
+    alloc: Global,
+    one: Contents,
+    other: Contents,
+    is_first: bool,
+) -> Result<Contents, AllocError> {
+    if is_first {
+        Ok(one)
+    } else {
+        both_contents(alloc, one, other)
+    }
+}
+
 impl Allowed {
     /// Every value.
     pub fn all() -> Allowed {
@@ -157,16 +185,8 @@ impl Allowed {
             lengths: both_sets(alloc, self.lengths, other.lengths)?,
             letters: both_sets(alloc, self.letters, other.letters)?,
             items: both_sets(alloc, self.items, other.items)?,
-            others: if is_deep {
-                self.others
-            } else {
-                both(alloc, self.others, other.others)?
-            },
-            contents: if is_deep {
-                self.contents
-            } else {
-                both_contents(alloc, self.contents, other.contents)?
-            },
+            others: first_or_both(alloc, self.others, other.others, is_deep)?,
+            contents: first_or_both_contents(alloc, self.contents, other.contents, is_deep)?,
             depth: if is_deep { self.depth } else { depth },
             is_marked: false,
             is_missing: is_missing || is_deep,

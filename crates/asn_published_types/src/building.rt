@@ -23,6 +23,8 @@ pub struct Forest<'t> {
     pub(crate) contained: HashMap<ContentPlace, usize>,
     /// The tables of components, by their nodes.
     pub(crate) tables: HashMap<usize, Table<'t>>,
+    /// How many elements of sets were looked at for them.
+    pub(crate) elements: u32,
     /// The assignment whose type is built.
     pub(crate) assignment: usize,
     expansion: Expansion,
@@ -54,6 +56,7 @@ impl<'t> Forest<'t> {
             instances: Instances::new(alloc),
             contained: HashMap::new(alloc),
             tables: HashMap::new(alloc),
+            elements: 0,
             assignment: 0,
             expansion: Expansion::none(),
         }
@@ -111,6 +114,7 @@ impl<'t> Forest<'t> {
         self.expansion
             .take(self.nodes.len().saturating_sub(first), room);
         if !is_built {
+            self.forget_tables(first);
             self.members.truncate(members);
             self.nodes.truncate(next(first));
             self.settle(first, Shape::Refused(Why::Expanded(room.most)), end);

@@ -17,6 +17,12 @@ use std::alloc::{AllocError, Global};
 /// How many objects and names of sets are looked at for one table.
 const MOST_ELEMENTS: u32 = 2000;
 
+/// How many of them are looked at for all tables: what is behind these is not known.
+const MOST_OF_ALL: u32 = 500000;
+
+/// How many components a SEQUENCE may have in which the number of a table is looked for.
+const MOST_MEMBERS: usize = 1000;
+
 /// An object of a table: where its number is, from one index of a module to before another, and its type, where it is known.
 #[derive(Clone, Copy)]
 pub struct TableRow {
@@ -51,6 +57,13 @@ impl<'t> Forest<'t> {
     /// The table of a node.
     pub fn table(&self, index: usize) -> Option<&Table<'t>> {
         self.tables.get(&index)
+    }
+
+    /// Forgets the tables of the nodes from one on.
+    pub(crate) fn forget_tables(&mut self, first: usize) {
+        for index in first..self.nodes.len() {
+            let _ = self.tables.remove(&index);
+        }
     }
 
     /// Takes the table of a node that is a component's number, with the field of a class.
@@ -140,6 +153,9 @@ impl<'t> Forest<'t> {
         let Shape::Members { from, to, .. } = self.node(node.parent)?.shape else {
             return None;
         };
+        if to.saturating_sub(from) > MOST_MEMBERS {
+            return None;
+        }
         for index in from..to {
             let member = self.member(index)?;
             if member.kind == MemberKind::Plain && *member.name.as_bytes() == *name.as_bytes() {
@@ -177,13 +193,15 @@ impl<'t> Forest<'t> {
             braces,
             instance: node.instance,
         })?;
-        let mut left = MOST_ELEMENTS;
+        let most = MOST_ELEMENTS.min(MOST_OF_ALL.saturating_sub(self.elements));
+        let mut left = most;
         for _ in 0..MOST_ELEMENTS {
             let Some(set) = todo.pop() else {
                 break;
             };
             self.take_set(alloc, world, &mut table, &mut todo, &mut left, set, asked)?;
         }
+        self.elements = self.elements.saturating_add(most.saturating_sub(left));
         table.is_missing |= !todo.is_empty() || left == 0;
         for row in &table.rows {
             if let Some(to) = row.to {

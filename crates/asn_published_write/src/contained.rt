@@ -9,7 +9,10 @@ use asn_published_types::report::Status;
 use std::alloc::{AllocError, Global};
 
 /// How often types are written again since one that octets contain is not the same.
-const MOST_ROUNDS: u32 = 16;
+const MOST_ROUNDS: u32 = 6;
+
+/// How often the statuses of types are taken to those that use them.
+const MOST_PASSES: u32 = 64;
 
 /// Writes all types but those that are refused, where these totals have a limit those alone that are within it. Types that
 /// octets contain may be written behind those that contain them: each is taken to be the same, and all are written again with
@@ -78,6 +81,17 @@ fn status_at(statuses: &[Status], entry: usize) -> Status {
 /// What became of each type, those that it uses counted too; the same where it is not written.
 fn statuses_of(alloc: Global, written: &Written) -> Result<Vec<Status>, AllocError> {
     let mut statuses = vec![in alloc; Status::Same; written.reports.len()]?;
+    for _ in 0..MOST_PASSES {
+        if !take_uses(written, &mut statuses) {
+            break;
+        }
+    }
+    Ok(statuses)
+}
+
+/// Takes what became of types to those that use them, the last first, and says whether that changed one.
+fn take_uses(written: &Written, statuses: &mut Vec<Status>) -> bool {
+    let mut is_changed = false;
     let mut at = written.reports.len();
     for _ in 0..written.reports.len() {
         at = at.saturating_sub(1);
@@ -93,10 +107,11 @@ fn statuses_of(alloc: Global, written: &Written) -> Result<Vec<Status>, AllocErr
             };
         }
         if let Some(place) = statuses.get_mut(at) {
+            is_changed |= *place != status;
             *place = status;
         }
     }
-    Ok(statuses)
+    is_changed
 }
 
 /// A type, and those that octets contain in its values, in theirs and so on, each once.

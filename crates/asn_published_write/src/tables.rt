@@ -1,11 +1,11 @@
 //! Takes the tables of components (X.682, "table constraint").
 use crate::known::Known;
 use crate::writer::Writer;
-use asn_constraints::{Constraint, Interval};
+use asn_constraints::Constraint;
 use asn_contents::{Contents, SelectedType, Selection};
 use asn_published_text::nodes::{MemberKind, Shape};
 use asn_published_text::refusal::Refusal;
-use asn_published_types::intervals::{joined, only};
+use asn_published_types::intervals::of_numbers;
 use asn_published_types::layout::Layout;
 use asn_published_types::numbers::Scope;
 use asn_published_types::report::{ARE_CONTENTS_JUDGED, Remark, Status};
@@ -124,7 +124,7 @@ impl<'t> Writer<'t> {
                 self.told.uses.push(row.ty)?;
             }
             if !selected.is_missing {
-                self.selected.push(member.node)?;
+                self.selected.insert(member.node)?;
             }
             self.take_selected(alloc, known, index, member.node, by, open, selected)?;
         }
@@ -183,14 +183,11 @@ impl<'t> Writer<'t> {
         if table.is_extensible {
             return Ok(());
         }
-        let mut numbers: Vec<Interval> = Vec::new(alloc);
+        let mut numbers = Vec::new(alloc);
         let mut is_missing = table.is_missing;
         for row in &table.rows {
             match number_of(known, row) {
-                Some(number) => {
-                    let one = only(alloc, number)?;
-                    numbers = joined(alloc, numbers.as_slice(), one.as_slice())?;
-                }
+                Some(number) => numbers.push(number)?,
                 None => is_missing = true,
             }
         }
@@ -201,6 +198,7 @@ impl<'t> Writer<'t> {
         if is_missing || !is_number {
             return self.remark(alloc, known, index, Remark::Dropped);
         }
+        let numbers = of_numbers(alloc, numbers)?;
         Ok(
             self.trail
                 .constrain(alloc, index, Constraint::Numbers(numbers))?,

@@ -179,7 +179,9 @@ impl Writing {
             uses,
             spent: _,
             trail,
-        } = self.totals.taken(alloc, name, own_line, settled)?;
+        } = self
+            .totals
+            .taken(alloc, name, own_line, settled, sources.names.as_slice())?;
         let marked = trail.finish(alloc, self.written.marked.as_slice());
         self.written.marked.push(marked)?;
         Ok(Some(Finished {

@@ -1,6 +1,6 @@
 #!/usr/bin/env bash
 # What install.py makes of the program: the words that bash completes, and a manual page that names each command and option.
-# How it compiles, in halves and in parts, is tried on the small program asn_first.
+# How it compiles, in pieces and in parts, is tried on the small program asn_first.
 #
 # usage: tests/program/installed.sh PROGRAM
 set -euo pipefail

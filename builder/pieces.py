@@ -23,37 +23,22 @@ COMMANDS = {"clap", "strsim"}
 EMPTIED = [MODULES | COMMANDS, CODECS | COMMANDS, CODECS | MODULES]
 # a crate of the kit, and its modules of which the program reaches no function: these have a body in no piece
 UNREACHED = """
-base64: read tests window write
-bytes:
-clap: builder/command/getters builder/command/lookups builder/command/settings parser/positions tests
-core: alloc/layout array/into_iter array/lends atomic/bits atomic/endless atomic/signed/bits atomic/unsigned/bits
- atomic/updates char/case_tables char/cases char/escape char/extends char/tables char/utf16 clone/long_tuples
- cmp/float_keys cmp/long_tuples convert/lends convert/tuples default deref fmt/builders fmt/fixed_point fmt/float
- fmt/float_digits fmt/float_near fmt/radix fmt/type_impls hash/sip int/mixed int/more/i128 int/more/i16 int/more/i32
- int/more/i8 int/more/isize int/more/u128 int/more/u16 int/more/u32 int/more/u64 int/more/u8 int/more/usize int/strict
- iter/accum iter/ahead iter/copies iter/edges iter/ends iter/escapes iter/flat iter/rmatches iter/sources iter/upward
- ledger mem/sizes num/casts num/modular num/rounding num/saturating ops/arith ops/bits ops/flow option/calls
- ptr/non_null raw_atomic result/calls result/more scope simd/elements simd/lanes simd/masks simd/num simd/reductions
- slice/backs slice/cuts_mut slice/exact slice/splits sync/made thread
+base64: read write
+core: alloc/layout array/lends atomic/endless atomic/signed/bits atomic/unsigned/bits atomic/updates char/case_tables
+ char/extends char/utf16 cmp/float_keys fmt/fixed_point fmt/float int/mixed int/strict iter/ahead iter/copies
+ iter/edges iter/ends iter/escapes iter/flat iter/rmatches iter/upward ledger mem/sizes num/casts num/modular
+ num/rounding num/saturating ops/bits ops/flow ptr/non_null raw_atomic result/more simd/num simd/reductions
+ slice/backs slice/cuts_mut slice/exact sync/made
 hex: tests
-json: tests value
-memchr: arch iter memmem tests
-serde:
-serde_json: format impls logged show sink tests typed
-simdutf8: compare
-std: cased dyn_box f32 f64 fd/holders ffi fs/attrs fs/dir fs/files fs/locks fs/permissions fs/remove fs/stat fs/unix
- io/boxes io/buffered/lines io/dyn_boxes io/pipes io/slices io/traits net/display net/handle net/ip_addr net/ops
- net/parser net/socket net/system net/tcp net/to_addrs net/udp net/unix path/buf path/cmp path/components path/deref
- path/methods path/parts path/walks process/command process/pipes process/status process/stdio process/system rows
- test thread
-std_alloc: borrow collections fmt/other_types lent rc string/joins vec/deque/drain vec/deque/edit vec/deque/methods
- vec/deque/mutate vec/deque/raw_ends vec/deque/searches vec/deque/straight vec/drain vec/edits vec/methods wrapped
-std_collections: btree/cut btree/iter btree/lent btree/mend btree/merge btree/owned btree/rehome btree/search
- btree/sift btree/trail btree/tree/methods btree/unmake btree_map/collects btree_map/entry btree_map/extract
- btree_map/iter/lent_steps btree_map/iter/owned btree_map/lexical btree_map/methods btree_set/algebra btree_set/iter
- btree_set/methods fmt hash_map/entry hash_map/iter hash_map/iters hash_set/iter index_table/methods linked_list pairs
-strsim: tests
-thiserror:
+json: tests
+memchr: iter tests
+serde_json: tests
+std: f32 f64 fd/holders fs/attrs fs/dir fs/permissions fs/remove fs/stat fs/unix io/boxes io/buffered/lines
+ io/dyn_boxes io/slices net/ip_addr net/ops net/system net/to_addrs net/udp path/buf path/deref path/parts
+ process/status process/stdio
+std_alloc: borrow fmt/other_types rc vec/deque/drain vec/deque/mutate vec/deque/searches vec/drain
+std_collections: btree/cut btree/lent btree/mend btree/rehome btree/sift btree/trail btree_map/collects
+ btree_map/entry btree_map/extract btree_map/iter/lent_steps btree_set/algebra fmt hash_map/entry pairs
 """
 SHORT = 2  # lines of a body that stays: what only functions without a body call is written in no piece
 FUNCTION = re.compile(r"( *)(?:pub(?:\([a-z ]+\))? )?(const )?(?:unsafe )?fn \w+(<)?")

@@ -225,6 +225,7 @@ static int differences(void) {
     tulvorn_handle module = TULVORN_NONE, words = TULVORN_NONE;
     tulvorn_fault fault;
     size_t size = 0;
+    long refused = 0;
     CHECK(tulvorn_module(TEXT(text), &module, &fault) == TULVORN_DONE);
     for (size_t at = 0; types[at].words; at++) {
         CHECK(tulvorn_difference(&module, TEXT(types[at].name), &words) == TULVORN_DONE);
@@ -236,6 +237,7 @@ static int differences(void) {
     CHECK(tulvorn_difference(&module, TEXT("F"), &words) == TULVORN_NO_NAME && words.at != NULL);
     CHECK(tulvorn_difference(&module, TEXT("\xff"), &words) == TULVORN_NOT_TEXT && words.at != NULL);
     EACH_FAILS(words, tulvorn_difference(&module, TEXT("A"), &words));
+    CHECK(refused > 0);
     EACH_FAILS(words, tulvorn_difference(&module, TEXT("D"), &words));
     tulvorn_close(&words);
     tulvorn_close(&module);

@@ -3,6 +3,10 @@
 
 mod contents;
 mod finding;
+mod joining;
 
 pub use contents::{Contents, SelectedType, Selection};
 pub use finding::{Content, contents_in};
+pub use joining::{
+    are_same, both_contents, contents_of_elements, contents_of_parts, is_nowhere, moved, push_types,
+};

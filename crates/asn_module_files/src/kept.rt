@@ -4,9 +4,11 @@ use crate::differences::difference_in;
 use crate::published::fault_of_constraints;
 use crate::sources::own_of;
 use asn_constraint_text::{
-    ConstrainedModule, MOST_PARTS, WholeFault, constraint_text, with_constraints, with_differences,
+    ConstrainedModule, MOST_PARTS, WholeFault, constraint_text, contents_text, with_constraints,
+    with_differences,
 };
 use asn_constraints::Constraint;
+use asn_contents::{Contents, is_nowhere, moved};
 use asn_published::{Flattened, PublishedFault, TypeReport};
 use asn_values::AsnType;
 use std::alloc::{AllocError, Global};
@@ -44,7 +46,8 @@ impl Lines {
         self.constraints.is_empty() && self.differences.is_empty()
     }
 
-    /// Takes the constraint of the type of a name, unless each value meets it.
+    /// Takes the constraint of the type of a name, and which octets of its values are encodings, unless each value meets it and
+    /// no octets are. `names` has the names of types by their positions.
     ///
     /// # Errors
     /// `TooLarge` if the lines have more octets than `MOST_OCTETS`, and `Memory` if an allocation failed.
@@ -54,12 +57,23 @@ impl Lines {
         name: &str,
         ty: &AsnType,
         constraint: &Constraint,
+        contents: &Contents,
+        names: &[&str],
     ) -> Result<(), PublishedFault> {
-        if let Constraint::Free = constraint {
+        let is_free = matches!(constraint, Constraint::Free);
+        if is_free && is_nowhere(contents) {
             return Ok(());
         }
         let name = String::from_str(alloc, name)?;
-        let text = constraint_text(alloc, ty, constraint)?;
+        let mut text = if is_free {
+            String::new(alloc)
+        } else {
+            constraint_text(alloc, ty, constraint)?
+        };
+        if !is_nowhere(contents) {
+            text.push_str(if is_free { "" } else { " " })?;
+            text.push_str(contents_text(alloc, ty, contents, names)?.as_str())?;
+        }
         let line = self.counted(name, text)?;
         self.constraints.push(line)?;
         Ok(())
@@ -120,10 +134,19 @@ pub(crate) fn lines_of_own(
     own: &ConstrainedModule,
 ) -> Result<Lines, PublishedFault> {
     let mut lines = Lines::new(alloc);
+    let names = names_of(alloc, own)?;
     for name in own.module.type_names() {
         if let Some(ty) = own.module.type_named(name) {
             let constraint = constraint_in(alloc, own, name)?;
-            lines.push_constraint(alloc, name, ty.get(), &constraint)?;
+            let contents = contents_in(alloc, own, name)?;
+            lines.push_constraint(
+                alloc,
+                name,
+                ty.get(),
+                &constraint,
+                &contents,
+                names.as_slice(),
+            )?;
             if let Some(words) = own.difference_named(alloc, name)? {
                 lines.push_difference(alloc, name, String::from_str(alloc, words)?)?;
             }
@@ -139,6 +162,10 @@ pub(crate) fn lines_of_flattened(
     own: &Option<ConstrainedModule>,
 ) -> Result<Lines, PublishedFault> {
     let mut lines = Lines::new(alloc);
+    let mut names = Vec::new(alloc);
+    for one in &flattened.report {
+        names.push(one.name.as_str())?;
+    }
     for (index, one) in flattened.report.iter().enumerate() {
         let name = one.name.as_str();
         if let Some(ty) = flattened.module.type_named(name) {
@@ -147,7 +174,18 @@ pub(crate) fn lines_of_flattened(
                 Some(own) => both(alloc, constraint_in(alloc, own, name)?, published)?,
                 None => published,
             };
-            lines.push_constraint(alloc, name, ty.get(), &constraint)?;
+            let contents = match own {
+                Some(own) => contents_in_report(alloc, own, name, names.as_slice())?,
+                None => flattened.contents_at(alloc, index)?,
+            };
+            lines.push_constraint(
+                alloc,
+                name,
+                ty.get(),
+                &constraint,
+                &contents,
+                names.as_slice(),
+            )?;
             if let Some(words) = difference_of(alloc, one, own)? {
                 lines.push_difference(alloc, name, words)?;
             }
@@ -168,6 +206,36 @@ fn difference_of(
         }
     }
     difference_in(alloc, one)
+}
+
+/// The names of a module by their positions.
+fn names_of<'m>(alloc: Global, own: &'m ConstrainedModule) -> Result<Vec<&'m str>, AllocError> {
+    let mut names = Vec::new(alloc);
+    for _ in 0..u64::MAX {
+        match own.name_at(names.len()) {
+            Some(name) => names.push(name)?,
+            None => break,
+        }
+    }
+    Ok(names)
+}
+
+/// Which octets of the values of the type of a name are encodings, by the positions of these names.
+fn contents_in_report(
+    alloc: Global,
+    own: &ConstrainedModule,
+    name: &str,
+    names: &[&str],
+) -> Result<Contents, PublishedFault> {
+    let contents = contents_in(alloc, own, name)?;
+    if is_nowhere(&contents) {
+        return Ok(contents);
+    }
+    let mut places = Vec::new(alloc);
+    for of_own in &names_of(alloc, own)? {
+        places.push(names.iter().position(|one| **one == **of_own))?;
+    }
+    Ok(moved(alloc, &contents, places.as_slice())?)
 }
 
 /// Both constraints, or one where the other is free.
@@ -192,11 +260,37 @@ pub(crate) fn constraint_in(
 ) -> Result<Constraint, PublishedFault> {
     match own.constraint_named(alloc, name) {
         Ok(constraint) => Ok(constraint.unwrap_or(Constraint::Free)),
-        Err(WholeFault::TooLarge) => Err(PublishedFault::TooLarge {
+        Err(fault) => Err(fault_of_whole(alloc, fault, name)?),
+    }
+}
+
+/// Which octets of the values of the type of a name are encodings; none where there is no such type.
+///
+/// # Errors
+/// As of `constraint_in`.
+pub(crate) fn contents_in(
+    alloc: Global,
+    own: &ConstrainedModule,
+    name: &str,
+) -> Result<Contents, PublishedFault> {
+    match own.contents_named(alloc, name) {
+        Ok(contents) => Ok(contents.unwrap_or(Contents::Nowhere)),
+        Err(fault) => Err(fault_of_whole(alloc, fault, name)?),
+    }
+}
+
+/// Why the constraint of a name is not put together.
+fn fault_of_whole(
+    alloc: Global,
+    fault: WholeFault,
+    name: &str,
+) -> Result<PublishedFault, AllocError> {
+    match fault {
+        WholeFault::TooLarge => Ok(PublishedFault::TooLarge {
             most: u32::try_from(MOST_PARTS).unwrap_or(u32::MAX),
             name: String::from_str(alloc, name)?,
         }),
-        Err(WholeFault::Memory) => Err(PublishedFault::Memory),
+        WholeFault::Memory => Ok(PublishedFault::Memory),
     }
 }
 

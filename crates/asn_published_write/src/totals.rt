@@ -48,6 +48,22 @@ impl Totals {
         }
     }
 
+    /// The same before a type was written.
+    pub fn again(&self, alloc: Global) -> Totals {
+        Totals {
+            limit: self.limit,
+            ..Totals::new(alloc)
+        }
+    }
+
+    /// The size of the type of a name; 0 where it is not written.
+    pub fn size_named(&self, name: &str) -> usize {
+        match self.by_name.get(name) {
+            Some(size) => *size,
+            None => 0,
+        }
+    }
+
     /// Which types are to be written where these are too large together: the smallest that are not. `None` where they may
     /// be so large.
     pub fn limited(self, alloc: Global, most: u32) -> Result<Option<Totals>, AllocError> {

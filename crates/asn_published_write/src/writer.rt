@@ -103,6 +103,8 @@ pub(crate) struct Writer<'t> {
     pub held: Held,
     /// The nodes that are written, and what is not looked at there.
     pub trail: Trail,
+    /// The open types whose types are selected.
+    pub selected: Vec<usize>,
 }
 
 impl<'t> Writer<'t> {
@@ -131,6 +133,7 @@ impl<'t> Writer<'t> {
                 sizes: Vec::new(alloc),
             },
             trail: Trail::new(alloc),
+            selected: Vec::new(alloc),
         }
     }
 

@@ -10,8 +10,8 @@ use crate::table::TableType;
 use asn_constrained::ConstrainedFault;
 use asn_contents::{Content, Contents, contents_in};
 use asn_plan::PlanRules;
-use asn_rules::{DecodeFault, Rules};
 use asn_rules::laws::are_octets;
+use asn_rules::{DecodeFault, Rules};
 use asn_values::Value;
 use std::alloc::{AllocError, Global};
 

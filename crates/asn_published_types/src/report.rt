@@ -42,7 +42,7 @@ impl fmt::Display for Status {
 
 /// Whether octets that are encodings are judged wherever the constraint of a type is. If they are not, `Remark::Contents` is said
 /// of each value that has such octets.
-pub const ARE_CONTENTS_JUDGED: bool = false;
+pub const ARE_CONTENTS_JUDGED: bool = true;
 
 /// What is to be said of a component.
 #[derive(Clone, Copy, PartialEq, Eq)]

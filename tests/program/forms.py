@@ -3,9 +3,10 @@
 
 usage: tests/program/forms.py PROGRAM      a built asn_tool
 
-The messages of `examples` are written here in each form. The answers are those to plain lines of hexadecimal. What
-`encode` and `convert` write is what Python's own coders make of the octets. What is shown in a layout is, as Python
-reads it, the JSON that is shown without one. forms.txt has faults, dumps, objects of `newer --json`, and counts.
+The messages of `examples` are written here in each form; dumps as xxd, od, hexdump, Wireshark and tcpdump write them.
+The answers are those to plain lines of hexadecimal. What `encode` and `convert` write is what Python's own coders make
+of the octets. What is shown in a layout is, as Python reads it, the JSON that is shown without one. forms.txt has
+faults, dumps, objects of `newer --json`, and counts.
 """
 import base64
 import json
@@ -31,6 +32,90 @@ def as_block(message):
     return b"# a message\n" + lines(digits[at : at + 60] for at in range(0, len(digits), 60)) + b" \n"
 
 
+def rows(message, width=16):
+    return [(at, message[at : at + width]) for at in range(0, len(message), width)]
+
+
+def seen(row, least=32):
+    """The text column of a row: a full stop for what has no picture."""
+    return "".join(chr(it) if least <= it < 127 else "." for it in row)
+
+
+def xxd(message):
+    return [f"{at:08x}: {row.hex(' ', -2):39}  {seen(row)}" for at, row in rows(message)]
+
+
+def od(message):
+    return [*(f"{at:06x} {row.hex(' ')}" for at, row in rows(message)), f"{len(message):06x}"]
+
+
+def od_with_text(message):
+    return [*(f"{at:06x} {row.hex(' '):47}  >{seen(row)}<" for at, row in rows(message)), f"{len(message):06x}"]
+
+
+def hexdump(message):
+    """hexdump -C: two blanks in the middle of a line."""
+    halves = ((at, row, f"{row[:8].hex(' ')}  {row[8:].hex(' ')}") for at, row in rows(message))
+    return [*(f"{at:08x}  {both:50}|{seen(row)}|" for at, row, both in halves), f"{len(message):08x}"]
+
+
+def wireshark(message):
+    return [f"{at:04x}   {row.hex(' ')}" for at, row in rows(message)]
+
+
+def wireshark_with_text(message):
+    return [f"{at:04x}  {row.hex(' '):47}   {seen(row)}" for at, row in rows(message)]
+
+
+def tcpdump(message):
+    """tcpdump -x: a heading, and offsets with 0x and a colon."""
+    heading = "12:00:00.123456 IP 10.0.0.1.2001 > 10.0.0.2.2001: UDP, length 20"
+    return [heading, *(f"\t0x{at:04x}:  {row.hex(' ', -2)}" for at, row in rows(message))]
+
+
+def tcpdump_with_text(message):
+    heading = ["12:00:00.123456 IP (tos 0x0, ttl 64)", "    10.0.0.1.2001 > 10.0.0.2.2001: [udp sum ok] UDP, length 20"]
+    return [*heading, *(f"\t0x{at:04x}:  {row.hex(' ', -2):39}  {seen(row, 33)}" for at, row in rows(message))]
+
+
+def array(message):
+    """xxd -i."""
+    octets = [", ".join(f"0x{it:02x}" for it in row) for _, row in rows(message, 12)]
+    octets = [f"  {it}," for it in octets[:-1]] + [f"  {octets[-1]}"]
+    return ["unsigned char message_bin[] = {", *octets, "};", f"unsigned int message_bin_len = {len(message)};"]
+
+
+def array_on_a_line(message):
+    return [f"static const uint8_t message[] = {{{','.join(f'0x{it:02X}' for it in message)}}};"]
+
+
+def columns(separator):
+    return lambda message: [row.hex(separator) for _, row in rows(message)]
+
+
+def digits(message):
+    """xxd -p."""
+    return [row.hex() for _, row in rows(message, 30)]
+
+
+DUMPS = (xxd, od, od_with_text, hexdump, wireshark, wireshark_with_text, tcpdump, tcpdump_with_text, array,
+         array_on_a_line, columns(" "), columns(":"), columns(","), digits)
+
+
+def dumps(test):
+    """One message in each form of a dump gets one answer; so do all messages of three modules."""
+    for name, rules in ((name, rules) for name in ("cam", "bsm", "signalling") for rules in RULES):
+        given, messages = messages_of(name, rules)
+        for order in ("show", "check", "fields"):
+            words = words_of(name, rules, order)
+            wanted = test.run(words, given)[:3]
+            for way in DUMPS:
+                text = "".join(f"{line}\n" for it in messages for line in (*way(it), ""))
+                test.expect([*words, "--in", "dump"], text.encode(), wanted)
+                text = "# a dump\n \n" + text
+                test.expect([*words, "--in", "dump"], text.replace("\n", "\r\n").encode(), wanted)
+
+
 def messages_of(name, rules):
     given = octets_of(f"examples/{name}.{rules}")
     return given, [bytes.fromhex(it.decode()) for it in given.split()]
@@ -46,6 +131,7 @@ def forms(test):
         given, messages = messages_of(name, rules)
         head = octets_of(f"examples/{name}.asn") + b"====\n"
         ways = (
+            ([], given.replace(b"\n", b"\r\n")),
             (["--in", "hex"], b"\n# all\n" + lines(as_people_write(it, at) for at, it in enumerate(messages))),
             (["--in", "hex-block"], b"\r\n" + b"".join(map(as_block, messages))),
             (["--in", "base64"], b"".join(base64.b64encode(it) + b"\r\n" for it in messages)),
@@ -116,4 +202,4 @@ def layouts_of_examples(test):
     test.expect(words, octets_of("examples/meter-2.per").splitlines()[1], (0, wanted.encode(), b""))
 
 
-script(__doc__, "forms.txt", forms, files_and_written, layouts, layouts_of_examples)
+script(__doc__, "forms.txt", forms, dumps, files_and_written, layouts, layouts_of_examples)

@@ -29,13 +29,13 @@ completes 'show' sh
 completes 'encode' enc
 completes 'flatten' fl
 completes '--rules' show --type Msg --ru
-completes 'per oer' show --type Msg --rules ''
+completes 'per oer uper coer' show --type Msg --rules ''
 completes 'oer' convert --type Msg --rules o
 completes 'summary text json' flatten --report ''
 completes 'at' show --module a
 completes '--strict' flatten --s
 completes '--explain' show --type Msg --exp
-completes 'hex hex-block base64 binary' show --in ''
+completes 'hex hex-block dump base64 binary' show --in ''
 completes 'hex base64 binary' encode --out ''
 completes 'name declared' show --order ''
 completes 'at' check --messages a

@@ -36,7 +36,7 @@ use Rattle.asn_json.specs.Texts.{ReadsAs, HasKeysOnce}
 use Rattle.asn_jobs.specs.declared.job.Order.{Order}
 use Rattle.asn_jobs.specs.declared.job.Order.TheVariants as order
 use Rattle.asn_jobs.specs.declared.job.RuleName.{RuleName}
-use Rattle.asn_convert.specs.Answers.{Terms, AnswersBy, AnswersShow, AnswersCheck, AnswersConvert, AnswersNewer, AnswersOctets, AnswersHex, AnswersValue, AnswersJson, newer_text, unit_of}
+use Rattle.asn_convert.specs.Answers.{Terms, AnswersBy, AnswersShow, AnswersCheck, AnswersConvert, AnswersNewer, AnswersOctets, AnswersHex, AnswersValue, AnswersJson, line_digits, newer_text, unit_of}
 use Rattle.asn_convert.specs.Converted.{IsTooLong}
 use Rattle.asn_convert.specs.Text.{HasAnswer}
 
@@ -152,10 +152,10 @@ newer_answered l t o none = ⊎_elim (λ long. none (codes "! too long") false (
         (λ never. none (codes "! cut short") false (newer.Truncated, (few, λ v s is. never (v, s, is)), refl)) h)
 
 hex_answered : (w : Terms) (by : Order) (line : List ℕ) → ((o : List ℕ) → AreOctets o → SomeAnswer (λ text good. AnswersOctets w by o text good)) → SomeAnswer (λ text good. AnswersHex w by line text good)
-hex_answered w by line each none = by_text (decode_of line) refl
+hex_answered w by line each none = by_text (decode_of (line_digits line)) refl
   where
-    by_text : (d : Result (List ℕ) FromHexError) → decode_of line ≡ d → ⊥
-    by_text (Ok o) e = each o (each_octet o (decode_of-ok line o e).3) (λ text good a. none text good (inr (o, e, a)))
+    by_text : (d : Result (List ℕ) FromHexError) → decode_of (line_digits line) ≡ d → ⊥
+    by_text (Ok o) e = each o (each_octet o (decode_of-ok (line_digits line) o e).3) (λ text good a. none text good (inr (o, e, a)))
     by_text (Err fault) e = none (codes "! hex") false (inl ((λ o is. cc (sym e ∙ is)), refl, refl))
 
 -- ---- JSON

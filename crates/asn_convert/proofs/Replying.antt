@@ -12,7 +12,7 @@ use Rattle.asn_rules.specs.Faults.{State}
 use Rattle.asn_json.specs.Texts.{RefusesText}
 use Rattle.asn_json.specs.declared.fault.TextFault.{TextFault}
 use Rattle.asn_json.specs.declared.fault.TextFault.TheVariants as text_fault
-use Rattle.asn_convert.specs.Answers.{Terms, Answers, IsRefusedText, TellsTextFault}
+use Rattle.asn_convert.specs.Answers.{Terms, Answers, IsRefusedText, TellsTextFault, line_digits}
 use Rattle.asn_convert.specs.Parts.{LineAnswer}
 use Rattle.asn_convert.specs.Put.{OctetsBegun}
 use Rattle.asn_convert.specs.Replies.{LineReply, OctetsAnswer, RepliesConvert, RepliesJson}
@@ -31,7 +31,7 @@ refused_text line (text_fault.KeyTwice path) text r e = inr (string_bytes path, 
 refused_text line text_fault.Memory text r e = absurd e
 
 module _ (a b : Ruling) (l : LooseCoding) (name : RuleName) (t : AsnType) (line : List ℕ) where
-  pub convert_reply : (octets : List ℕ) (r : Reply) → decode_of line ≡ Ok octets → RepliesConvert a name (shape_of t) octets r → LineReply a b l name order.Convert t line r
+  pub convert_reply : (octets : List ℕ) (r : Reply) → decode_of (line_digits line) ≡ Ok octets → RepliesConvert a name (shape_of t) octets r → LineReply a b l name order.Convert t line r
   convert_reply octets (reply.Text answer) is p =
       subst (λ good. LineAnswer a b l name order.Convert t line good (string_bytes answer.text)) (sym p.1) (inr (octets, is, inl p.0))
   convert_reply octets (reply.Encoded v) is p = absurd p

@@ -1,6 +1,7 @@
 -- What is answered to one line.
 use Rattle.std.specs.Prelude.{◌≡◌, ◌≢◌, ◌≤◌, ◌⊎◌, ℕ, Bool, true, false, List, [], ◌∷◌, ◌++◌, length, codes, string_bytes, slice_get, Some, Ok, Err}
 use Rattle.std.specs.Fmt.{decimal}
+use Rattle.std.specs.Io.BufRead.{strip_last}
 use Rattle.hex.specs.Hex.{decode_of, encode_lower}
 use Rattle.serde_json.specs.Data.{Data}
 use Rattle.serde_json.specs.Written.{compact_text}
@@ -147,15 +148,19 @@ AnswersOctets w order.Convert o text good = AnswersConvert w.rulings.from w.ruli
 AnswersOctets w order.Newer o text good = AnswersNewer w.rulings.newer w.shape o text good
 AnswersOctets w order.Encode o text good = ⊥
 
+-- the digits of a line: a CARRIAGE RETURN at its end is left out
+abbrev pub line_digits : List ℕ → List ℕ
+line_digits line = strip_last 13 line
+
 -- the line is no hexadecimal
 abbrev pub IsNoHex : List ℕ → Type 0
-IsNoHex line = (octets : List ℕ) → decode_of line ≡ Ok octets → ⊥
+IsNoHex line = (octets : List ℕ) → decode_of (line_digits line) ≡ Ok octets → ⊥
 
 -- what is answered to a line of hexadecimal
 abbrev pub AnswersHex : Terms → Order → List ℕ → List ℕ → Bool → Type 0
 AnswersHex w by line text good =
     (IsNoHex line × (text ≡ codes "! hex") × (good ≡ false))
-    ⊎ ((octets : List ℕ) × (decode_of line ≡ Ok octets) × AnswersOctets w by octets text good)
+    ⊎ ((octets : List ℕ) × (decode_of (line_digits line) ≡ Ok octets) × AnswersOctets w by octets text good)
 
 -- ---- JSON
 

@@ -1,22 +1,36 @@
 //! Octets out of hexadecimal digits.
 ghost use Rattle.std.specs.Prelude.{◌≡◌, ◌*◌, ℕ, List, true, false, None, Ok, IfOk, IfSome, MatchOption, length};
 ghost use Rattle.hex.specs.Hex.{decode_of, hex_digit_value, pair_value};
+ghost use Rattle.asn_convert.specs.Answers.{line_digits};
 
 use std::alloc::{AllocError, Global};
 
 /// What stands for an octet that is no digit.
 const NO_DIGIT: u8 = 255;
 
-/// The octets that a line of hexadecimal stands for; None where it is none.
-pub(crate) fn octets_in(alloc: Global, line: &[u8]) -> Result<Option<Vec<u8>>, AllocError>
-    ensures some { IfOk result (λ o. IfSome o (λ octets. decode_of line.now ≡ Ok octets.items)) }
-    ensures none { IfOk result (λ o. o ≡ None → (octets : List ℕ) → decode_of line.now ≡ Ok octets → ⊥) }
+/// The line without the CARRIAGE RETURN at its end.
+fn line_digits(line: &[u8]) -> &[u8]
+    ensures { result.now ≡ line_digits line.now }
 {
-    if line.len() % 2 != 0 {
+    if line.last() == Some(&b'\r') {
+        line.split_at(line.len() - 1).0
+    } else {
+        line
+    }
+}
+
+/// The octets that a line of hexadecimal stands for without the CARRIAGE RETURN at its end; None where it is
+/// none.
+pub(crate) fn octets_in(alloc: Global, line: &[u8]) -> Result<Option<Vec<u8>>, AllocError>
+    ensures some { IfOk result (λ o. IfSome o (λ octets. decode_of (line_digits line.now) ≡ Ok octets.items)) }
+    ensures none { IfOk result (λ o. o ≡ None → (octets : List ℕ) → decode_of (line_digits line.now) ≡ Ok octets → ⊥) }
+{
+    let digits = line_digits(line);
+    if digits.len() % 2 != 0 {
         return Ok(None);
     }
-    let mut octets = vec![in alloc; 0u8; line.len() / 2]?;
-    if are_octets_of(line, octets.as_mut_slice()) {
+    let mut octets = vec![in alloc; 0u8; digits.len() / 2]?;
+    if are_octets_of(digits, octets.as_mut_slice()) {
         Ok(Some(octets))
     } else {
         Ok(None)

@@ -1,9 +1,9 @@
 -- Steps of the readers of texts.
 use Rattle.std.proofs.Common.{◌≡◌, ◌∙◌, ap, sym, refl, ℕ, Bool, true, false, cond, List, length, map, take, Option, Some, None}
-use Rattle.std.specs.List.{before_first, flat_map, position_or_len}
+use Rattle.std.specs.List.{before_first, flat_map, list_all, position_or_len}
 use Rattle.std.proofs.lemmas.Bool.{ltb-false}
 use Rattle.std.proofs.lemmas.List.{take_all}
-use Rattle.std.proofs.lemmas.List.Folds.{flat_map-map}
+use Rattle.std.proofs.lemmas.List.Folds.{flat_map-map, list_all-map}
 use lib.Dec.{ltb}
 use Rattle.asn_jobs.specs.Texts.{is_comment}
 
@@ -28,3 +28,7 @@ no_comment line found = go (ltb (position_or_len is_comment line) (length line))
 -- the digits of all parts
 pub all_parts : {A : Type 0} (v : A → List ℕ) (f : List ℕ → List ℕ) (xs : List A) (parts : List (List ℕ)) → map v xs ≡ parts → flat_map (λ x. f (v x)) xs ≡ flat_map f parts
 all_parts v f xs parts e = sym (flat_map-map f v xs) ∙ ap (flat_map f) e
+
+-- a test of all parts
+pub all_fit : {A : Type 0} (v : A → List ℕ) (p : List ℕ → Bool) (xs : List A) (parts : List (List ℕ)) → map v xs ≡ parts → list_all (λ x. p (v x)) xs ≡ list_all p parts
+all_fit v p xs parts e = sym (list_all-map p v xs) ∙ ap (list_all p) e

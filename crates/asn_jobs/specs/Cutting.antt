@@ -86,10 +86,11 @@ unreturned line = strip_last 13 (strip_last 10 line)
 
 -- the first text of this form, or of none, in what is left of an input after n lines of it
 abbrev pub first_text : Option OctetForm → ℕ → List ℕ → Option Cut
-first_text None n left = first_line unended (lines_after n left)
+first_text None n left = first_line unreturned (lines_after n left)
 first_text (Some form.Base64) n left = first_line unreturned (lines_after n left)
 first_text (Some form.Hex) n left = first_line unended (from_word (lines_after n left))
 first_text (Some form.HexBlock) n left = first_block (from_word (lines_after n left))
+first_text (Some form.Dump) n left = first_block (from_word (lines_after n left))
 first_text (Some form.Binary) n left = if n == 0 then Some (1, left, []) else None
 
 -- ---- what a call did, where the octets are known that its reader is to give

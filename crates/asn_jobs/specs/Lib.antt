@@ -1,6 +1,10 @@
 pub mod Counts
 pub mod Cutting
+pub mod DumpLines
+pub mod DumpTexts
+pub mod DumpWords
 pub mod Ending
+pub mod Forms
 pub mod Lengths
 pub mod Lines
 pub mod Texts

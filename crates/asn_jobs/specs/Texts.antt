@@ -1,14 +1,6 @@
--- Octets as texts: hexadecimal as people write it, Base64 (RFC 4648), and the octets themselves.
-use Rattle.std.specs.Prelude.{◌==◌, ◌||◌, ◌&&◌, ℕ, Bool, List, [], ◌∷◌, Option, Some, if◌then◌else◌}
-use Rattle.std.specs.Result.{result_ok}
+-- Hexadecimal digits as people write them: in words on lines, with comments.
+use Rattle.std.specs.Prelude.{◌==◌, ◌||◌, ◌&&◌, ℕ, Bool, List, [], ◌∷◌, if◌then◌else◌}
 use Rattle.std.specs.List.{before_first, flat_map, slice_split}
-use Rattle.hex.specs.Hex.{decode_of, encode_lower}
-use Rattle.base64.specs.Engines.{standard}
-use Rattle.base64.specs.GeneralPurpose as engine
-use Rattle.asn_jobs.specs.declared.texts.OctetForm.{OctetForm}
-use Rattle.asn_jobs.specs.declared.texts.OctetForm.TheVariants as form
-
--- ---- hexadecimal digits in words on lines, with comments
 
 -- LINE FEED, which ends a line
 abbrev pub is_end : ℕ → Bool
@@ -35,19 +27,3 @@ line_digits line = flat_map unprefixed (slice_split is_blank (before_first is_co
 -- the digits of a text: those of its lines
 abbrev pub digits_of : List ℕ → List ℕ
 digits_of text = flat_map line_digits (slice_split is_end text)
-
--- ---- octets and texts
-
--- the octets that stand in a text, if it is of this form
-abbrev pub octets_in : OctetForm → List ℕ → Option (List ℕ)
-octets_in form.Hex text = result_ok (decode_of (digits_of text))
-octets_in form.HexBlock text = result_ok (decode_of (digits_of text))
-octets_in form.Base64 text = result_ok (engine.decode_of standard text)
-octets_in form.Binary text = Some text
-
--- the text of this form that is written of octets
-abbrev pub text_of : OctetForm → List ℕ → List ℕ
-text_of form.Hex octets = encode_lower octets
-text_of form.HexBlock octets = encode_lower octets
-text_of form.Base64 octets = engine.encode_of standard octets
-text_of form.Binary octets = octets

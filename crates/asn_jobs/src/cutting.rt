@@ -12,9 +12,9 @@ use std::io::{BufRead, ErrorKind};
 /// Puts the next text of the input in place of the one before, and returns the number of the line, counted from 1, at
 /// which it begins; `None` where there is none. `lines` is how many lines were read: 0 at first.
 ///
-/// - A text is a line, without its LF. In `Base64` a CARRIAGE RETURN before the LF is left out, too.
-/// - In `Hex` a line that has no more than blanks and a comment is passed over.
-/// - A text of `HexBlock` goes from the first line that has more up to a blank one, or to the end.
+/// - Without a form, and in `Base64`, a text is a line without its LF and a CARRIAGE RETURN before it.
+/// - In `Hex` it is a line without its LF. One that has no more than blanks and a comment is passed over.
+/// - A text of `HexBlock` or `Dump` goes from the first line that has more up to a blank one, or to the end.
 /// - A text of `Binary` is all of the input.
 ///
 /// # Errors
@@ -32,11 +32,12 @@ pub fn next_text<R: BufRead>(
         Some(OctetForm::Base64) => next_base64(input, text, lines),
         Some(OctetForm::Hex) => next_hex(input, text, lines),
         Some(OctetForm::HexBlock) => next_block(input, text, lines),
+        Some(OctetForm::Dump) => next_dump(input, text, lines),
         Some(OctetForm::Binary) => whole(input, text, lines),
     }
 }
 
-/// The next line, without its LF.
+/// The next line, without its LF and the CARRIAGE RETURN in front of that.
 fn next_plain<R: BufRead>(
     input: &mut R,
     text: &mut Vec<u8>,
@@ -48,10 +49,11 @@ fn next_plain<R: BufRead>(
         return Ok(None);
     }
     cut_octet(text, b'\n');
+    cut_octet(text, b'\r');
     Ok(Some(*lines))
 }
 
-/// The next line, without its LF and the CARRIAGE RETURN in front of that.
+/// The same of Base64.
 fn next_base64<R: BufRead>(
     input: &mut R,
     text: &mut Vec<u8>,
@@ -60,12 +62,7 @@ fn next_base64<R: BufRead>(
     ensures { CutsFirst result (Some form.Base64) lines.old (R.remaining input.old) lines.new (R.remaining input.new)
         text.new.items }
 {
-    if !take_line(input, text, lines)? {
-        return Ok(None);
-    }
-    cut_octet(text, b'\n');
-    cut_octet(text, b'\r');
-    Ok(Some(*lines))
+    next_plain(input, text, lines)
 }
 
 /// The next line that has more than blanks and a comment, without its LF.
@@ -99,6 +96,18 @@ fn next_block<R: BufRead>(
     let first = *lines;
     add_block(input, text, lines)?;
     Ok(Some(first))
+}
+
+/// The same of a dump.
+fn next_dump<R: BufRead>(
+    input: &mut R,
+    text: &mut Vec<u8>,
+    lines: &mut u64,
+) -> Result<Option<u64>, RunFault>
+    ensures { CutsFirst result (Some form.Dump) lines.old (R.remaining input.old) lines.new (R.remaining input.new)
+        text.new.items }
+{
+    next_block(input, text, lines)
 }
 
 /// All of the input, once.
@@ -226,7 +235,7 @@ fn is_blank_line(line: &[u8]) -> bool
 }
 
 /// Whether an octet is a SPACE, a CHARACTER TABULATION, a LF or a CARRIAGE RETURN.
-fn is_gap(octet: u8) -> bool
+pub(crate) fn is_gap(octet: u8) -> bool
     ensures { result ≡ is_gap octet }
 {
     is_blank(octet) || octet == b'\n'

@@ -1,4 +1,4 @@
-//! Hexadecimal dumps, whose lines begin with the offset of their first octet.
+//! Hexadecimal dumps that are given as plain hexadecimal digits.
 use crate::texts::{OctetForm, is_blank, uncommented, unprefixed};
 
 /// The least number of digits of an offset.
@@ -6,7 +6,7 @@ const LEAST_DIGITS: usize = 4;
 
 /// What is said of a text that may be a dump with offsets.
 pub const OFFSETS: &str =
-    "a line begins with a word that may be an offset: leave offsets out (od -An -v -tx1, xxd -p), or write 0x in front of the word";
+    "a line begins with a word that may be an offset: use --in dump, or write 0x in front of the word";
 
 /// Whether a text of this form may be a dump with offsets, as `od -Ax` and Wireshark write it. A word may be an offset if
 /// it begins a line, has four digits or more and no 0x, and has another length than the word after it. A word that is

@@ -4,6 +4,10 @@
 
 mod cut;
 mod cutting;
+mod dump_faults;
+mod dump_lines;
+mod dump_texts;
+mod dump_words;
 mod dumps;
 mod endings;
 mod fault;
@@ -17,6 +21,7 @@ mod texts;
 
 pub use cut::{cut_input, next_line};
 pub use cutting::next_text;
+pub use dump_faults::dump_fault_text;
 pub use dumps::{OFFSETS, is_dump};
 pub use endings::{ending, refusal_ending};
 pub use fault::CountFault;

@@ -5,8 +5,10 @@ ghost use Rattle.std.specs.List.{before_first};
 ghost use Rattle.hex.specs.Hex.{decode_of, encode_lower};
 ghost use Rattle.base64.specs.Engines.{standard};
 ghost use Rattle.base64.specs.GeneralPurpose as engine;
-ghost use Rattle.asn_jobs.specs.Texts.{digits_of, is_blank, is_comment, line_digits, octets_in, text_of, unprefixed};
+ghost use Rattle.asn_jobs.specs.Forms.{octets_in, read_form, text_of};
+ghost use Rattle.asn_jobs.specs.Texts.{digits_of, is_blank, is_comment, line_digits, unprefixed};
 
+use crate::dump_texts::dump_octets;
 use base64::DecodeAllocError;
 use base64::engine::general_purpose::STANDARD;
 use hex::FromHexError;
@@ -20,6 +22,9 @@ pub enum OctetForm {
     Hex,
     /// The same on several lines.
     HexBlock,
+    /// Lines as xxd, od -Ax -tx1, hexdump -C, Wireshark and tcpdump write them: an offset, octets and the text column;
+    /// or octets without offsets, also as an array of C.
+    Dump,
     /// Base64 (RFC 4648, "Base 64 Encoding"), with its padding.
     Base64,
     /// The octets themselves.
@@ -36,6 +41,7 @@ pub fn octets_in(alloc: Global, form: OctetForm, text: &[u8]) -> Result<Option<V
 {
     match form {
         OctetForm::Hex | OctetForm::HexBlock => hexadecimal_in(alloc, text),
+        OctetForm::Dump => dump_octets(alloc, text),
         OctetForm::Base64 => base64_in(alloc, text),
         OctetForm::Binary => Ok(Some(copied(alloc, text)?)),
     }
@@ -123,16 +129,17 @@ fn copied(alloc: Global, octets: &[u8]) -> Result<Vec<u8>, AllocError>
     Ok(copy)
 }
 
-/// The text of this form that is written of octets, without a line's end. `octets_in` reads the same octets in it.
+/// The text of this form that is written of octets, without a line's end. `octets_in` reads the same octets in it; of
+/// `Dump` it is written, and read, as `Hex`.
 ///
 /// # Errors
 /// `AllocError` where an allocation failed.
 pub fn text_of(alloc: Global, form: OctetForm, octets: &[u8]) -> Result<Vec<u8>, AllocError>
     ensures text { IfOk result (λ text. text.items ≡ text_of form octets.now) }
-    ensures read_again { IfOk result (λ text. octets_in form text.items ≡ Some octets.now) }
+    ensures read_again { IfOk result (λ text. octets_in (read_form form) text.items ≡ Some octets.now) }
 {
     match form {
-        OctetForm::Hex | OctetForm::HexBlock => hexadecimal_of(alloc, octets),
+        OctetForm::Hex | OctetForm::HexBlock | OctetForm::Dump => hexadecimal_of(alloc, octets),
         OctetForm::Base64 => base64_of(alloc, octets),
         OctetForm::Binary => copied(alloc, octets),
     }

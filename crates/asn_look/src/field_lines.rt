@@ -9,7 +9,8 @@ use crate::named_fields::fields_within_by;
 use crate::streams::{Next, next_message};
 use asn_fields::{PAGE_END, page_head, page_note};
 use asn_jobs::{
-    OFFSETS, OctetForm, Order, Place, RuleName, RunFault, is_dump, next_text, octets_in, place_text,
+    OFFSETS, OctetForm, Order, Place, RuleName, RunFault, dump_fault_text, is_dump, next_text,
+    octets_in, place_text,
 };
 use asn_request::asking::Forms;
 use asn_values::Checked;
@@ -178,6 +179,10 @@ fn show_text<'a>(
         return show_none(rt, shown, place, so_far);
     }
     let Some(octets) = octets_of(rt.alloc(), shown.forms, text)? else {
+        if form == OctetForm::Dump {
+            let words = dump_fault_text(rt.alloc(), place, text)?;
+            let _ = eprintln!(rt; "{words}");
+        }
         return show_none(rt, shown, place, so_far);
     };
     if shown.forms.is_split {
@@ -240,6 +245,7 @@ fn show_none<'a>(
 ) -> Result<(), ShowFault<'a>> {
     let refusal = match shown.forms.given {
         Some(OctetForm::Base64) => "! base64",
+        Some(OctetForm::Dump) => "! dump",
         _ => "! hex",
     };
     let text = if shown.is_page {

@@ -1,5 +1,5 @@
 -- What the subcommand that clap met asks for, by its name and the values of its options.
-use Rattle.std.proofs.Common.{◌≡◌, ◌≢◌, ◌∙◌, ◌⊎◌, ap, ap₂, sym, subst, refl, inl, inr, true, true≢false, codes, string_bytes, Option, Some, None, List, option_map}
+use Rattle.std.proofs.Common.{◌≡◌, ◌≢◌, ◌∙◌, ◌⊎◌, ap, ap₂, sym, refl, inl, inr, true, true≢false, codes, string_bytes, Option, Some, None, List, option_map}
 use Rattle.std.specs.Option.{is_some, unwrap_or}
 use Rattle.std.specs.Prelude.{Box, false}
 use Rattle.std.specs.Str.{bytes_eq}
@@ -11,12 +11,10 @@ use Rattle.clap.specs.declared.parser.matches.ArgMatches.TheViews.{out-ArgMatche
 use Rattle.clap.specs.declared.parser.matches.SubCommand.{SubCommand}
 use Rattle.asn_jobs.specs.declared.job.Order.{Order}
 use Rattle.asn_jobs.specs.declared.job.Order.TheVariants as order
-use Rattle.asn_jobs.specs.declared.job.RuleName.{RuleName}
-use Rattle.asn_jobs.specs.declared.job.RuleName.TheVariants as rules
 use Rattle.asn_request.specs.declared.look.Looking.{Looking}
 use Rattle.asn_request.specs.declared.look.Looking.TheVariants as looking
-use Rattle.asn_request.specs.Command.{HasOptions, IsOneOf, IsTaken, look_names, order_names, rule_names}
-use Rattle.asn_request.specs.Request.{HasRequest, IsJobOf, IsRequestOf, look_name, order_name, rule_name}
+use Rattle.asn_request.specs.Command.{HasOptions, IsOneOf, IsTaken, look_names, order_names}
+use Rattle.asn_request.specs.Request.{HasRequest, IsJobOf, IsRequestOf, look_name, order_name}
 
 some≢none : {X : Type 0} (x : X) → Some x ≡ None → ⊥
 some≢none x e = true≢false (ap (λ o. is_some o) e)
@@ -65,16 +63,6 @@ order_known name (inr (inr (inr (inl e)))) none = none order.Convert (sym e)
 order_known name (inr (inr (inr (inr (inl e))))) none = none order.Newer (sym e)
 order_known name (inr (inr (inr (inr (inr e))))) none = e
 
--- and each of encoding rules
-pub rules_known : (name : Text) → IsOneOf name rule_names → ((r : RuleName) → rule_name r ≢ name) → ⊥
-rules_known name (inl e) none = none rules.Per (sym e)
-rules_known name (inr (inl e)) none = none rules.Oer (sym e)
-rules_known name (inr (inr e)) none = e
-
 -- a value that is there is found
 pub value_known : (found : Option Text) → ((t : Text) × (found ≡ Some t)) → None ≡ found → ⊥
 value_known found has none = some≢none has.0 (sym has.1 ∙ sym none)
-
--- the value that is found is the one that is there
-pub known_rules : (found : Option Text) (text : Text) → ((r : Text) × (found ≡ Some r) × IsOneOf r rule_names) → Some text ≡ found → IsOneOf text rule_names
-known_rules found text has given = subst (λ t. IsOneOf t rule_names) (same _ _ (sym has.1 ∙ sym given)) has.2

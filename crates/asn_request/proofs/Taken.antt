@@ -185,18 +185,18 @@ accepted : (b : Bool) (k : Kinds) → cond b [] (kind.InvalidValue ∷ []) ≡ [
 accepted true k e = refl
 accepted false k e = absurd (no_kind _ _ e)
 
-one_of_two : (t : Text) → (bytes_eq (codes "per") t || (bytes_eq (codes "oer") t || false)) ≡ true → IsOneOf t rule_names
-one_of_two t e = go (bytes_eq (codes "per") t) (bytes_eq (codes "oer") t) refl refl e
+one_of : (t : Text) (names : List Text) → list_any (λ n. bytes_eq n t) names ≡ true → IsOneOf t names
+one_of t [] e = absurd (true≢false (sym e))
+one_of t (x ∷ xs) e = go (one_of t xs) (bytes_eq x t) refl e
   where
-    go : (b c : Bool) → bytes_eq (codes "per") t ≡ b → bytes_eq (codes "oer") t ≡ c → (b || (c || false)) ≡ true → IsOneOf t rule_names
-    go true c per oer e = inl (sym ((bytes_eq-Decides (codes "per") t).0 per))
-    go false true per oer e = inr (inl (sym ((bytes_eq-Decides (codes "oer") t).0 oer)))
-    go false false per oer e = absurd (true≢false (sym e))
+    go : (list_any (λ n. bytes_eq n t) xs ≡ true → IsOneOf t xs) → (b : Bool) → bytes_eq x t ≡ b → (b || list_any (λ n. bytes_eq n t) xs) ≡ true → IsOneOf t (x ∷ xs)
+    go others true is e = inl (sym ((bytes_eq-Decides x t).0 is))
+    go others false is e = inr (others e)
 
 is_rules : (names : Bor (List (Bor (List ℕ)))) (t : Text) → map (λ name. name.now) names.now ≡ rule_names → value_kinds false (Names names) t ≡ [] → IsOneOf t rule_names
 is_rules names t are e =
     let any : list_any (λ name. bytes_eq name.now t) names.now ≡ true = accepted _ [] e in
-    one_of_two t (ap (list_any (λ n. bytes_eq n t)) (sym are) ∙ (sym (list_any-map (λ n. bytes_eq n t) (λ name. name.now) names.now) ∙ any))
+    one_of t rule_names (ap (list_any (λ n. bytes_eq n t)) (sym are) ∙ (sym (list_any-map (λ n. bytes_eq n t) (λ name. name.now) names.now) ∙ any))
 
 module _ (p : Parsers) (names : Bor (List (Bor (List ℕ)))) (are : map (λ name. name.now) names.now ≡ rule_names) where
   values_given : (found : Text × List Row) → IsOneOf found.0 order_names → Each (HasValue names) found.1

@@ -17,14 +17,14 @@ abbrev pub order_names : List Text
 order_names = map (λ o. o.0) orders
 
 abbrev pub rule_names : List Text
-rule_names = codes "per" ∷ codes "oer" ∷ []
+rule_names = codes "per" ∷ codes "oer" ∷ codes "uper" ∷ codes "coer" ∷ []
 
 abbrev pub report_names : List Text
 report_names = codes "summary" ∷ codes "text" ∷ codes "json" ∷ []
 
 -- the forms of octets that are given, and of those that are written
 abbrev pub given_names : List Text
-given_names = codes "hex" ∷ codes "hex-block" ∷ codes "base64" ∷ codes "binary" ∷ []
+given_names = codes "hex" ∷ codes "hex-block" ∷ codes "dump" ∷ codes "base64" ∷ codes "binary" ∷ []
 
 abbrev pub written_names : List Text
 written_names = codes "hex" ∷ codes "base64" ∷ codes "binary" ∷ []

@@ -41,16 +41,17 @@ order_name order.Encode = codes "encode"
 order_name order.Convert = codes "convert"
 order_name order.Newer = codes "newer"
 
-abbrev pub rule_name : RuleName → Text
-rule_name rules.Per = codes "per"
-rule_name rules.Oer = codes "oer"
+-- the encoding rules of a name: the canonical forms have names of their own, and are the only ones here
+abbrev pub rules_of : Text → RuleName
+rules_of name = if bytes_eq name (codes "oer") then rules.Oer
+    else (if bytes_eq name (codes "coer") then rules.Oer else rules.Per)
 
 -- the job of a subcommand, by its name, and of the values of its options
 abbrev pub IsJobOf : Text × List Row → Job → Type 0
 IsJobOf found job.Module = found.0 ≡ codes "module"
 IsJobOf found (job.Lines o type_name r) = (found.0 ≡ order_name o)
     × (first_of (codes "type") found.1 ≡ Some (string_bytes type_name))
-    × (first_of (codes "rules") found.1 ≡ Some (rule_name r))
+    × (option_map rules_of (first_of (codes "rules") found.1) ≡ Some r)
 
 -- ---- files and options
 
@@ -100,8 +101,9 @@ form_in rows = option_map_or form_of (first_of (codes "report") rows) form.Summa
 -- the form of octets of a name, and the one that an option names
 abbrev pub octet_form_of : Text → OctetForm
 octet_form_of name = if bytes_eq name (codes "hex-block") then octets.HexBlock
+    else (if bytes_eq name (codes "dump") then octets.Dump
     else (if bytes_eq name (codes "base64") then octets.Base64
-    else (if bytes_eq name (codes "binary") then octets.Binary else octets.Hex))
+    else (if bytes_eq name (codes "binary") then octets.Binary else octets.Hex)))
 
 abbrev pub octet_form_in : Text → List Row → Option OctetForm
 octet_form_in id rows = option_map octet_form_of (first_of id rows)
@@ -148,10 +150,7 @@ abbrev pub name_id : Looking → Text
 name_id looking.Types = codes "name"
 name_id _ = codes "type"
 
--- the encoding rules of a name, and those that are given: PER where others are named, or none
-abbrev pub rules_of : Text → RuleName
-rules_of name = if bytes_eq name (codes "oer") then rules.Oer else rules.Per
-
+-- the encoding rules that are given: PER if there are none
 abbrev pub rules_in : List Row → RuleName
 rules_in rows = option_map_or rules_of (first_of (codes "rules") rows) rules.Per
 

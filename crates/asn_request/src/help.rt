@@ -16,22 +16,26 @@ error; the exit status is 4. --accept-wider answers as for any other message.
 --strict refuses types that differ. --levels N reads a recursive type in which
 the type is again N - 1 times, and refuses deeper messages.
 
-Octets are lines of hexadecimal digits, two an octet. Other forms (--in, --out):
+Octets are lines of hexadecimal digits, two an octet; an empty line is an empty
+message. Other forms (--in, --out):
   hex        hexadecimal digits with blanks, 0x in front of a word, and comments
              from # on; blank lines are skipped; 0x alone is an empty message
   hex-block  the same on several lines; a blank line ends a message (xxd -p)
+  dump       as xxd, od -Ax -tx1, hexdump -C, Wireshark and tcpdump -x print, or
+             an array of C; offsets have to count the octets, and a text column
+             has to be that of its octets; a blank line ends a message
   base64     a line of Base64 (RFC 4648), with padding
   binary     the octets themselves: all of standard input, or of one file, is a
              message; refusals go to standard error
-Dumps with offsets in front (od -Ax, hexdump, Wireshark) are refused: use
-od -An -v -tx1. If a line begins with a word of four digits or more, and its
-words differ in length, the first is taken for an offset unless it has 0x.
+hex and hex-block refuse dumps with offsets. If a line begins with a word of
+four digits or more without 0x, and its words differ in length, that is one.
 --messages FILE.. reads the messages from files instead of standard input.
 --split reads several messages from one text: each begins where the last ended.
 Nothing is read after octets that are refused.
 
 Refusals (--explain says more on standard error):
   ! hex                 not hexadecimal digits, two an octet
+  ! dump                not a dump, or in doubt: the reason is on standard error
   ! base64              not Base64
   ! json                not JSON
   ! shape PATH          at PATH, JSON of another kind, or a key twice

@@ -95,12 +95,13 @@ fn rules_in(options: &ArgMatches<'_>) -> RuleName
     }
 }
 
-/// The encoding rules of this name: PER where it is another than `oer`.
-fn rules_of(name: &str) -> RuleName
+/// The encoding rules of this name: PER if it is neither `oer` nor `coer`.
+pub(crate) fn rules_of(name: &str) -> RuleName
     ensures { result ≡ rules_of name.now }
 {
     match name {
         "oer" => RuleName::Oer,
+        "coer" => RuleName::Oer,
         _ => RuleName::Per,
     }
 }

@@ -8,10 +8,10 @@ use clap::{Arg, ArgAction, Command, value_parser};
 use std::alloc::{AllocError, Global};
 
 /// The names of the encoding rules.
-static RULES: [&str; 2] = ["per", "oer"];
+static RULES: [&str; 4] = ["per", "oer", "uper", "coer"];
 
 /// The forms of octets that are given.
-static GIVEN: [&str; 4] = ["hex", "hex-block", "base64", "binary"];
+static GIVEN: [&str; 5] = ["hex", "hex-block", "dump", "base64", "binary"];
 
 /// The forms of octets that are written.
 static WRITTEN: [&str; 3] = ["hex", "base64", "binary"];
@@ -43,7 +43,7 @@ pub fn rules_option<'a>(alloc: Global) -> Arg<'a>
         .required(true)
         .action(ArgAction::Set)
         .value_parser(RULES.as_slice())
-        .help("The encoding rules")
+        .help("The encoding rules: uper is per, and coer is oer;\naper is not supported\n")
 }
 
 /// The command with the options for the module, and for why something is refused.
@@ -113,9 +113,10 @@ fn given_option<'a>(alloc: Global, name: &str) -> Arg<'a>
         .value_name("FORM")
         .action(ArgAction::Set)
         .hide(!is_taken(name, "in"))
+        .hide_possible_values(true)
         .value_parser(GIVEN.as_slice())
         .help(
-            "The form of the octets that are read, by default\nhexadecimal digits and nothing else\n",
+            "The form of the octets that are read, by default\nhexadecimal digits and nothing else\n[possible values: hex, hex-block, dump, base64,\nbinary]",
         )
 }
 

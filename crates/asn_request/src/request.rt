@@ -2,15 +2,14 @@
 ghost use Rattle.std.specs.Prelude.{◌≡◌, ◌≢◌, IfOk, IfErr, MatchOption, codes, map};
 ghost use Rattle.clap.specs.Words.{Text, found_of, kind_of, rows_of, subcommand_rows_of};
 ghost use Rattle.asn_jobs.specs.declared.job.Order.{Order};
-ghost use Rattle.asn_jobs.specs.declared.job.RuleName.{RuleName};
 ghost use Rattle.asn_request.specs.declared.request.LineFault.{LineFault};
 ghost use Rattle.asn_request.specs.Command.{HasOptions, IsTaken};
-ghost use Rattle.asn_request.specs.Request.{AreForms, AreOptions, AreVersions, Asks, HasRequest, IsAsking, IsJobOf, IsLayout, IsNumberOf, IsRequestOf, Told, fault_by, files_of, form_in, form_of, is_declared_in, is_order_named_in, octet_form_in, octet_form_of, look_name, order_name, rule_name, texts_of};
+ghost use Rattle.asn_request.specs.Request.{AreForms, AreOptions, AreVersions, Asks, HasRequest, IsAsking, IsJobOf, IsLayout, IsNumberOf, IsRequestOf, Told, fault_by, files_of, form_in, form_of, is_declared_in, is_order_named_in, octet_form_in, octet_form_of, look_name, order_name, texts_of};
 
 use crate::asking::{Asking, Forms, Versions};
-use crate::look::{Look, Looking, look_of, looking_named, text_in};
+use crate::look::{Look, Looking, look_of, looking_named, rules_of, text_in};
 use crate::program::command;
-use asn_jobs::{Job, OctetForm, Order, RuleName};
+use asn_jobs::{Job, OctetForm, Order};
 use asn_json_layout::Layout;
 use asn_published_text::options::Options;
 use clap::ArgMatches;
@@ -82,8 +81,8 @@ pub enum LineFault {
 /// # Errors
 /// `Line` exactly where the command does not take the words, or where they ask for help or the version, which is the
 /// text of the error then. The command does not take a missing or unknown subcommand or option, an option without a
-/// value or twice, rules other than `per` and `oer`, or levels that are no number. `Memory` where an allocation
-/// failed.
+/// value or twice, rules of another name than `per`, `oer`, `uper` and `coer`, or levels that are no number. `Memory`
+/// where an allocation failed.
 pub fn request_of<'a>(alloc: Global, words: &'a [&'a str]) -> Result<Request<'a>, LineFault>
     ensures request { IfOk result (λ asked. Asks (map (λ w. w.now) words.entry.now) asked) }
     ensures fault { IfErr result (λ fault. Told (map (λ w. w.now) words.entry.now) fault) }
@@ -169,9 +168,7 @@ fn lines_in(alloc: Global, name: &str, options: &ArgMatches<'_>) -> Result<Job, 
     let Some(rules) = options.get_str("rules") else {
         unreachable!()
     };
-    let Some(rules) = rules_named(rules) else {
-        unreachable!()
-    };
+    let rules = rules_of(rules);
     let type_name = String::from_str(alloc, type_name)?;
     Ok(Job::Lines {
         order,
@@ -261,6 +258,7 @@ fn octet_form_named(name: &str) -> OctetForm
 {
     match name {
         "hex-block" => OctetForm::HexBlock,
+        "dump" => OctetForm::Dump,
         "base64" => OctetForm::Base64,
         "binary" => OctetForm::Binary,
         _ => OctetForm::Hex,
@@ -336,18 +334,6 @@ fn order_named(name: &str) -> Option<Order>
         "encode" => Some(Order::Encode),
         "convert" => Some(Order::Convert),
         "newer" => Some(Order::Newer),
-        _ => None,
-    }
-}
-
-/// The encoding rules of this name.
-fn rules_named(name: &str) -> Option<RuleName>
-    ensures { MatchOption result
-        ((rules : RuleName) → rule_name rules ≢ name.now) (λ rules. rule_name rules ≡ name.now) }
-{
-    match name {
-        "per" => Some(RuleName::Per),
-        "oer" => Some(RuleName::Oer),
         _ => None,
     }
 }

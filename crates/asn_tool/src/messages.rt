@@ -1,7 +1,7 @@
 //! Messages that are answered one after the other.
 use crate::answering::{Answers, Asked, answer_one};
 use crate::streaming::answer_stream;
-use crate::writing::{refuse_dump, refuse_text};
+use crate::writing::{refuse_dump, refuse_offsets, refuse_text};
 use asn_jobs::{OctetForm, Place, RunFault, is_dump, next_text, octets_in};
 use asn_look::front_len;
 use std::io::{BufRead, Write};
@@ -57,7 +57,7 @@ fn answer_text<W: Write>(
         }
     };
     if is_dump(form, text) {
-        return refuse_dump(rt, answers, place, asked);
+        return refuse_offsets(rt, answers, place, asked);
     }
     match octets_in(rt.alloc(), form, text)? {
         Some(octets) => {
@@ -66,6 +66,7 @@ fn answer_text<W: Write>(
             }
             answer_octets(rt, answers, place, octets.as_slice(), asked)
         }
+        None if form == OctetForm::Dump => refuse_dump(rt, answers, place, text, asked),
         None => refuse_text(rt, answers, place, form, asked),
     }
 }

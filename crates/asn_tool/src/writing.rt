@@ -1,7 +1,7 @@
 //! What is written of an answer: octets in a form, the line of a refusal, and words with their place on standard error.
 use crate::answering::{Answers, Asked, counted};
 use asn_convert::RunFault;
-use asn_jobs::{OFFSETS, OctetForm, Place, octets_in, place_text, text_of};
+use asn_jobs::{OFFSETS, OctetForm, Place, dump_fault_text, octets_in, place_text, text_of};
 use asn_request::asking::Forms;
 use asn_rules::Counted;
 use std::io::Write;
@@ -60,7 +60,7 @@ pub fn text_in(line: &[u8]) -> &[u8] {
 ///
 /// # Errors
 /// `Write` if the writer reported an error, `Memory` if an allocation failed.
-pub fn refuse_dump<W: Write>(
+pub fn refuse_offsets<W: Write>(
     rt: &HostRuntime,
     answers: &mut Answers<W>,
     place: Place<'_>,
@@ -68,6 +68,24 @@ pub fn refuse_dump<W: Write>(
 ) -> Result<bool, RunFault> {
     put_refusal(rt, answers, place, "! hex\n".as_bytes(), asked)?;
     tell(rt, place, OFFSETS)?;
+    Ok(false)
+}
+
+/// Refuses a text that is no dump, or in doubt. Standard error has the line, the column and the reason.
+///
+/// # Errors
+/// `Write` if the writer reported an error, `Memory` if an allocation failed.
+pub fn refuse_dump<W: Write>(
+    rt: &HostRuntime,
+    answers: &mut Answers<W>,
+    place: Place<'_>,
+    text: &[u8],
+    asked: Asked<'_>,
+) -> Result<bool, RunFault> {
+    put_refusal(rt, answers, place, "! dump\n".as_bytes(), asked)?;
+    let told = dump_fault_text(rt.alloc(), place, text)?;
+    let told = told.as_str();
+    let _ = eprintln!(rt; "{told}");
     Ok(false)
 }
 

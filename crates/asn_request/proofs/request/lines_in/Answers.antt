@@ -1,7 +1,8 @@
-use Rattle.std.proofs.Common.{ap, codes, sym, ◌∙◌, Some}
+use Rattle.std.proofs.Common.{ap, codes, option_map, sym, ◌∙◌, Some}
 use Rattle.clap.proofs.WalkLemmas.{first_value-rows}
 use Rattle.clap.specs.Words.{found_of, rows_of}
-use Rattle.asn_request.proofs.FoundJob.{known_rules, order_known, rules_known, value_known}
+use Rattle.asn_request.specs.Request.{rules_of}
+use Rattle.asn_request.proofs.FoundJob.{order_known, value_known}
 use Rattle.asn_request.proofs.request.lines_in.Goals as goal
 
 pub unreachable-requires : goal.unreachable-requires
@@ -15,14 +16,9 @@ pub unreachable-requires-in_default-get_str-2 : goal.unreachable-requires-in_def
 unreachable-requires-in_default-get_str-2 c =
     value_known _ (c.requires.2.0, c.requires.2.1) (c.in_default-get_str-2.ensures ∙ first_value-rows (found_of c.args.options.now) (codes "rules"))
 
-pub unreachable-requires-in_default-rules_named : goal.unreachable-requires-in_default-rules_named
-unreachable-requires-in_default-rules_named c =
-    rules_known c.in-Some-get_str-2.rules.now
-    (known_rules _ _ c.requires.2 (c.in-Some-get_str-2.ensures ∙ first_value-rows (found_of c.args.options.now) (codes "rules"))) c.in_default-rules_named.ensures
-
 pub returns : goal.returns
 returns c = (
   sym c.in-Some.ensures,
   sym (ap Some c.in_ok-type_name.ensures.ok ∙ (c.in-Some-get_str.ensures ∙ first_value-rows (found_of c.args.options.now) (codes "type"))),
-  sym (ap Some c.in-Some-rules_named.ensures ∙ (c.in-Some-get_str-2.ensures ∙ first_value-rows (found_of c.args.options.now) (codes "rules"))),
+  sym (ap (option_map rules_of) (c.in-Some-get_str-2.ensures ∙ first_value-rows (found_of c.args.options.now) (codes "rules"))) ∙ ap Some (sym c.rules_of-rules.ensures),
 )

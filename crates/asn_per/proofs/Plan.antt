@@ -4,5 +4,4 @@ pub mod RangedRead
 pub mod StringsRead
 pub mod FieldsRead
 pub mod NothingSpelt
-pub mod ItemsSpelt
 pub mod OpenHere

@@ -30,6 +30,7 @@ not type. It is broken if only a proof by hand no longer fits, and named if that
 and an edit of which the check says nothing are shown and skipped. The gate begins a check once there is memory for it,
 and none after MINUTES: the edits that are left stay due.
 """
+import datetime
 import glob
 import os
 import re
@@ -42,7 +43,6 @@ import tempfile
 import time
 from collections import Counter, namedtuple
 from concurrent.futures import ThreadPoolExecutor
-from threading import Lock
 
 sys.dont_write_bytecode = True
 TOP = os.path.dirname(os.path.dirname(os.path.dirname(os.path.abspath(__file__))))
@@ -52,10 +52,9 @@ from room import text_of  # noqa: E402
 
 FOLDER, TRIED = "tests/edits", "tests/edits/tried"
 # a check's seconds of a processor and memory, the minutes in which the gate begins checks, and the verdicts that fail
-LIMIT, MEMORY, MINUTES, BEGUN, NOTING = 1200, 4_500_000_000, 120, time.time(), Lock()
+LIMIT, MEMORY, MINUTES, BEGUN = 1200, 4_500_000_000, 120, time.time()
 FAILURES = ("NOT REFUSED", "bad edit", "not tried")
 say = lambda text: print(f"{text}\n", end="", flush=True)
-kinds_of = lambda counts: ", ".join(f"{count} {kind}" for kind, count in sorted(counts.items())) or "none"
 
 # ---- the functions of a formatted source file
 HEAD = re.compile(r'^( *)(?:pub(?:\([^)]*\))? )?((?:const |unsafe |extern "C" )*)fn (\w+)', re.M)
@@ -340,10 +339,10 @@ def checked(crate, edits, functions, kept, at_contracts=False):
 
 
 class Tries:
-    """The tries of a crate's edits, and the verdict over each: (kind, why). With hashes they are noted at their end."""
+    """The tries of a crate's edits, and the verdict over each: (kind, why)."""
 
-    def __init__(self, crate, edits, is_beside, now):
-        self.crate, self.seed, self.checks, self.kept, self.now = crate, None, 0, f"{crate.folder}/out/incremental", now
+    def __init__(self, crate, edits, is_beside):
+        self.crate, self.seed, self.checks, self.kept = crate, None, 0, f"{crate.folder}/out/incremental"
         self.at_contracts = is_beside and not os.path.isdir(self.kept)
         self.verdicts = {it: ("bad edit", it.fault) for it in edits if it.fault}
         self.verdicts.update({it: ("weak", it.weak) for it in edits if it.weak and not it.fault})
@@ -408,9 +407,8 @@ class Tries:
             if verdict[0] not in ("refused", "weak", "left"):
                 say(f"{edit.label}: {': '.join(verdict)}")
         counts = Counter(kind for kind, _ in self.verdicts.values())
-        say(f"{self.crate.name}: {len(self.verdicts)} edits in {self.checks} checks: {kinds_of(counts)}")
-        if self.now:
-            note([self.crate.name], not counts.keys() - {"refused", "weak"}, self.now)
+        kinds = ", ".join(f"{count} {kind}" for kind, count in sorted(counts.items()))
+        say(f"{self.crate.name}: {len(self.verdicts)} edits in {self.checks} checks: {kinds}")
 
 
 # ---- which crates are due
@@ -438,17 +436,16 @@ def noted():
 
 def due(names, now):
     """The crates whose text or edits differ from what is noted, and the crate of the day."""
-    known, day = noted(), time.localtime().tm_yday
+    known, day = noted(), datetime.date.today().timetuple().tm_yday
     return [it for at, it in enumerate(names) if known.get(it) != now[it] or at == day % len(names)]
 
 
-def note(names, are_tried, now):
-    with NOTING:
-        known = {name: two for name, two in noted().items() if name in now and name not in names}
-        known |= {name: now[name] for name in names if are_tried}
-        with open(f"{TOP}/{TRIED}", "w", encoding="utf-8") as it:
-            it.write("# Crates whose edits were tried, with git's hashes of folder and edits. edits.py writes it.\n")
-            it.writelines(f"{name} {' '.join(known[name])}\n" for name in sorted(known))
+def note(passed, failed, now):
+    known = {name: two for name, two in noted().items() if name in now and name not in failed}
+    known.update({name: now[name] for name in passed})
+    with open(f"{TOP}/{TRIED}", "w", encoding="utf-8") as it:
+        it.write("# Crates whose edits were tried, and git's hashes of their folders and edits. edits.py writes it.\n")
+        it.writelines(f"{name} {' '.join(known[name])}\n" for name in sorted(known))
 
 
 def build_below(crate):
@@ -465,8 +462,8 @@ def proved_names(crates):
     yield from ((it, False) for it in left.values())
 
 
-def try_all(crates, edits, is_beside, now):
-    """Tries the edits of these crates, as many crates side by side as there are lanes, and returns the tries."""
+def try_all(crates, edits, is_beside):
+    """Tries the edits of these crates side by side, and returns the tries."""
     tries = []
 
     def run(it, is_proved, pool):
@@ -487,11 +484,11 @@ def try_all(crates, edits, is_beside, now):
     rtlib.guarded()
     pairs = proved_names(crates) if is_beside else ((it, build_below(it)) for it in crates)
     most = max(1, min(rt.processors() // (2 if is_beside else 1), int(rt.free() // MEMORY)))
-    lanes = int(os.environ.get("RT_JOBS") or most)
-    with ThreadPoolExecutor(lanes) as pool, ThreadPoolExecutor(lanes) as drivers:
+    lanes = ThreadPoolExecutor(int(os.environ.get("RT_JOBS") or most))
+    with lanes as pool, ThreadPoolExecutor(max(len(crates), 1)) as drivers:
         for crate, is_proved in pairs:
             crate.out = open(os.devnull, "w", encoding="utf-8")
-            tries.append(Tries(crate, edits[crate.name], is_beside, now))
+            tries.append(Tries(crate, edits[crate.name], is_beside))
             drivers.submit(run, tries[-1], is_proved, pool)
     return tries
 
@@ -516,15 +513,18 @@ def main(words):
         say(f"due: {' '.join(due([*edits], now))}")
         return 0
     if flags == {"--note"}:
-        return note(names, True, now)
+        return note(names, (), now)
     is_wanted = lambda it: not single or it.label in single or it.crate.name in words
     wanted = {name: [*filter(is_wanted, edits[name])] for name in chosen}
-    now = None if single or "--due" in flags else now
-    tries = try_all([it for it in crates if it.name in chosen], wanted, "--beside" in flags, now)
+    tries = try_all([it for it in crates if it.name in chosen], wanted, "--beside" in flags)
+    if not single and "--due" not in flags:
+        failed = {it.crate.name for it in tries if {kind for kind, _ in it.verdicts.values()} - {"refused", "weak"}}
+        note([it.crate.name for it in tries if it.crate.name not in failed], failed, now)
     counts = Counter(kind for it in tries for kind, _ in it.verdicts.values())
     passed, lost = counts["refused"], sum(counts[it] for it in FAILURES)
+    kinds = ", ".join(f"{count} {kind}" for kind, count in sorted(counts.items())) or "none"
     skipped = sum(counts.values()) - passed - lost
-    say(f"edits of {len(tries)} crates: {kinds_of(counts)}\n{passed} passed, {lost} failed, {skipped} skipped")
+    say(f"edits of {len(tries)} crates: {kinds}\n{passed} passed, {lost} failed, {skipped} skipped")
     return 1 if lost else 0
 
 

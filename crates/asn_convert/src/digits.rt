@@ -1,7 +1,7 @@
 //! Octets out of hexadecimal digits.
 ghost use Rattle.std.specs.Prelude.{◌≡◌, ◌*◌, ℕ, List, true, false, None, Ok, IfOk, IfSome, MatchOption, length};
 ghost use Rattle.hex.specs.Hex.{decode_of, hex_digit_value, pair_value};
-ghost use Rattle.asn_convert.specs.Answers.{line_digits};
+ghost use Rattle.asn_convert.specs.Answers.{IsNoHex, line_digits};
 
 use std::alloc::{AllocError, Global};
 
@@ -23,7 +23,7 @@ fn line_digits(line: &[u8]) -> &[u8]
 /// none.
 pub(crate) fn octets_in(alloc: Global, line: &[u8]) -> Result<Option<Vec<u8>>, AllocError>
     ensures some { IfOk result (λ o. IfSome o (λ octets. decode_of (line_digits line.now) ≡ Ok octets.items)) }
-    ensures none { IfOk result (λ o. o ≡ None → (octets : List ℕ) → decode_of (line_digits line.now) ≡ Ok octets → ⊥) }
+    ensures none { IfOk result (λ o. o ≡ None → IsNoHex line.now) }
 {
     let digits = line_digits(line);
     if digits.len() % 2 != 0 {

@@ -46,8 +46,7 @@ struct SoFar {
     all_good: bool,
 }
 
-/// Shows the messages of the files, or of these lines where there are none. Gives the exit status: 0, or 1 where one
-/// is no message.
+/// Shows the messages of the files, or of these lines if there are none. Returns 0, or 1 if one is no message.
 pub fn show_messages<'a, R: BufRead>(
     rt: &HostRuntime,
     shown: Shown<'_>,
@@ -121,8 +120,7 @@ fn show_input<'a, R: BufRead>(
     Err(ShowFault::Memory)
 }
 
-/// Shows messages that stand one after the other in an input, each as soon as its last octet is there. After octets
-/// that are refused nothing is read.
+/// Shows the messages of an input, each as soon as its last octet is there. After a refusal nothing is read.
 fn show_stream<'a, R: BufRead>(
     rt: &HostRuntime,
     shown: Shown<'_>,
@@ -302,8 +300,7 @@ fn broken_part(
     broken_in(alloc, shown.ty, constraint, shown.rules, digits.as_bytes())
 }
 
-/// Shows a message of so many octets whose value breaks the constraint of its type: the part is marked, and a line says why
-/// it is refused.
+/// Shows a message of so many octets whose value breaks its constraint: marks the part, and adds a line that says why.
 fn show_broken<'a>(
     rt: &HostRuntime,
     shown: Shown<'_>,
@@ -353,8 +350,7 @@ fn show_over<'a>(
     put(rt, shown, text.as_str(), so_far)
 }
 
-/// What is shown of the message that these octets are to be, and whether they are one; `None` if it has too many
-/// fields.
+/// What is shown of these octets, and whether they are a message. `None` if it has too many fields.
 fn message_text(
     alloc: Global,
     shown: Shown<'_>,

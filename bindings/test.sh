@@ -92,7 +92,7 @@ in_rust() {
 
 if command -v python3 >/dev/null; then python3 "$here/tests/rows.py" "$made/rows"; fi
 step "the declarations of the header and the bindings" python3 -- python3 "$here/tests/declarations.py"
-for it in calls sessions; do
+for it in calls sessions constraints; do
     step "C, $it" gcc -- in_c $it
     step "C, $it, under valgrind" gcc valgrind -- "${memory[@]}" "$made/$it"
     step "C, $it, under the sanitizers" gcc -- in_c_sanitized $it

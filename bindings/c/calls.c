@@ -26,6 +26,8 @@ static int nothing(void) {
     uint64_t without_sign = 7;
     CHECK(tulvorn_interface() == TULVORN_INTERFACE);
     CHECK(tulvorn_type(&none, TEXT("Msg"), &other, &fault) == TULVORN_MISUSE && fault.code == TULVORN_MISUSE);
+    CHECK(tulvorn_type_levels(&none, TEXT("Msg"), 64, &other, &fault) == TULVORN_MISUSE);
+    CHECK(tulvorn_difference(&none, TEXT("Msg"), &other) == TULVORN_MISUSE);
     CHECK(tulvorn_share(&none, &other) == TULVORN_MISUSE);
     CHECK(tulvorn_check(&none, TULVORN_PER, into, 4, &fault) == TULVORN_MISUSE);
     CHECK(tulvorn_decode(&none, TULVORN_PER, into, 4, &other, &fault) == TULVORN_MISUSE);

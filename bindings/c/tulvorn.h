@@ -18,7 +18,8 @@
  *     its size. No call is made from a signal handler, or from the child that a program with threads has forked.
  *   - The processor is an x86-64 of level v2 or above, or a 64-bit ARM for a library that was built for it. A call has
  *     enough stack: 512 KiB for a library that LLVM compiled, 1 MiB for one that Rattle's own compiler did, and half
- *     for types of 32 levels (bindings/README.md).
+ *     for types of 32 levels (bindings/README.md), as tulvorn_type_levels finds. tulvorn_module and
+ *     tulvorn_explain_module of a text with constraints take up to 1 MiB and 3 MiB.
  * THREADS. Calls that take a handle as `const` write neither the handle nor its object: threads may pass one handle to
  * them at once, without a lock. Any other use of a handle is by one thread at a time. It may go to another thread, as
  * by a lock, or by starting or joining that thread. tulvorn_share is for threads that each close a handle of their own.
@@ -70,16 +71,17 @@ enum {
                                        the octets are more than these, whatever they are */
     TULVORN_TOO_SHORT = 7,          /* the caller's octets are fewer than those to be written */
     TULVORN_NOT_TEXT = 8,           /* a text is not UTF-8 */
-    TULVORN_NO_MODULE = 9,          /* the text is no module: `why` below, `at` an octet of it, from 0, or 0 */
+    TULVORN_NO_MODULE = 9,          /* the text is no module, or too large: `why` below, `at` an octet of it, from 0 */
     TULVORN_NO_NAME = 10,           /* the module has no type of that name */
-    TULVORN_NOT_OF_TYPE = 11,       /* the value is none of the type */
+    TULVORN_NOT_OF_TYPE = 11,       /* the value is none of the type, or breaks its constraint */
     TULVORN_NO_JSON = 12,           /* the text is no JSON in UTF-8, or has a number past what is read, as 1e400, half
                                        of a surrogate pair, or more than 127 levels */
     TULVORN_SHAPE = 13,             /* the JSON is not of the shape of the type, or an object has a key twice */
     TULVORN_NO_PATH = 14,           /* no value of the type has a part there, as with a misspelt name */
     TULVORN_OTHER_KIND = 15,        /* the part there is of another kind */
     /* of tulvorn_read_newer alone: */
-    TULVORN_NO_MESSAGE = 16,        /* no message of any version begins so, or more octets follow one */
+    TULVORN_NO_MESSAGE = 16,        /* no message of any version begins so, or more octets follow one, or the value breaks
+                                       a constraint of its spelling */
     TULVORN_CUT_MESSAGE = 17,       /* the octets end before a message of any version does */
     TULVORN_TOO_MANY_ADDITIONS = 18, /* a count of additions, the index or tag of an alternative, or the index of an
                                         item, past those of the profile */
@@ -90,7 +92,11 @@ enum {
     TULVORN_ABSENT = 21,            /* the value has no part there, and others of its type have: it is absent without a
                                        DEFAULT, another alternative is chosen, or the list has fewer elements */
     /* of tulvorn_check_within and tulvorn_decode_within alone: */
-    TULVORN_OVER_BUDGET = 22        /* the octets are the encoding of a value that takes more than the budget */
+    TULVORN_OVER_BUDGET = 22,       /* the octets are the encoding of a value that takes more than the budget */
+    /* of tulvorn_type and tulvorn_type_levels alone: */
+    TULVORN_LARGE_CONSTRAINT = 23,  /* the constraint of the type has more than 1,000,000 parts, or more than 256 names
+                                       that refer one to the next have one */
+    TULVORN_TOO_DEEP = 24           /* of tulvorn_type_levels: the type has more levels */
 };
 
 /* ---- why, where octets are TULVORN_REFUSED: what was being read */
@@ -103,7 +109,8 @@ enum {
                               what fills these up */
     TULVORN_CHARACTER = 5, /* a character of a string */
     TULVORN_PADDING = 6,   /* the zeros that fill an octet; of a BIT STRING in OER also how many there are */
-    TULVORN_NUMBER = 7     /* anything else */
+    TULVORN_NUMBER = 7,    /* anything else */
+    TULVORN_CONSTRAINT = 8 /* the last unit of the encoding of a value that breaks the constraint of its type */
 };
 
 /* ---- why, where a text is TULVORN_NO_MODULE */
@@ -114,7 +121,9 @@ enum {
     TULVORN_CYCLE = 4,          /* an assignment whose references lead back to itself */
     TULVORN_TWICE = 5,          /* a name that is assigned twice */
     TULVORN_BAD_TYPE = 6,       /* an assignment whose type is none of the profile */
-    TULVORN_OUT_OF_PROFILE = 7  /* a word, a number or a constraint that the profile does not have, at `at` */
+    TULVORN_OUT_OF_PROFILE = 7, /* a word, a number or a constraint that the profile does not have, at `at` */
+    TULVORN_TOO_LARGE = 8,      /* its types come to more than 10,000,000, references followed */
+    TULVORN_BAD_CONSTRAINT = 9  /* a line with `--:` that is no constraint of a type of the module */
 };
 
 /* What a call answered: the code that it returns, of REFUSED and NO_MODULE the reason `why`, and of some codes `at`;
@@ -130,23 +139,45 @@ typedef struct tulvorn_fault {
 
 /* ---- modules and types */
 
+/* A CONSTRAINT is a condition on the values of a type that no encoding shows, as a gap in a range. A text has it in a line
+   `--: NAME (constraint)` after the assignment of the name; to other readers of X.680 the line is a comment. A type
+   includes the constraints of the types that it refers to. Its messages are those whose value meets the constraint.
+   A value that breaks it is REFUSED at the last unit of its encoding, for the reason CONSTRAINT, and has no encoding:
+   NOT_OF_TYPE. tulvorn_explain and tulvorn_misfit return the part. A value keeps the constraint of its type. JSON shows
+   values of the type, whether they meet the constraint or not. */
+
 /* Reads the text of a module (X.680, in the notation of the profile), and puts the module into `module`. Its types are
    as the text says, and their encodings are those of the text. A module that `asn_tool flatten` wrote of published ones
-   can have types that differ from the published types: flatten's report names them, and `flatten --strict` leaves
+   can have types that differ from the published types: tulvorn_difference returns how, and `flatten --strict` leaves
    them out. Answers NOT_TEXT, NO_MODULE, NO_MEMORY. */
 uint32_t tulvorn_module(const uint8_t *text, size_t len, tulvorn_handle *module, tulvorn_fault *fault);
 
 /* Puts into `words`, as octets, why the text is no module, in some lines of text: the line and the column, what is
-   expected there, and the line itself with a mark. Control characters of the line are not replaced. No octets if the
-   text is a module. Answers NOT_TEXT, NO_MEMORY. */
+   expected there, and the line itself with a mark. Control characters of the line are not replaced. Of a bad line of a
+   constraint or difference its number and what is expected. No octets if the text is a module. Answers NOT_TEXT, NO_MEMORY. */
 uint32_t tulvorn_explain_module(const uint8_t *text, size_t len, tulvorn_handle *words);
 
-/* Puts the type that the module assigns to the name into `type`. It outlives the module, which is as it was.
-   Answers MISUSE where `module` holds no module, NOT_TEXT, NO_NAME, NO_MEMORY. */
+/* Puts the type that the module assigns to the name into `type`, with its constraint. It outlives the module, which is as
+   it was. Answers MISUSE where `module` holds no module, NOT_TEXT, NO_NAME, LARGE_CONSTRAINT,
+   NO_MEMORY. */
 uint32_t tulvorn_type(const tulvorn_handle *module, const uint8_t *name, size_t len, tulvorn_handle *type,
                       tulvorn_fault *fault);
 
-/* Puts another handle of the same type into `other`, for another thread, say. Both share one tree.
+/* As tulvorn_type, of a type of at most that many levels: what each call on it takes of the stack grows with them. A
+   simple type has one level, a SEQUENCE or CHOICE one more than the deepest type inside it, and a SEQUENCE OF two more than
+   its element; no type has more than 64. Answers as tulvorn_type, and TOO_DEEP. */
+uint32_t tulvorn_type_levels(const tulvorn_handle *module, const uint8_t *name, size_t len, uint32_t levels,
+                             tulvorn_handle *type, tulvorn_fault *fault);
+
+/* Puts into `words`, as octets, how the type that the module assigns to the name differs from the published type. Its
+   messages are then others than those of the published type: a caller that wants these alone refuses the type. It is what
+   a line `--! NAME WORDS` of the text says of the name, or of one that its type refers to. `asn_tool flatten` writes such a
+   line for each type that is not the same: its status, and the first reason, as `wider: a.b: a constraint is not looked
+   at`. No octets if the text has no such line. Answers MISUSE where `module` holds no module, NOT_TEXT, NO_NAME,
+   NO_MEMORY. */
+uint32_t tulvorn_difference(const tulvorn_handle *module, const uint8_t *name, size_t len, tulvorn_handle *words);
+
+/* Puts another handle of the same type into `other`, for another thread, say. Both share one tree and constraint.
    Answers MISUSE where `type` holds no type, NO_MEMORY. */
 uint32_t tulvorn_share(const tulvorn_handle *type, tulvorn_handle *other);
 
@@ -176,7 +207,8 @@ uint32_t tulvorn_check_within(const tulvorn_handle *type, uint32_t rules, const 
                               const tulvorn_budget *budget, tulvorn_fault *fault);
 
 /* As tulvorn_decode, of a value that takes no more than the budget. What it takes is counted first, so no value that
-   takes more is built. Answers as tulvorn_check_within does. */
+   takes more is built. Answers as tulvorn_check_within does. Both judge a constraint only if the octets are the encoding
+   of a value within the budget, and tulvorn_check_within builds the value to judge it. */
 uint32_t tulvorn_decode_within(const tulvorn_handle *type, uint32_t rules, const uint8_t *octets, size_t len,
                                const tulvorn_budget *budget, tulvorn_handle *value, tulvorn_fault *fault);
 
@@ -199,7 +231,8 @@ uint32_t tulvorn_convert(const tulvorn_handle *type, uint32_t rules, const uint8
                          tulvorn_handle *other, tulvorn_fault *fault);
 
 /* Puts into `words`, as octets, why the octets are no encoding of a value of the type, and in which component:
-   `refused at bit 6 in $.ok: default`. Places are counted in the unit of the rules. No octets if they are an encoding.
+   `refused at bit 6 in $.ok: default`. Of a value that breaks a constraint the part is that which breaks it, and the unit
+   the last of the encoding. Places are counted in the unit of the rules. No octets if they are an encoding.
    Answers NO_MEMORY. */
 uint32_t tulvorn_explain(const tulvorn_handle *type, uint32_t rules, const uint8_t *octets, size_t len,
                          tulvorn_handle *words);
@@ -223,7 +256,7 @@ uint32_t tulvorn_feed(tulvorn_handle *session, const uint8_t *piece, size_t len,
 
 /* Ends the session and frees it: `session` holds nothing then. DONE if the octets that it took are a whole encoding, as
    after DONE of tulvorn_feed. TRUNCATED if they are none: `at` is how many units were taken while an encoding could
-   still follow, also of a session that answered REFUSED or TOO_LONG.
+   still follow, also of a session that answered REFUSED or TOO_LONG. A constraint is judged by tulvorn_feed alone.
    DONE does not say that a value was returned: only DONE of tulvorn_feed says that. After NO_MEMORY of tulvorn_feed no
    value comes any more, since each further piece is answered SPENT. This call still answers DONE if the octets taken
    are a whole encoding: those up to the end of the value if only putting it into `value` failed, else those before
@@ -238,6 +271,8 @@ uint32_t tulvorn_finish(tulvorn_handle *session, tulvorn_fault *fault);
    not have. A value with an item or alternative that the type does not have has no encoding, and tulvorn_name answers
    OTHER_KIND there. Its JSON shows the number: of an item `"?2"`, by PER its index among the additions, from 0, by OER
    its number; of an alternative `{"?1":null}`, its index, root before additions, from 0.
+   Of a constraint what each version keeps is judged: no DEFAULT is written out, no group is empty, named bits and times
+   have no last zeros. A message that breaks it is NO_MESSAGE. tulvorn_misfit shows what else of it the value breaks.
    Answers NO_MESSAGE, CUT_MESSAGE, TOO_MANY_ADDITIONS, TOO_LONG, NO_MEMORY. */
 uint32_t tulvorn_read_newer(const tulvorn_handle *type, uint32_t rules, const uint8_t *octets, size_t len,
                             tulvorn_handle *value, tulvorn_handle *skipped, tulvorn_fault *fault);
@@ -266,7 +301,8 @@ uint32_t tulvorn_from_json(const tulvorn_handle *type, const uint8_t *json, size
 /* ---- where a value or JSON is none of a type */
 
 /* Puts into `words`, as octets, the first part of the value that does not fit the type, and why:
-   `$.coreData.speed: 9000 is not in 0..8191`. No octets if the value fits. It may be a value of another type, as of
+   `$.coreData.speed: 9000 is not in 0..8191`. If the value fits the type, the first part that breaks its constraint.
+   No octets if there is none. It may be a value of another type, as of
    another version of it, or one that tulvorn_read_newer returned.
    Answers MISUSE where `type` holds no type or `value` no value, NO_MEMORY. */
 uint32_t tulvorn_misfit(const tulvorn_handle *type, const tulvorn_handle *value, tulvorn_handle *words);

@@ -12,6 +12,7 @@ static const char *const MODULE = "M DEFINITIONS AUTOMATIC TAGS ::= BEGIN\n"
                                   "    key OCTET STRING OPTIONAL, bits BIT STRING OPTIONAL }\n"
                                   "Old ::= SEQUENCE { a BOOLEAN, ... }\n"
                                   "Wide ::= INTEGER\n"
+                                  "--! Wide narrower\n"
                                   "Low ::= SEQUENCE { id INTEGER (0..3), ok BOOLEAN DEFAULT TRUE,\n"
                                   "    note IA5String (SIZE (0..3)) OPTIONAL,\n"
                                   "    colour ENUMERATED { red, green } OPTIONAL,\n"
@@ -93,6 +94,10 @@ int main() {
     Module module(MODULE);
     Type type = module.type("Msg");
     CHECK(code_of([&] { module.type("Other"); }) == TULVORN_NO_NAME);
+    CHECK(code_of([&] { module.type("Msg", 1); }) == TULVORN_TOO_DEEP);
+    CHECK(module.type("Msg", 2).from_json(R"({"id":5})").integer("id") == 5);
+    CHECK(module.difference("Msg").empty() && module.difference("Wide") == "narrower");
+    CHECK(code_of([&] { module.difference("Other"); }) == TULVORN_NO_NAME);
     CHECK(code_of([&] { Module wrong("M"); }) == TULVORN_NO_MODULE);
     CHECK(Module::explain("M").find("line 1, column 2: ") == 0);
     Value value = type.from_json(R"({"id":5,"note":"A","colour":"green","key":"00ff","bits":"10"})");

@@ -391,6 +391,21 @@ class Module {
         detail::look(code, fault);
         return type;
     }
+    // How the type of the name differs from the published type, as the text says; empty where it says nothing.
+    std::string difference(std::string_view name) const {
+        detail::Handle words;
+        detail::look(tulvorn_difference(held_.get(), detail::octets_of(name), name.size(), words.fill()));
+        return detail::text_of(words);
+    }
+    // The type, if it has at most so many levels.
+    Type type(std::string_view name, std::uint32_t levels) const {
+        Type type;
+        tulvorn_fault fault;
+        auto octets = detail::octets_of(name);
+        auto code = tulvorn_type_levels(held_.get(), octets, name.size(), levels, type.held_.fill(), &fault);
+        detail::look(code, fault);
+        return type;
+    }
 
   private:
     detail::Handle held_;

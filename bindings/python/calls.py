@@ -229,7 +229,9 @@ def faults(spec):
     assert raised(tulvorn.EncodeError, lambda: spec.encode("Msg", {"id": 9})).code == tulvorn.NOT_OF_TYPE
     assert raised(tulvorn.EncodeError, lambda: spec.encode("Msg", {})).code == tulvorn.SHAPE
     assert raised(tulvorn.ModuleError, lambda: tulvorn.compile_string("M")).at == 1
-    assert raised(KeyError, lambda: spec.type("Other"))
+    assert raised(KeyError, lambda: spec.type("Other")) and raised(KeyError, lambda: spec.type("Other", 64))
+    assert raised(tulvorn.ModuleError, lambda: spec.type("Msg", 1)).code == tulvorn.TOO_DEEP
+    assert spec.type("Msg", 2) is spec.type("Msg")
     for rules in ("ber", "PER", 2, True, False):
         assert raised(ValueError, lambda: spec.encode("Msg", {"id": 1}, rules))
         assert raised(ValueError, lambda: spec.type("Msg").decode(b"\x28", rules))
@@ -249,6 +251,19 @@ def no_modules():
         fault = raised(tulvorn.ModuleError, lambda: tulvorn.compile_string(head + text))
         assert (fault.code, fault.why) == (tulvorn.NO_MODULE, why) and str(fault).startswith("line 2, column "), text
         assert fault.at == (0 if at is None else len(head) + at), text
+
+
+def too_large():
+    """A text whose types come to more than 10,000,000, references followed, is refused with a name and both numbers."""
+    names = ", ".join(f"{chr(98 + i) * 999} NULL" for i in range(10))
+    uses = ", ".join(f"b{i} B" for i in range(60))
+    grown = "\n".join(f"Grown{i} ::= SEQUENCE {{ c C }}" for i in range(20))
+    types = f"B ::= SEQUENCE {{ {names} }}\nC ::= SEQUENCE {{ {uses} }}\n{grown}"
+    text = f"M DEFINITIONS AUTOMATIC TAGS ::= BEGIN\n{types}\nEND\n"
+    fault = raised(tulvorn.ModuleError, lambda: tulvorn.compile_string(text))
+    assert (fault.code, fault.why, fault.at) == (tulvorn.NO_MODULE, "too large", 0)
+    words = str(fault).partition("\n")[0]
+    assert "Grown" in words and words.endswith(", more than 10000000, references followed"), words
 
 
 def files():
@@ -317,6 +332,65 @@ def budgets(spec):
     assert raised(tulvorn.DecodeError, lambda: msg.check_within(octets[:3], 4, 1, "oer")).code == tulvorn.TRUNCATED
 
 
+CONSTRAINED = """M DEFINITIONS AUTOMATIC TAGS ::= BEGIN
+P ::= SEQUENCE { n BIT STRING (SIZE (8)) OPTIONAL, b BOOLEAN }
+--: P (WITH COMPONENTS {..., n (ALL EXCEPT '10000000'B)})
+G ::= SEQUENCE { a BOOLEAN, ..., g SEQUENCE { b INTEGER (0..255) OPTIONAL, c BOOLEAN OPTIONAL } OPTIONAL }
+--: G (WITH COMPONENTS {..., g (CONSTRAINED BY {some component} ^ WITH COMPONENTS {..., c (ALL EXCEPT FALSE)})})
+S ::= INTEGER (2..8)
+--: S (2..4 | 6..8)
+L ::= SEQUENCE OF S
+END"""
+
+# a message whose value breaks the constraint: its last unit, the part, and the value in the kinds of Python
+BROKEN = (
+    ("P", "per", "c040", 16, "$.n: default written out", {"n": (b"\x80", 8), "b": True}),
+    ("P", "oer", "8080ff", 3, "$.n: default written out", {"n": (b"\x80", 8), "b": True}),
+    ("G", "per", "c0404000", 32, "$.g: a group without components", {"a": True, "g": {}}),
+    ("G", "oer", "80ff020780024000", 8, "$.g.c: default written out", {"a": True, "g": {"c": False}}),
+    ("S", "oer", "05", 1, "$: a number in a gap of the range", 5),
+    ("L", "per", "020c", 16, "$[1]: a number in a gap of the range", [2, 5]),
+)
+
+
+def constraints():
+    """A value that breaks the constraint of its type is refused at its last unit, and is not encoded."""
+    spec = tulvorn.compile_string(CONSTRAINED)
+    for name, rules, octets, at, words, given in BROKEN:
+        kind, octets, unit = spec.type(name), bytes.fromhex(octets), "bit" if rules == "per" else "octet"
+        part, reason = words.split(": ")
+        within = lambda it, by: kind.check_within(it, 100, 100, by)  # noqa: E731
+        decode_within = lambda it, by: kind.decode_within(it, 100, 100, by)  # noqa: E731
+        for call in kind.check, kind.decode, kind.convert, within, decode_within:
+            fault = raised(tulvorn.DecodeError, lambda: call(octets, rules))
+            assert (fault.code, fault.why, fault.at) == (tulvorn.REFUSED, "constraint", at)
+            assert str(fault) == f"refused at {unit} {at}: constraint"
+        assert kind.explain(octets, rules) == f"refused at {unit} {at} in {part}: {reason}"
+        for size in 1, 2, len(octets):
+            session, taken = kind.open(rules), 0
+            while taken + size < len(octets):
+                assert session.feed(octets[taken : taken + size]) is None
+                taken += size
+            for piece in octets[taken:] + b"\0", b"", octets:
+                assert raised(tulvorn.DecodeError, lambda: session.feed(piece)).at == at
+            assert raised(tulvorn.DecodeError, session.finish).at == at - 1
+        value = kind.of(given)
+        assert kind.misfit(value) == words and kind.share().misfit(value) == words
+        for call in value.encode, value.encoded_len:
+            assert raised(tulvorn.EncodeError, lambda: call(rules)).code == tulvorn.NOT_OF_TYPE
+        if "written out" in words or "group" in words:
+            assert raised(tulvorn.DecodeError, lambda: kind.read_newer(octets, rules)).code == tulvorn.NO_MESSAGE
+        else:
+            assert kind.misfit(kind.read_newer(octets, rules)[0]) == words
+    assert spec.type("L").misfit(spec.type("L").of([2, 4])) is None
+    assert spec.difference("L") is None and raised(KeyError, lambda: spec.difference("T"))
+    spec = tulvorn.compile_string(CONSTRAINED.replace("END", "--! S wider: $.a\nEND"))
+    assert spec.difference("S") == spec.difference("L") == "wider: $.a" and spec.difference("P") is None
+    for line in "--: S (2..", "--: T (2..3)", "--: S (SIZE (3))", "--! S", "--! T wider", "--! S a --":
+        fault = raised(tulvorn.ModuleError, lambda: tulvorn.compile_string(CONSTRAINED.replace("--: S (2..4 | 6..8)", line)))
+        assert (fault.code, fault.why) == (tulvorn.NO_MODULE, "bad constraint") and str(fault).startswith("line 7: ")
+
+
 def threads(spec):
     """Four threads use one type and one value together."""
     value, wrong = spec.type("Msg").of({"id": 3}), []
@@ -340,6 +414,7 @@ if __name__ == "__main__":
     wide_integers(spec)
     faults(spec)
     no_modules()
+    too_large()
     files()
     octets_given(spec)
     values_given(spec)
@@ -350,5 +425,6 @@ if __name__ == "__main__":
     misfits(spec)
     versions(spec)
     budgets(spec)
+    constraints()
     threads(spec)
     print(f"Python: passed, with {examples()} messages of the examples; version {tulvorn.version()}")

@@ -48,8 +48,8 @@ RULES = {"per": PER, "uper": PER, "oer": OER, PER: PER, OER: OER}
 (
     DONE, NO_MEMORY, MISUSE, REFUSED, TRUNCATED, REST, TOO_LONG, TOO_SHORT, NOT_TEXT, NO_MODULE, NO_NAME, NOT_OF_TYPE,
     NO_JSON, SHAPE, NO_PATH, OTHER_KIND, NO_MESSAGE, CUT_MESSAGE, TOO_MANY_ADDITIONS, MORE, SPENT,
-    ABSENT, OVER_BUDGET,
-) = range(23)
+    ABSENT, OVER_BUDGET, LARGE_CONSTRAINT, TOO_DEEP,
+) = range(25)
 
 # the kinds of types, of which `Value.kind` gives one
 (
@@ -57,8 +57,11 @@ RULES = {"per": PER, "uper": PER, "oer": OER, PER: PER, OER: OER}
 ) = range(1, 11)
 
 # the reasons, by their numbers: of octets that are refused, and of a text that is no module
-WHY = ("", "sealed", "default", "length", "extension", "character", "padding", "number")
-WHY_NO_MODULE = ("", "bad character", "unexpected", "unknown", "cycle", "twice", "bad type", "out of profile")
+WHY = ("", "sealed", "default", "length", "extension", "character", "padding", "number", "constraint")
+WHY_NO_MODULE = (
+    "", "bad character", "unexpected", "unknown", "cycle", "twice", "bad type", "out of profile", "too large",
+    "bad constraint",
+)
 REASONS = {REFUSED: WHY, NO_MODULE: WHY_NO_MODULE}
 
 
@@ -80,6 +83,8 @@ FUNCTIONS = {
     "tulvorn_module": "oshf:u",
     "tulvorn_explain_module": "osh:u",
     "tulvorn_type": "hoshf:u",
+    "tulvorn_type_levels": "hosuhf:u",
+    "tulvorn_difference": "hosh:u",
     "tulvorn_share": "hh:u",
     "tulvorn_check": "huosf:u",
     "tulvorn_decode": "huoshf:u",
@@ -160,8 +165,8 @@ class TulvornError(Exception):
 
 
 class ModuleError(TulvornError):
-    """A text is no module. Where `why` is `bad character`, `unexpected` or `out of profile`, `at` is the place in its
-    octets, from 0; else it is 0. The words have the line, with a mark."""
+    """A text is no module, or a larger one than is read (`too large`). Where `why` is `bad character`, `unexpected` or
+    `out of profile`, `at` is the place in its octets, from 0; else it is 0. The words have the line, with a mark."""
 
 
 class DecodeError(TulvornError):
@@ -625,17 +630,31 @@ class Specification(_Held):
             raise ModuleError(_explained(octets), fault)
         _look(ModuleError, code, fault)
 
-    def type(self, name):
+    def type(self, name, levels=None):
         """The Type that the module assigns to the name, one object however often it is asked for. Raises KeyError where
-        it assigns none."""
-        if name not in self._types:
+        it assigns none, and ModuleError, with the code TOO_DEEP, if it has more than `levels` levels."""
+        if name not in self._types or levels is not None:
             made, fault, octets = Type(), Fault(), _text(name)
-            code = _library.tulvorn_type(self.handle, octets, len(octets), made.handle, fault)
+            if levels is None:
+                code = _library.tulvorn_type(self.handle, octets, len(octets), made.handle, fault)
+            else:
+                code = _library.tulvorn_type_levels(self.handle, octets, len(octets), levels, made.handle, fault)
             if code == NO_NAME:
                 raise KeyError(name)
             _look(ModuleError, code, fault)
-            self._types[name] = made
+            self._types.setdefault(name, made)
         return self._types[name]
+
+    def difference(self, name):
+        """How the type that the module assigns to the name differs from the published type, as the text says: a str as
+        `wider: a constraint is not looked at`; None where the text says nothing. Raises KeyError where the module assigns
+        no type."""
+        words, octets = _Held(), _text(name)
+        code = _library.tulvorn_difference(self.handle, octets, len(octets), words.handle)
+        if code == NO_NAME:
+            raise KeyError(name)
+        _look(ModuleError, code, Fault(code))
+        return words.copied().decode() or None
 
     def encode(self, name, value, rules=None):
         """The encoding, as bytes, of the value of the named type that is given by the kinds of Python. Raises KeyError

@@ -94,7 +94,9 @@ def numbers():
     coded = {name: str(at) for at, name in enumerate(re.findall(r"[A-Z_]+", named))}
     kinds = re.search(r"\(\s*(BOOLEAN,.*?)\) = range", python, re.S)[1]
     kinded = {name: str(at + 1) for at, name in enumerate(re.findall(r"[A-Z_]+", kinds))}
-    wrong = [name for name, number in source.items() if header.get(name) != number or coded.get(name) != number]
+    reasons = {name: source.pop(name) for name in list(source) if name.startswith("WHY_")}
+    wrong = [name for name, number in reasons.items() if header.get(name.removeprefix("WHY_")) != number]
+    wrong += [name for name, number in source.items() if header.get(name) != number or coded.get(name) != number]
     wrong += [name for name in coded if source.get(name) != coded[name]]
     return wrong + [name for name, number in kinded.items() if header.get(name) != number]
 

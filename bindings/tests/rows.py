@@ -1,4 +1,5 @@
-"""Writes the examples and the rows of tests/programs/rows in a form that a caller of each language reads easily.
+"""Writes the examples, the rows of tests/programs/rows and those of constraints.rows in a form that a caller of each
+language reads easily.
 
 usage: python3 bindings/tests/rows.py FILE              writes the rows
        python3 bindings/tests/rows.py --corpus FOLDER   writes inputs for bindings/fuzz.sh, and FOLDER/rows of the types
@@ -23,7 +24,8 @@ import re
 import sys
 
 TOP = os.path.dirname(os.path.dirname(os.path.dirname(os.path.abspath(__file__))))
-WHY = ("", "sealed", "default", "length", "extension", "character", "padding", "number")
+WHY = ("", "sealed", "default", "length", "extension", "character", "padding", "number", "constraint")
+ROWS = ("tests/programs/rows/stdin", "bindings/tests/constraints.rows")
 DONE, REFUSED, TRUNCATED, REST, NO_MESSAGE, CUT_MESSAGE, TOO_MANY = 0, 3, 4, 5, 16, 17, 18
 # rows longer than MOST are left out, and the inputs of the fuzzer have no row longer than SHORT
 MOST, SHORT = 400000, 3000
@@ -114,9 +116,9 @@ def of_row(row):
     return []
 
 
-def rows():
-    """The rows of tests/programs/rows, by the text of their module and the name of their type."""
-    given, _, lines = text_of("tests/programs/rows/stdin").partition("====\n")
+def rows_of(name):
+    """The rows of a file, by the text of their module and the name of their type."""
+    given, _, lines = text_of(name).partition("====\n")
     names = set(re.findall(r"^(\w+) +::=", given, re.M))
     found = {}
     for row in lines.splitlines():
@@ -127,6 +129,10 @@ def rows():
         key = (given, of_type) if of_type in names else (alone, "Row")
         found.setdefault(key, []).extend(it for it in of_row(row) if len(it) < MOST)
     return sorted(found.items(), key=lambda it: it[0][0] != given)
+
+
+def rows():
+    return [it for name in ROWS for it in rows_of(name)]
 
 
 def examples():

@@ -19,8 +19,8 @@ def examples(test):
 
 
 def assignments(module):
-    """The lines of a module that flatten wrote, without its first, its last and those of constraints."""
-    return [it for it in module[1:-1] if not it.startswith("--:")]
+    """The lines of a module that flatten wrote, without its first, its last and those of types."""
+    return [it for it in module[1:-1] if not it.startswith("--")]
 
 
 def one_type(test):

@@ -168,7 +168,7 @@ def made(chance, count):
 def flattened(ran):
     """The types that `flatten` wrote by their names, and the constraints."""
     lines = ran.out.decode().splitlines()[1:-1]
-    types = dict(it.split(" ::= ", 1) for it in lines if not it.startswith("--: "))
+    types = dict(it.split(" ::= ", 1) for it in lines if not it.startswith("--"))
     return types, dict(it[4:].split(" ", 1) for it in lines if it.startswith("--: "))
 
 

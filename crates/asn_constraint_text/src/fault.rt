@@ -40,7 +40,7 @@ pub enum ConstrainedFault {
 /// Why the constraint of a name is not put together.
 #[derive(Clone, Copy, Debug, PartialEq, Eq, Error)]
 pub enum WholeFault {
-    /// It has more parts than `MOST_PARTS`.
+    /// It has more parts than `MOST_PARTS`, or more than `MOST_LEVELS` names that refer one to the next have one.
     #[error("constraint too large")]
     TooLarge,
     /// An allocation failed.

@@ -1,4 +1,4 @@
-//! The lines of a module's text that have the constraints of its names.
+//! The lines of a module's text that have the constraints of its names, and how these differ from published types.
 ghost use Rattle.std.specs.Prelude.{◌<◌, length, IfSome};
 
 use crate::cursor::Cursor;
@@ -8,7 +8,10 @@ use std::collections::HashMap;
 use std::fmt::Write;
 
 /// What the line of a constraint begins with: to other readers of X.680 it is a comment.
-const MARK: &str = "--:";
+pub(crate) const CONSTRAINT: &str = "--:";
+
+/// What the line of a difference begins with, which is a comment too.
+pub(crate) const DIFFERENCE: &str = "--!";
 
 /// The text of a module with a line for each constraint: `--:`, a name, and what `constraint_text` writes for its type.
 /// It comes behind the line in which the assignment of the name begins, or at the end of the text where no line begins
@@ -21,20 +24,43 @@ pub fn with_constraints(
     text: &str,
     constraints: &[(&str, &str)],
 ) -> Result<String, AllocError> {
+    with_lines(alloc, text, CONSTRAINT, constraints)
+}
+
+/// The text of a module with a line for each type that differs from the published one: `--!`, its name, and how it differs,
+/// which is on one line and has no two hyphens next to one another. It comes where the line of a constraint does.
+///
+/// # Errors
+/// `AllocError` where an allocation failed.
+pub fn with_differences(
+    alloc: Global,
+    text: &str,
+    differences: &[(&str, &str)],
+) -> Result<String, AllocError> {
+    with_lines(alloc, text, DIFFERENCE, differences)
+}
+
+/// The text of a module with a line for each of these names, which begins with the mark.
+fn with_lines(
+    alloc: Global,
+    text: &str,
+    mark: &str,
+    lines: &[(&str, &str)],
+) -> Result<String, AllocError> {
     let mut left = HashMap::new(alloc);
-    for (name, constraint) in constraints {
-        left.insert(*name, *constraint)?;
+    for (name, words) in lines {
+        left.insert(*name, *words)?;
     }
     let mut out = String::new(alloc);
     for line in text.lines() {
         out.push_str(line)?;
         out.push_str("\n")?;
         if let Some((name, _)) = line.split_once("::=") {
-            put_line(&mut out, &mut left, name.trim())?;
+            put_line(&mut out, &mut left, mark, name.trim())?;
         }
     }
-    for (name, _) in constraints {
-        put_line(&mut out, &mut left, *name)?;
+    for (name, _) in lines {
+        put_line(&mut out, &mut left, mark, *name)?;
     }
     Ok(out)
 }
@@ -43,29 +69,33 @@ pub fn with_constraints(
 fn put_line(
     out: &mut String,
     left: &mut HashMap<&str, &str>,
+    mark: &str,
     name: &str,
 ) -> Result<(), AllocError> {
     match left.remove(name) {
-        Some(constraint) => writeln!(out, "{MARK} {name} {constraint}"),
+        Some(words) => writeln!(out, "{mark} {name} {words}"),
         None => Ok(()),
     }
 }
 
-/// Whether a line of the text begins with `--:`.
-pub(crate) fn has_constraints(text: &str) -> bool {
-    text.lines().any(|line| line.starts_with(MARK))
+/// Whether a line of the text begins with `--:` or `--!`.
+pub(crate) fn has_marks(text: &str) -> bool {
+    text.lines().any(|line| line.starts_with(CONSTRAINT) || line.starts_with(DIFFERENCE))
 }
 
-/// The line of a constraint after `--:`; None of another line.
+/// A line that begins with the mark, after that; None of another line.
 ///
 /// # Errors
 /// `Expected` where the comment ends before the line.
-pub(crate) fn constraint_line(line: &str) -> Result<Option<Cursor<'_>>, ConstraintTextFault> {
-    if !line.starts_with(MARK) {
+pub(crate) fn marked_line<'t>(
+    line: &'t str,
+    mark: &str,
+) -> Result<Option<Cursor<'t>>, ConstraintTextFault> {
+    if !line.starts_with(mark) {
         return Ok(None);
     }
     let mut cursor = Cursor::new(line);
-    cursor.skip(MARK.len());
+    cursor.skip(mark.len());
     match comment_len(cursor.rest()) {
         None => Ok(Some(cursor)),
         Some(len) => {

@@ -1,4 +1,4 @@
-//! Modules whose texts have constraints of their names.
+//! Modules whose texts have constraints of their names, and say how these differ from published types.
 ghost use Rattle.std.specs.Prelude.{◌≡◌, IfOk, IfErr, is_some};
 ghost use Rattle.asn_module.specs.Accepted.{Accepted, type_in};
 ghost use Rattle.asn_module.specs.ModuleView.{types_view};
@@ -6,8 +6,9 @@ ghost use Rattle.asn_module.specs.declared.fault.ModuleFault.{ModuleFault};
 ghost use Rattle.asn_constraint_text.specs.Refused.{SaysOfText};
 
 use crate::cursor::Cursor;
+use crate::differences::{difference_after, difference_at};
 use crate::fault::{ConstrainedFault, ConstraintTextFault, WholeFault};
-use crate::lines::{constraint_line, has_constraints};
+use crate::lines::{CONSTRAINT, DIFFERENCE, has_marks, marked_line};
 use crate::reading::constraint_after;
 use crate::references::{Named, indices_of, names_of};
 use crate::whole::whole_named;
@@ -15,27 +16,29 @@ use asn_constraints::Constraint;
 use asn_module::{Module, read};
 use asn_notation::read_notation;
 use asn_values::profile::MAX_LEVELS;
-use std::alloc::Global;
+use std::alloc::{AllocError, Global};
 use std::collections::HashMap;
 
 /// What is expected where a line has no name, or one of another line.
 const NAME: &str = "a name of the module, once";
 
-/// A module, and the constraints of its names that its text has.
+/// A module, and what its text has of its names: constraints, and how they differ from published types.
 #[derive(Debug, Drop)]
 pub struct ConstrainedModule {
     pub module: Module,
-    /// The names in the order of the text, and the index of each; nothing where no name has a constraint.
+    /// The names in the order of the text, and the index of each; nothing where the text has no such lines.
     pub(crate) names: Vec<Named>,
     pub(crate) indices: HashMap<String, usize>,
 }
 
 /// The module that a text is, with the constraints of its names: each on a line of its own, which begins with `--:` and
-/// has the name and the constraint as `constraint_text` writes it.
+/// has the name and the constraint as `constraint_text` writes it. A line that begins with `--!` has a name, and how its
+/// type differs from the published one.
 ///
 /// # Errors
 /// `Module` with what `asn_module::read` reports. Else `Line` at the first line with `--:` that is none of a name and a
-/// constraint of its type, or has a name a second time. `Memory` where an allocation failed.
+/// constraint of its type, or with `--!` that is none of a name and some words, or has a name a second time. `Memory` where
+/// an allocation failed.
 #[tactic(auto, using(crate::proofs::LineFaults::of_lines))]
 pub fn read_constrained(alloc: Global, text: &str) -> Result<ConstrainedModule, ConstrainedFault>
     // What is read is the module that the text is.
@@ -62,7 +65,7 @@ impl ConstrainedModule {
         ensures same { IfOk result (λ m. m.module ≡ «module») }
         ensures refused { IfErr result (λ e. (f : ModuleFault) → e ≡ ConstrainedFault.Module f → ⊥) }
     {
-        if !has_constraints(text) {
+        if !has_marks(text) {
             return Ok(ConstrainedModule {
                 module,
                 names: Vec::new(alloc),
@@ -87,7 +90,8 @@ impl ConstrainedModule {
     /// where it meets no constraint on the way.
     ///
     /// # Errors
-    /// `TooLarge` where it has more than `MOST_PARTS`; `Memory` where an allocation failed.
+    /// `TooLarge` where it has more than `MOST_PARTS`, or more than `MOST_LEVELS` names that refer one to the next have
+    /// one; `Memory` where an allocation failed.
     pub fn constraint_named(
         &self,
         alloc: Global,
@@ -103,6 +107,18 @@ impl ConstrainedModule {
         };
         let constraint = whole_named(alloc, ty.get(), *index, &self.names)?;
         Ok(Some(constraint))
+    }
+
+    /// How the type of a name differs from the published one, so that other octets are accepted: what the text says on a
+    /// line of the name, or of one that its type refers to. None where there is no such line.
+    ///
+    /// # Errors
+    /// `AllocError` where an allocation failed.
+    pub fn difference_named(&self, alloc: Global, name: &str) -> Result<Option<&str>, AllocError> {
+        match self.indices.get(name) {
+            Some(index) => difference_at(alloc, &self.names, *index),
+            None => Ok(None),
+        }
     }
 
     /// The constraint that the text has for a name; None where it has none. Takes no memory.
@@ -137,7 +153,7 @@ fn read_lines(
     Ok(())
 }
 
-/// Reads a line, and keeps its constraint if it has one.
+/// Reads a line, and keeps what it has of a name.
 fn read_line(
     alloc: Global,
     module: &Module,
@@ -145,10 +161,24 @@ fn read_line(
     names: &mut Vec<Named>,
     line: &str,
 ) -> Result<(), ConstraintTextFault> {
-    let Some(mut cursor) = constraint_line(line)? else {
-        return Ok(());
-    };
-    let Some(name) = name_at(&mut cursor) else {
+    if let Some(mut cursor) = marked_line(line, CONSTRAINT)? {
+        return read_constraint(alloc, module, indices, names, &mut cursor);
+    }
+    if let Some(mut cursor) = marked_line(line, DIFFERENCE)? {
+        return read_difference(alloc, indices, names, &mut cursor);
+    }
+    Ok(())
+}
+
+/// Reads the constraint of a name, and keeps it.
+fn read_constraint(
+    alloc: Global,
+    module: &Module,
+    indices: &HashMap<String, usize>,
+    names: &mut Vec<Named>,
+    cursor: &mut Cursor<'_>,
+) -> Result<(), ConstraintTextFault> {
+    let Some(name) = name_at(cursor) else {
         return Err(cursor.fault(NAME));
     };
     let Some(index) = indices.get(name) else {
@@ -161,9 +191,33 @@ fn read_line(
         return Err(cursor.fault(NAME));
     }
     let _ = cursor.take_word();
-    let own = constraint_after(alloc, ty.get(), &mut cursor)?;
+    let own = constraint_after(alloc, ty.get(), cursor)?;
     keep(names, *index, own);
     Ok(())
+}
+
+/// Reads how the type of a name differs, and keeps it.
+fn read_difference(
+    alloc: Global,
+    indices: &HashMap<String, usize>,
+    names: &mut Vec<Named>,
+    cursor: &mut Cursor<'_>,
+) -> Result<(), ConstraintTextFault> {
+    let Some(name) = name_at(cursor) else {
+        return Err(cursor.fault(NAME));
+    };
+    let named = match indices.get(name) {
+        Some(index) => names.get_mut(*index),
+        None => None,
+    };
+    match named {
+        Some(named) if named.difference.is_none() => {
+            let _ = cursor.take_word();
+            named.difference = Some(difference_after(alloc, cursor)?);
+            Ok(())
+        }
+        _ => Err(cursor.fault(NAME)),
+    }
 }
 
 /// Whether there is a constraint for the name at an index.

@@ -24,11 +24,13 @@ impl References {
     }
 }
 
-/// A name of a module: what its type refers to, and the constraint of its line, if it has one.
+/// A name of a module: what its type refers to, the constraint of its line, and how it differs from the published type, if
+/// it has such lines.
 #[derive(Debug, Drop)]
 pub(crate) struct Named {
     pub references: References,
     pub own: Option<Constraint>,
+    pub difference: Option<String>,
 }
 
 /// The index of each name.
@@ -55,6 +57,7 @@ pub(crate) fn names_of(
         names.push(Named {
             references,
             own: None,
+            difference: None,
         })?;
     }
     Ok(names)

@@ -2,6 +2,7 @@
 
 use crate::copying::{copy, take};
 use crate::fault::WholeFault;
+use crate::reading::MOST_LEVELS;
 use crate::references::{Named, References};
 use asn_constraints::{Component, Constraint, Presence};
 use asn_values::internal::additions;
@@ -54,6 +55,10 @@ fn last_name(names: &[Named], first: usize) -> usize {
 }
 
 /// The constraints that the text has for the names on the way from one to the next; free of what is no name.
+///
+/// # Errors
+/// `TooLarge` where they are more than `MOST_LEVELS`, or have more parts than are left; `Memory` where an allocation
+/// failed.
 fn along(
     alloc: Global,
     references: &References,
@@ -62,11 +67,17 @@ fn along(
 ) -> Result<Constraint, WholeFault> {
     let mut met = Constraint::Free;
     let mut next = name_in(references);
+    // (each lies a level deeper, and whoever walks over a constraint takes stack for each level)
+    let mut levels = MOST_LEVELS as usize;
     for _ in names {
         let Some(index) = next else {
             break;
         };
-        met = both(alloc, met, own_of(alloc, names, index, room)?)?;
+        let own = own_of(alloc, names, index, room)?;
+        if !is_free(&own) {
+            take(&mut levels, 1)?;
+        }
+        met = both(alloc, met, own)?;
         next = next_name(names, index);
     }
     Ok(met)
@@ -99,7 +110,8 @@ fn shape_in<'a>(references: &'a References, names: &'a [Named]) -> &'a Reference
 /// The whole constraint of a type that is the one of a name.
 ///
 /// # Errors
-/// `TooLarge` where it has more than `MOST_PARTS`; `Memory` where an allocation failed.
+/// `TooLarge` where it has more than `MOST_PARTS`, or more than `MOST_LEVELS` names that refer one to the next have one;
+/// `Memory` where an allocation failed.
 pub(crate) fn whole_named(
     alloc: Global,
     ty: &AsnType,

@@ -1,11 +1,14 @@
 -- The text of a job, and what of it is written before a fault.
-use Rattle.std.specs.Prelude.{◌≡◌, ◌⊎◌, ◌&&◌, ℕ, Bool, true, false, List, [], ◌∷◌, ◌++◌, codes, string_bytes, Option, Some, None, IfSome, IsUtf8, ⊤}
+use Rattle.std.specs.Prelude.{◌≡◌, ◌<◌, ◌⊎◌, ◌&&◌, ℕ, Bool, true, false, List, [], ◌∷◌, ◌++◌, codes, string_bytes, Option, Some, None, IfSome, IsUtf8, ⊤}
 use Rattle.std.specs.List.{AllByRecursion}
 use Rattle.std.specs.Io.KnownBytes.{Appends, Keeps}
 use Rattle.asn_values.specs.Shape.{Shape}
 use Rattle.asn_rules.specs.Faults.{Rose, State}
 use Rattle.asn_module.specs.Accepted.{ModuleTypes, Accepted, type_in}
+use Rattle.asn_module.specs.Sizes.{most_size, types_size}
 use Rattle.asn_module.specs.Printing.{printed}
+use Rattle.asn_module.specs.declared.fault.ModuleFault.{ModuleFault}
+use Rattle.asn_module.specs.declared.fault.ModuleFault.TheVariants as module_fault
 use Rattle.asn_convert.specs.Answers.{Rulings, Terms, Answers}
 use Rattle.asn_jobs.specs.Lines.{IsOneLine, module_text, job_lines}
 use Rattle.asn_jobs.specs.declared.job.Order.{Order}
@@ -74,10 +77,24 @@ TellsNoModule words = (rest : List ℕ) × (words ≡ codes "! module " ++ rest)
 abbrev pub not_text : List ℕ
 not_text = codes "! module not text"
 
--- the line for a text that is no module
+-- it is no module, or one that is larger than is read
+abbrev pub IsPastMost : List ℕ → Type 0
+IsPastMost text = (m : ModuleTypes) → IsModule text m → most_size < types_size m.types
+
+-- that is what the fault says
+abbrev pub is_past_most : ModuleFault → Bool
+is_past_most (module_fault.TooLarge most size name) = true
+is_past_most _ = false
+
+-- the line for such a text
+abbrev pub TellsPastMost : List ℕ → Type 0
+TellsPastMost words = (rest : List ℕ) × (words ≡ codes "! module too large: " ++ rest) × IsOneLine rest
+
+-- the line for a text that is no module, or too large
 abbrev pub RefusesModule : List ℕ → List ℕ → Type 0
 RefusesModule text words =
-    IsNoModule text × (((IsUtf8 text → ⊥) × (words ≡ not_text)) ⊎ (IsUtf8 text × TellsNoModule words))
+    (IsNoModule text × (((IsUtf8 text → ⊥) × (words ≡ not_text)) ⊎ (IsUtf8 text × TellsNoModule words)))
+    ⊎ (IsUtf8 text × IsPastMost text × TellsPastMost words)
 
 -- such a line with its LF
 abbrev pub IsRefusal : List ℕ → List ℕ → Type 0

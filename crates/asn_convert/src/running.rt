@@ -4,7 +4,7 @@ ghost use Rattle.asn_module.specs.ModuleView.{types_view};
 ghost use Rattle.asn_module.specs.declared.fault.ModuleFault.{ModuleFault};
 ghost use Rattle.asn_convert.specs.Parts.{Wrote, Broke, JobTold, JobBegun, ModuleTold, ModuleBegun, LinesTold, LinesBegun, LineTold, LineBegun, RanBy, FailedBy};
 ghost use Rattle.asn_jobs.specs.Lines.{IsOneLine};
-ghost use Rattle.asn_convert.specs.Text.{IsModule, IsRefusal};
+ghost use Rattle.asn_convert.specs.Text.{IsModule, IsRefusal, is_past_most};
 
 use crate::answers::answer_to;
 use crate::laws::lines_have_answers;
@@ -77,7 +77,7 @@ fn answer_input<A: ReadNewer + PlanRules, B: Rules, W: Write>(
     }
 }
 
-/// The module of the text, or the line that refuses it.
+/// The module of the text, or the line that refuses it: as none, or as one that is too large.
 pub(crate) fn module_in(alloc: Global, text: &[u8]) -> Result<Result<Module, String>, RunFault>
     ensures accepted { IfOk result (λ r. IfOk r (λ m. IsModule text.now (types_view m))) }
     ensures refused { IfOk result (λ r. IfErr r (λ line. IsRefusal text.now (string_bytes line))) }
@@ -89,11 +89,23 @@ pub(crate) fn module_in(alloc: Global, text: &[u8]) -> Result<Result<Module, Str
     match read(alloc, text) {
         Ok(accepted) => Ok(Ok(accepted)),
         Err(fault) => {
+            let is_larger = is_past_most(&fault);
             let words = words_of(alloc, fault)?;
+            if is_larger {
+                let line = format!(in alloc; "! module too large: {words}\n")?;
+                return Ok(Err(line));
+            }
             let line = format!(in alloc; "! module {words}\n")?;
             Ok(Err(line))
         }
     }
+}
+
+/// Whether the fault is that of a module which is larger than is read.
+fn is_past_most(fault: &ModuleFault) -> bool
+    ensures { result ≡ is_past_most fault.now }
+{
+    matches!(fault, ModuleFault::TooLarge { .. })
 }
 
 /// What a fault of a module says, in one line.

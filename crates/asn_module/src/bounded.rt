@@ -53,6 +53,15 @@ pub(crate) fn size_with(names: &[Named], index: usize, before: u64) -> u64 {
     }
 }
 
+/// The size of all that is built.
+fn size_of_all(names: &[Named]) -> u64 {
+    let mut size: u64 = 0;
+    for named in names {
+        size = size.saturating_add(size_in(named));
+    }
+    size
+}
+
 /// Whether there is a bound that a size is past.
 pub(crate) fn is_past(size: u64, most: Option<u32>) -> bool {
     match most {
@@ -84,5 +93,8 @@ pub(crate) fn stop_past(
         return Ok(());
     }
     let name = name_at(alloc, names, index)?;
-    Err(Refusal::TooLarge { name })
+    Err(Refusal::TooLarge {
+        name,
+        size: size_of_all(names),
+    })
 }

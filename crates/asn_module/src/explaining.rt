@@ -117,7 +117,8 @@ fn expected(alloc: Global, before: &str) -> Result<String, AllocError> {
 /// and what could be there instead. Then the line itself follows, and under it a mark at the column.
 ///
 /// A name that is assigned twice is shown at its second assignment, and an unknown one where it is first referred to.
-/// The name of a cycle, or of a type that is none of the profile, is shown where it is assigned. Of a fault without a
+/// The name of a cycle, of a type that is none of the profile, or of one with which the module is too large, is shown where
+/// it is assigned. Of a fault without a
 /// place, it is what `Display` says of it.
 ///
 /// # Errors
@@ -140,7 +141,9 @@ pub fn explain(alloc: Global, text: &str, fault: &ModuleFault) -> Result<String,
         }
         ModuleFault::Unknown { name } => named(alloc, text, fault, name_at(text, name, false, 0)),
         ModuleFault::Twice { name } => named(alloc, text, fault, name_at(text, name, true, 1)),
-        ModuleFault::Cycle { name } | ModuleFault::BadType { name, .. } => {
+        ModuleFault::Cycle { name }
+        | ModuleFault::BadType { name, .. }
+        | ModuleFault::TooLarge { name, .. } => {
             named(alloc, text, fault, name_at(text, name, true, 0))
         }
         ModuleFault::Memory => format!(in alloc; "{fault}"),

@@ -32,7 +32,11 @@ pub enum ModuleFault {
     /// constraint that may not stand on the type that a name stands for.
     #[error("out of profile at {at}")]
     OutOfProfile { at: usize },
-    /// An allocation failed, or the module is larger than `read` reads.
+    /// The module is larger than `read` reads: `size` as `read_within` counts it, as far as the types are built, and `name`
+    /// is that with whose type it passes `most`.
+    #[error("at {name} its types come to {size}, more than {most}, references followed")]
+    TooLarge { most: u32, size: u64, name: String },
+    /// An allocation failed.
     #[error("memory")]
     Memory,
 }
@@ -72,8 +76,8 @@ pub enum BoundFault {
 pub(crate) enum Refusal {
     /// An allocation failed.
     Memory,
-    /// With the type of this name, those that are built are larger together than was allowed.
-    TooLarge { name: String },
+    /// With the type of this name, those that are built are larger together than was allowed: of this size.
+    TooLarge { name: String, size: u64 },
     /// It refers to a name that has no type, or none yet.
     Missing,
     /// A constraint may not stand on the type that a name stands for; `left` is the number of octets of

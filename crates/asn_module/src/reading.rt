@@ -4,7 +4,7 @@ ghost use Rattle.std.specs.Prelude.{◌≡◌, ◌≤◌, ◌⊎◌, None, Some,
 ghost use Rattle.asn_values.specs.View.{shape_of};
 ghost use Rattle.asn_module.specs.Accepted.{Accepted, ModuleTypes, type_in};
 ghost use Rattle.asn_module.specs.Sizes.{most_size, types_size, IsAtMost};
-ghost use Rattle.asn_module.specs.Bounded.{TellsBound, IsStopped};
+ghost use Rattle.asn_module.specs.Bounded.{TellsBound, TellsRead, IsStopped};
 ghost use Rattle.asn_module.specs.Known.{SeenAs};
 ghost use Rattle.asn_module.specs.ModuleView.{types_view};
 ghost use Rattle.asn_module.specs.Uses.{TellsUses, says_used};
@@ -89,8 +89,8 @@ pub const MOST_SIZE: u32 = 10_000_000;
 /// the bounds along the way met.
 ///
 /// # Errors
-/// `Memory` where an allocation failed; else the text is no module of the profile. Of several faults the first is
-/// reported, in this order:
+/// `TooLarge` where the module is larger than `MOST_SIZE`; `Memory` where an allocation failed; else the text is no module
+/// of the profile. Of several faults the first is reported, in this order:
 ///
 /// - `Character`, `Unexpected` or `OutOfProfile` (a token with which no module goes on);
 /// - `Twice`, `Unknown`, `Cycle`;
@@ -101,13 +101,17 @@ pub fn read(alloc: Global, text: &str) -> Result<Module, ModuleFault>
     ensures within { IfOk result (λ m. types_size (types_view m).types ≤ most_size) }
     // It tells of each name whether a type of the text refers to it.
     ensures uses { IfOk result (λ m. TellsUses text.now m) }
-    // A text that is a module is read, unless an allocation failed or it is larger.
-    ensures refused { IfErr result (λ e. (e ≡ ModuleFault.Memory → ⊥) → (m : ModuleTypes) →
-        Accepted text.now m → ⊥) }
+    // A text that is a module is read, unless an allocation failed or it is larger, which `TooLarge` reports.
+    ensures refused { IfErr result (TellsRead text.now) }
 {
     match module_of(alloc, text, Some(MOST_SIZE)) {
         Ok(Some(module)) => Ok(module),
         Ok(None) => Err(fault_of(alloc, text)),
+        Err(Refusal::TooLarge { name, size }) => Err(ModuleFault::TooLarge {
+            most: MOST_SIZE,
+            size,
+            name,
+        }),
         Err(_) => Err(ModuleFault::Memory),
     }
 }
@@ -130,7 +134,7 @@ pub fn read_within(alloc: Global, text: &str, most: u32) -> Result<Module, Bound
     match module_of(alloc, text, Some(most)) {
         Ok(Some(it)) => Ok(it),
         Ok(None) => Err(BoundFault::Module(fault_of(alloc, text))),
-        Err(Refusal::TooLarge { name }) => Err(BoundFault::TooLarge { most, name }),
+        Err(Refusal::TooLarge { name, .. }) => Err(BoundFault::TooLarge { most, name }),
         Err(_) => Err(BoundFault::Module(ModuleFault::Memory)),
     }
 }
@@ -151,8 +155,7 @@ pub struct RefusedText {
 pub fn read_explained(alloc: Global, text: &str) -> Result<Module, RefusedText>
     ensures accepted { IfOk result (λ m. Accepted text.now (types_view m)) }
     ensures uses { IfOk result (λ m. TellsUses text.now m) }
-    ensures refused { IfErr result (λ e. (e.fault ≡ ModuleFault.Memory → ⊥) → (m : ModuleTypes) →
-        Accepted text.now m → ⊥) }
+    ensures refused { IfErr result (λ e. TellsRead text.now e.fault) }
 {
     match read(alloc, text) {
         Ok(module) => Ok(module),

@@ -1,45 +1,54 @@
-//! The constraints of the types of a module, which its text has on lines of its own, where it is printed.
+//! What the text of a module has of its types on lines of its own, where it is printed: their constraints, and how they
+//! differ from the published types.
+use crate::differences::difference_in;
 use crate::published::fault_of_constraints;
 use crate::sources::own_of;
 use asn_constraint_text::{
-    ConstrainedModule, MOST_PARTS, WholeFault, constraint_text, with_constraints,
+    ConstrainedModule, MOST_PARTS, WholeFault, constraint_text, with_constraints, with_differences,
 };
 use asn_constraints::Constraint;
-use asn_published::{Flattened, PublishedFault};
+use asn_published::{Flattened, PublishedFault, TypeReport};
 use asn_values::AsnType;
 use std::alloc::{AllocError, Global};
 
-/// How many octets the constraints of the types of a module may have as text.
+/// How many octets the lines of the types of a module may have.
 const MOST_OCTETS: u32 = 80_000_000;
 
-/// The constraints of types by their names, as lines of a text have them.
+/// A name, and what its line has.
+#[derive(Drop)]
+struct Line {
+    name: String,
+    text: String,
+}
+
+/// The constraints of types, and how they differ from the published types, as lines of a text have them.
 #[derive(Drop)]
 pub struct Lines {
-    names: Vec<String>,
-    texts: Vec<String>,
+    constraints: Vec<Line>,
+    differences: Vec<Line>,
     octets: usize,
 }
 
 impl Lines {
-    /// No constraint.
+    /// No line.
     pub fn new(alloc: Global) -> Lines {
         Lines {
-            names: Vec::new(alloc),
-            texts: Vec::new(alloc),
+            constraints: Vec::new(alloc),
+            differences: Vec::new(alloc),
             octets: 0,
         }
     }
 
-    /// Whether no type has a constraint.
+    /// Whether no type has a line.
     pub fn is_empty(&self) -> bool {
-        self.names.is_empty()
+        self.constraints.is_empty() && self.differences.is_empty()
     }
 
     /// Takes the constraint of the type of a name, unless each value meets it.
     ///
     /// # Errors
-    /// `TooLarge` if the constraints have more octets than `MOST_OCTETS`, and `Memory` if an allocation failed.
-    fn push(
+    /// `TooLarge` if the lines have more octets than `MOST_OCTETS`, and `Memory` if an allocation failed.
+    fn push_constraint(
         &mut self,
         alloc: Global,
         name: &str,
@@ -51,6 +60,29 @@ impl Lines {
         }
         let name = String::from_str(alloc, name)?;
         let text = constraint_text(alloc, ty, constraint)?;
+        let line = self.counted(name, text)?;
+        self.constraints.push(line)?;
+        Ok(())
+    }
+
+    /// Takes how the type of a name differs.
+    ///
+    /// # Errors
+    /// As of a constraint.
+    fn push_difference(
+        &mut self,
+        alloc: Global,
+        name: &str,
+        words: String,
+    ) -> Result<(), PublishedFault> {
+        let name = String::from_str(alloc, name)?;
+        let line = self.counted(name, words)?;
+        self.differences.push(line)?;
+        Ok(())
+    }
+
+    /// A line, which counts.
+    fn counted(&mut self, name: String, text: String) -> Result<Line, PublishedFault> {
         self.octets = self.octets.saturating_add(text.len());
         if self.octets > MOST_OCTETS as usize {
             return Err(PublishedFault::TooLarge {
@@ -58,25 +90,31 @@ impl Lines {
                 name,
             });
         }
-        self.names.push(name)?;
-        self.texts.push(text)?;
-        Ok(())
+        Ok(Line { name, text })
     }
 
-    /// The text of the module with a line for each constraint.
+    /// The text of the module with a line for each constraint, and behind it one for each difference.
     ///
     /// # Errors
     /// `AllocError` where an allocation failed.
     pub fn put_into(&self, alloc: Global, text: &str) -> Result<String, AllocError> {
-        let mut lines = Vec::new(alloc);
-        for (name, text) in self.names.iter().zip(&self.texts) {
-            lines.push((name.as_str(), text.as_str()))?;
-        }
-        with_constraints(alloc, text, lines.as_slice())
+        let differences = views_of(alloc, self.differences.as_slice())?;
+        let text = with_differences(alloc, text, differences.as_slice())?;
+        let constraints = views_of(alloc, self.constraints.as_slice())?;
+        with_constraints(alloc, text.as_str(), constraints.as_slice())
     }
 }
 
-/// The constraints of a module of the profile, with references written out.
+/// The name and the text of each line.
+fn views_of(alloc: Global, lines: &[Line]) -> Result<Vec<(&str, &str)>, AllocError> {
+    let mut views = Vec::new(alloc);
+    for line in lines {
+        views.push((line.name.as_str(), line.text.as_str()))?;
+    }
+    Ok(views)
+}
+
+/// The lines of a module of the profile, with references written out.
 pub(crate) fn lines_of_own(
     alloc: Global,
     own: &ConstrainedModule,
@@ -85,14 +123,16 @@ pub(crate) fn lines_of_own(
     for name in own.module.type_names() {
         if let Some(ty) = own.module.type_named(name) {
             let constraint = constraint_in(alloc, own, name)?;
-            lines.push(alloc, name, ty.get(), &constraint)?;
+            lines.push_constraint(alloc, name, ty.get(), &constraint)?;
+            if let Some(words) = own.difference_named(alloc, name)? {
+                lines.push_difference(alloc, name, String::from_str(alloc, words)?)?;
+            }
         }
     }
     Ok(lines)
 }
 
-/// The constraints of the module that published ones become, and those that the text has where it is a module of the
-/// profile.
+/// The lines of the module that published ones become, and those that the text has where it is a module of the profile.
 pub(crate) fn lines_of_flattened(
     alloc: Global,
     flattened: &Flattened,
@@ -107,10 +147,27 @@ pub(crate) fn lines_of_flattened(
                 Some(own) => both(alloc, constraint_in(alloc, own, name)?, published)?,
                 None => published,
             };
-            lines.push(alloc, name, ty.get(), &constraint)?;
+            lines.push_constraint(alloc, name, ty.get(), &constraint)?;
+            if let Some(words) = difference_of(alloc, one, own)? {
+                lines.push_difference(alloc, name, words)?;
+            }
         }
     }
     Ok(lines)
+}
+
+/// How a type differs from the published one: what the text says, where it is a module of the profile and says something.
+fn difference_of(
+    alloc: Global,
+    one: &TypeReport,
+    own: &Option<ConstrainedModule>,
+) -> Result<Option<String>, AllocError> {
+    if let Some(own) = own {
+        if let Some(words) = own.difference_named(alloc, one.name.as_str())? {
+            return Ok(Some(String::from_str(alloc, words)?));
+        }
+    }
+    difference_in(alloc, one)
 }
 
 /// Both constraints, or one where the other is free.
@@ -143,13 +200,13 @@ pub(crate) fn constraint_in(
     }
 }
 
-/// Whether a text has the line of a constraint, if it is a module of the profile.
+/// Whether a text has the line of a constraint or of a difference, if it is a module of the profile.
 pub(crate) fn has_lines(text: &str) -> bool {
-    text.lines().any(|line| line.starts_with("--:"))
+    text.lines()
+        .any(|line| line.starts_with("--:") || line.starts_with("--!"))
 }
 
-/// The module of the profile that the only text is, with the constraints that it has on lines of its own, if it is one
-/// and has such lines.
+/// The module of the profile that the only text is, with what it has on such lines, if it is one and has some.
 ///
 /// # Errors
 /// As of the commands on messages.

@@ -2,6 +2,7 @@
 //! the profile; and why a module is refused.
 #![tactic(auto)]
 
+mod differences;
 mod flattening;
 mod kept;
 mod published;

@@ -1,5 +1,8 @@
-mod Conversions
+mod Converting
+mod Feeding
+mod Free
 mod HandleValues
+mod DeepTypes
 mod LooseValues
 mod ObjectSend
 mod ShownValues

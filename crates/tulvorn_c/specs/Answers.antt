@@ -1,5 +1,5 @@
 -- What calls answer, by the objects that handles held before (old) and hold after (new).
-use Rattle.std.specs.Prelude.{◌≡◌, ◌⊎◌, ◌<◌, ◌≤◌, ◌++◌, drop, ℕ, Ok, Err, List, [], length, Option, Some, None, nat_eq, if◌then◌else◌, IsUtf8}
+use Rattle.std.specs.Prelude.{◌≡◌, ◌⊎◌, ◌<◌, ◌≤◌, ◌++◌, drop, ℕ, true, Ok, Err, List, [], length, Option, Some, None, nat_eq, if◌then◌else◌, IsUtf8}
 use Rattle.serde_json.specs.Data.{Data}
 use Rattle.serde_json.specs.Written.{compact_text}
 use Rattle.asn_values.specs.Datum.{Datum}
@@ -8,29 +8,33 @@ use Rattle.asn_values.specs.Fits.{Fits}
 use Rattle.asn_values.specs.Received.{FitsReceived}
 use Rattle.asn_values.specs.View.{datum_of}
 use Rattle.asn_values.specs.declared.value.Value.{Value}
-use Rattle.asn_view.specs.Typed.{Typed, typed}
+use Rattle.asn_view.specs.Typed.{Typed}
 use Rattle.asn_module.specs.Accepted.{ModuleTypes, Accepted, type_in}
 use Rattle.asn_module.specs.declared.fault.ModuleFault.{ModuleFault}
-use Rattle.asn_module.specs.declared.fault.ModuleFault.TheVariants as module_fault
-use Rattle.asn_rules.specs.Answer.{Ruling, IsEncoding, max_octets}
-use Rattle.asn_rules.specs.Codec.{Decoded, NotEncoded}
-use Rattle.asn_rules.specs.Measured.{IsLength, NotMeasured, Placed, NotPlaced}
-use Rattle.asn_rules.specs.declared.fault.DecodeFault.{DecodeFault}
+use Rattle.asn_module.specs.Bounded.{TellsRead}
+use Rattle.asn_module.specs.Sizes.{most_size, types_size}
+use Rattle.asn_rules.specs.Answer.{Ruling, max_octets}
+use Rattle.asn_rules.specs.Measured.{IsLength, Placed}
+use Rattle.asn_rules.specs.declared.units.Unit.{Unit}
 use Rattle.asn_rules.specs.declared.fault.EncodeFault.{EncodeFault}
 use Rattle.asn_rules.specs.declared.fault.LengthFault.{LengthFault}
 use Rattle.asn_rules.specs.declared.fault.EncodeIntoFault.{EncodeIntoFault}
 use Rattle.asn_per.specs.Rules.{per_ruling}
 use Rattle.asn_oer.specs.Rules.{oer_ruling}
 use Rattle.asn_json.specs.Texts.{IsJson, IsNoJson, RepeatsKey}
-use Rattle.asn_convert.specs.Converted.{Converts, Converted}
-use Rattle.asn_convert.specs.declared.conversion.ConvertFault.{ConvertFault}
+use Rattle.asn_constraints.specs.Constraints.{meets}
+use Rattle.asn_constrained.specs.Under.{IsEncodingUnder, DecodedUnder, NotEncodedUnder}
+use Rattle.asn_constrained.specs.Measured.{NotMeasuredUnder, NotPlacedUnder}
+use Rattle.asn_constrained.specs.Converted.{ConvertsUnder, ConvertedUnder}
+use Rattle.asn_constrained.specs.declared.conversion.ConvertFault.{ConvertFault}
+use Rattle.asn_constrained.specs.declared.fault.ConstrainedFault.{ConstrainedFault}
 use Rattle.asn_json.specs.Written.{json_of}
 use Rattle.asn_json.specs.Errors.{Shown, Refused}
 use Rattle.asn_json.specs.declared.fault.JsonFault.{JsonFault}
 use Rattle.tulvorn_c.specs.declared.object.Object.{Object}
 use Rattle.tulvorn_c.specs.declared.fault.Fault.{Fault}
-use Rattle.tulvorn_c.specs.Faults.{plain, done, no_memory, misuse, of_decode, of_encode, of_length, of_encode_into, of_convert, of_json, of_module}
-use Rattle.tulvorn_c.specs.Held.{held_module, held_type, held_value, held_octets}
+use Rattle.tulvorn_c.specs.Faults.{plain, done, no_memory, misuse, large_constraint, of_constrained, of_converted, of_encode, of_length, of_encode_into, of_json, of_module, bad_constraint}
+use Rattle.tulvorn_c.specs.Held.{Constrained, Valued, value_of, held_module, held_constrained, held_valued, held_octets}
 
 -- ---- what a call is asked of
 
@@ -56,10 +60,14 @@ AskedBy (Some a) (Some r) Stays Tells fault = Tells r a fault
 abbrev pub IsModuleRead : List ℕ → Option Object → Type 0
 IsModuleRead text new = (m : ModuleTypes) × (held_module new ≡ Some m) × Accepted text m
 
+-- a text that is a module has a line with `--:` that is no constraint of it
+abbrev pub HasBadLine : List ℕ → Type 0
+HasBadLine text = (m : ModuleTypes) × Accepted text m
+
 abbrev pub IsNoModule : List ℕ → Fault → Type 0
 IsNoModule text fault =
-    (why : ModuleFault) × (fault ≡ of_module why)
-    × ((why ≡ module_fault.Memory → ⊥) → (m : ModuleTypes) → Accepted text m → ⊥)
+    ((why : ModuleFault) × (fault ≡ of_module why) × TellsRead text why)
+    ⊎ (fault ≡ no_memory) ⊎ ((fault ≡ bad_constraint) × HasBadLine text)
 
 abbrev pub ReadsText : List ℕ → Option Object → Option Object → Fault → Type 0
 ReadsText text old new fault =
@@ -73,16 +81,23 @@ ReadsModule text old new fault =
 abbrev pub HoldsNoRefusal : List ℕ → Option Object → Type 0
 HoldsNoRefusal text new = (held_octets new ≡ Some []) × (m : ModuleTypes) × Accepted text m
 
--- the handle then holds words, since the text is no module
+-- the handle then holds words, since the text is no module, or one that is larger than is read
 pub record HoldsRefusal (text : List ℕ) (new : Option Object) : Type 0 where
   pub words : List ℕ
   pub held : held_octets new ≡ Some words
   pub not_empty : words ≡ [] → ⊥
-  pub refused : (m : ModuleTypes) → Accepted text m → ⊥
+  pub refused : (m : ModuleTypes) → Accepted text m → most_size < types_size m.types
+
+-- the handle then holds words about such a line
+pub record HoldsBadLine (text : List ℕ) (new : Option Object) : Type 0 where
+  pub words : List ℕ
+  pub held : held_octets new ≡ Some words
+  pub not_empty : words ≡ [] → ⊥
+  pub bad : HasBadLine text
 
 abbrev pub TellsText : List ℕ → Option Object → Option Object → Fault → Type 0
 TellsText text old new fault =
-    ((fault ≡ done) × (HoldsNoRefusal text new ⊎ HoldsRefusal text new)) ⊎ ((fault ≡ no_memory) × (new ≡ old))
+    ((fault ≡ done) × (HoldsNoRefusal text new ⊎ HoldsRefusal text new ⊎ HoldsBadLine text new)) ⊎ ((fault ≡ no_memory) × (new ≡ old))
 
 abbrev pub TellsModule : List ℕ → Option Object → Option Object → Fault → Type 0
 TellsModule text old new fault =
@@ -91,97 +106,104 @@ TellsModule text old new fault =
 -- the handle then holds the type that the module assigns to the name, which it does to none that is not UTF-8
 abbrev pub FindsName : List ℕ → Option Object → Option Object → ModuleTypes → Fault → Type 0
 FindsName name old new m fault =
-    ((fault ≡ done) × (t : Shape) × (type_in m.types name ≡ Some t) × (held_type new ≡ Some t))
-    ⊎ ((new ≡ old) × (((fault ≡ plain 10) × (type_in m.types name ≡ None)) ⊎ (fault ≡ no_memory)))
+    ((fault ≡ done) × (t : Constrained) × (type_in m.types name ≡ Some t.shape) × (held_constrained new ≡ Some t))
+    ⊎ ((new ≡ old)
+    × (((fault ≡ plain 10) × (type_in m.types name ≡ None)) ⊎ (fault ≡ no_memory) ⊎ (fault ≡ large_constraint)))
 
 abbrev pub FindsType : List ℕ → Option Object → Option Object → ModuleTypes → Fault → Type 0
 FindsType name old new m fault =
     FindsName name old new m fault ⊎ ((new ≡ old) × (fault ≡ plain 8) × ¬ IsUtf8 name)
 
 -- the other handle then holds the same type
-abbrev pub SharesType : Option Object → Option Object → Shape → Fault → Type 0
+abbrev pub SharesType : Option Object → Option Object → Constrained → Fault → Type 0
 SharesType old new t fault =
-    ((fault ≡ done) × (held_type new ≡ Some t)) ⊎ ((fault ≡ no_memory) × (new ≡ old))
+    ((fault ≡ done) × (held_constrained new ≡ Some t)) ⊎ ((fault ≡ no_memory) × (new ≡ old))
 
 -- ---- messages
 
 -- the octets are not decoded, as the fault tells
-pub record IsNotDecoded (r : Ruling) (t : Shape) (o : List ℕ) (fault : Fault) : Type 0 where
-  pub why : DecodeFault
-  pub told : fault ≡ of_decode why
-  pub holds : Decoded r (Err why) t o
+pub record IsNotDecoded (u : Unit) (r : Ruling) (t : Constrained) (o : List ℕ) (fault : Fault) : Type 0 where
+  pub why : ConstrainedFault
+  pub told : fault ≡ of_constrained u why
+  pub holds : DecodedUnder r t.constraint (Err why) t.shape o
 
--- they are the encoding of a value, or not decoded
-abbrev pub Checks : List ℕ → Ruling → Shape → Fault → Type 0
-Checks o r t fault = ((fault ≡ done) × (d : Datum) × IsEncoding r t d o) ⊎ IsNotDecoded r t o fault
+-- they are the encoding of a value that meets the constraint, or not decoded
+abbrev pub Checks : Unit → List ℕ → Ruling → Constrained → Fault → Type 0
+Checks u o r t fault =
+    ((fault ≡ done) × (d : Datum) × IsEncodingUnder r t.shape t.constraint d o) ⊎ IsNotDecoded u r t o fault
 
--- the handle then holds the value of the type whose encoding they are
-pub record HoldsDecoded (r : Ruling) (t : Shape) (o : List ℕ) (new : Option Object) : Type 0 where
+-- the handle then holds the value of the type whose encoding they are, which meets the constraint
+pub record HoldsDecoded (r : Ruling) (t : Constrained) (o : List ℕ) (new : Option Object) : Type 0 where
   pub value : Value
-  pub held : held_value new ≡ Some (typed t (datum_of value))
-  pub decoded : Decoded r (Ok value) t o
+  pub held : held_valued new ≡ Some (value_of t (datum_of value))
+  pub decoded : DecodedUnder r t.constraint (Ok value) t.shape o
 
-abbrev pub Decodes : List ℕ → Option Object → Option Object → Ruling → Shape → Fault → Type 0
-Decodes o old new r t fault =
-    ((fault ≡ done) × HoldsDecoded r t o new) ⊎ ((new ≡ old) × IsNotDecoded r t o fault)
+abbrev pub Decodes : Unit → List ℕ → Option Object → Option Object → Ruling → Constrained → Fault → Type 0
+Decodes u o old new r t fault =
+    ((fault ≡ done) × HoldsDecoded r t o new) ⊎ ((new ≡ old) × IsNotDecoded u r t o fault)
 
--- the handle then holds the encoding of the value
-pub record HoldsEncoding (r : Ruling) (v : Typed) (new : Option Object) : Type 0 where
+-- the handle then holds the encoding of the value, which meets the constraint of its type
+pub record HoldsEncoding (r : Ruling) (v : Valued) (new : Option Object) : Type 0 where
   pub octets : List ℕ
   pub held : held_octets new ≡ Some octets
-  pub encoding : IsEncoding r v.shape v.datum octets
+  pub encoding : IsEncodingUnder r v.value.shape v.constraint v.value.datum octets
   pub within : length octets ≤ max_octets
 
 -- the value is not encoded, as the fault tells
-pub record IsNotEncoded (r : Ruling) (v : Typed) (fault : Fault) : Type 0 where
+pub record IsNotEncoded (r : Ruling) (v : Valued) (fault : Fault) : Type 0 where
   pub why : EncodeFault
   pub told : fault ≡ of_encode why
-  pub holds : NotEncoded r why v.shape v.datum
+  pub holds : NotEncodedUnder r why v.value.shape v.constraint v.value.datum
 
-abbrev pub Encodes : Option Object → Option Object → Ruling → Typed → Fault → Type 0
+abbrev pub Encodes : Option Object → Option Object → Ruling → Valued → Fault → Type 0
 Encodes old new r v fault =
     ((fault ≡ done) × HoldsEncoding r v new) ⊎ ((new ≡ old) × IsNotEncoded r v fault)
 
+-- the value meets the constraint of its type
+abbrev pub IsMet : Valued → Type 0
+IsMet v = meets v.constraint v.value.datum ≡ true
+
 -- how many octets the encoding has
-abbrev pub Measures : ℕ → ℕ → Ruling → Typed → Fault → Type 0
+abbrev pub Measures : ℕ → ℕ → Ruling → Valued → Fault → Type 0
 Measures old new r v fault =
-    ((fault ≡ done) × IsLength r v.shape v.datum new)
-    ⊎ ((new ≡ old) × (why : LengthFault) × (fault ≡ of_length why) × NotMeasured r why v.shape v.datum)
+    ((fault ≡ done) × IsMet v × IsLength r v.value.shape v.value.datum new)
+    ⊎ ((new ≡ old) × (why : LengthFault) × (fault ≡ of_length why)
+    × NotMeasuredUnder r why v.value.shape v.constraint v.value.datum)
 
 -- the encoding is put into the first of the octets, and how many it has is told; or they are as they were
-abbrev pub Places : List ℕ → List ℕ → ℕ → ℕ → Ruling → Typed → Fault → Type 0
+abbrev pub Places : List ℕ → List ℕ → ℕ → ℕ → Ruling → Valued → Fault → Type 0
 Places old new before after r v fault =
-    ((fault ≡ done) × Placed r v.shape v.datum after old new)
+    ((fault ≡ done) × IsMet v × Placed r v.value.shape v.value.datum after old new)
     ⊎ ((after ≡ before) × (why : EncodeIntoFault) × (fault ≡ of_encode_into why)
-    × NotPlaced r why v.shape v.datum old new)
+    × NotPlacedUnder r why v.value.shape v.constraint v.value.datum old new)
 
 -- the other rules
 abbrev pub other_ruling_of : ℕ → Ruling
 other_ruling_of n = if nat_eq n 0 then oer_ruling else per_ruling
 
 -- the handle then holds the octets by the rules b of the value that o encodes by the rules a
-pub record HoldsConverted (a b : Ruling) (t : Shape) (o : List ℕ) (new : Option Object) : Type 0 where
+pub record HoldsConverted (a b : Ruling) (t : Constrained) (o : List ℕ) (new : Option Object) : Type 0 where
   pub octets : List ℕ
   pub held : held_octets new ≡ Some octets
-  pub converted : Converts a b t o octets
+  pub converted : ConvertsUnder a b t.constraint t.shape o octets
 
-pub record IsNotConverted (a b : Ruling) (t : Shape) (o : List ℕ) (fault : Fault) : Type 0 where
+pub record IsNotConverted (u : Unit) (a b : Ruling) (t : Constrained) (o : List ℕ) (fault : Fault) : Type 0 where
   pub why : ConvertFault
-  pub told : fault ≡ of_convert why
-  pub holds : Converted a b (Err why) t o
+  pub told : fault ≡ of_converted u why
+  pub holds : ConvertedUnder a b t.constraint (Err why) t.shape o
 
-abbrev pub ConvertsTo : Ruling → List ℕ → Option Object → Option Object → Ruling → Shape → Fault → Type 0
-ConvertsTo b o old new a t fault =
-    ((fault ≡ done) × HoldsConverted a b t o new) ⊎ ((new ≡ old) × IsNotConverted a b t o fault)
+abbrev pub ConvertsTo : Unit → Ruling → List ℕ → Option Object → Option Object → Ruling → Constrained → Fault → Type 0
+ConvertsTo u b o old new a t fault =
+    ((fault ≡ done) × HoldsConverted a b t o new) ⊎ ((new ≡ old) × IsNotConverted u a b t o fault)
 
 -- the handle then holds these octets, or memory was wanting
 abbrev pub HoldsUnlessMemory : List ℕ → Option Object → Fault → Type 0
 HoldsUnlessMemory p new fault = ((fault ≡ done) × (held_octets new ≡ Some p)) ⊎ (fault ≡ no_memory)
 
--- so it is of any octets by the rules b that are of one value with o by the rules a
-pub record ConvertsExactly (b : Ruling) (o : List ℕ) (new : Option Object) (a : Ruling) (t : Shape) (fault : Fault)
+-- so it is of any octets by the rules b that are of one value with o by the rules a, which meets the constraint
+pub record ConvertsExactly (b : Ruling) (o : List ℕ) (new : Option Object) (a : Ruling) (t : Constrained) (fault : Fault)
     : Type 0 where
-  pub given : (p : List ℕ) → Converts a b t o p → HoldsUnlessMemory p new fault
+  pub given : (p : List ℕ) → ConvertsUnder a b t.constraint t.shape o p → HoldsUnlessMemory p new fault
 
 -- ---- JSON
 
@@ -191,12 +213,12 @@ WritesJson old new v fault =
     ((fault ≡ done) × FitsReceived v.shape v.datum × (held_octets new ≡ Some (compact_text (json_of v.shape v.datum))))
     ⊎ ((new ≡ old) × ((fault ≡ no_memory) ⊎ ((fault ≡ plain 11) × ¬ FitsReceived v.shape v.datum)))
 
--- the handle then holds the value of the type that the JSON shows
-pub record HoldsShown (t : Shape) (j : Data) (new : Option Object) : Type 0 where
+-- the handle then holds the value of the type that the JSON shows, whether it meets the constraint or not
+pub record HoldsShown (t : Constrained) (j : Data) (new : Option Object) : Type 0 where
   pub datum : Datum
-  pub held : held_value new ≡ Some (typed t datum)
-  pub shown : Shown t j datum
-  pub fits : Fits t datum
+  pub held : held_valued new ≡ Some (value_of t datum)
+  pub shown : Shown t.shape j datum
+  pub fits : Fits t.shape datum
 
 abbrev pub IsNotShown : Shape → Data → Fault → Type 0
 IsNotShown t j fault = (why : JsonFault) × (fault ≡ of_json why) × Refused t j why
@@ -205,11 +227,11 @@ IsNotShown t j fault = (why : JsonFault) × (fault ≡ of_json why) × Refused t
 abbrev pub IsRefusedText : List ℕ → Fault → Type 0
 IsRefusedText text fault = ((fault ≡ plain 12) × IsNoJson text) ⊎ ((fault ≡ plain 13) × RepeatsKey text)
 
-abbrev pub ReadsJson : List ℕ → Option Object → Option Object → Shape → Fault → Type 0
+abbrev pub ReadsJson : List ℕ → Option Object → Option Object → Constrained → Fault → Type 0
 ReadsJson text old new t fault =
     ((fault ≡ done) × (j : Data) × IsJson text j × HoldsShown t j new)
     ⊎ ((new ≡ old) × (IsRefusedText text fault ⊎ (fault ≡ no_memory)
-    ⊎ ((j : Data) × IsJson text j × IsNotShown t j fault)))
+    ⊎ ((j : Data) × IsJson text j × IsNotShown t.shape j fault)))
 
 -- ---- octets
 

@@ -1,5 +1,5 @@
 -- What calls answer, as numbers: a code, a reason, a place.
-use Rattle.std.specs.Prelude.{ℕ, Result, Ok, Err}
+use Rattle.std.specs.Prelude.{ℕ, ◌-◌, Result, Ok, Err}
 use Rattle.asn_rules.specs.declared.fault.Why.{Why}
 use Rattle.asn_rules.specs.declared.fault.Why.TheVariants as why
 use Rattle.asn_rules.specs.declared.fault.DecodeFault.{DecodeFault}
@@ -10,13 +10,17 @@ use Rattle.asn_rules.specs.declared.fault.LengthFault.{LengthFault}
 use Rattle.asn_rules.specs.declared.fault.LengthFault.TheVariants as long
 use Rattle.asn_rules.specs.declared.fault.EncodeIntoFault.{EncodeIntoFault}
 use Rattle.asn_rules.specs.declared.fault.EncodeIntoFault.TheVariants as into
+use Rattle.asn_rules.specs.declared.units.Unit as units
 use Rattle.asn_rules.specs.declared.session.FeedFault.{FeedFault}
 use Rattle.asn_rules.specs.declared.session.FeedFault.TheVariants as feed
 use Rattle.asn_rules.specs.declared.session.Truncated.{Truncated}
 use Rattle.asn_plan.specs.declared.budget.WithinFault.{WithinFault}
 use Rattle.asn_plan.specs.declared.budget.WithinFault.TheVariants as within
-use Rattle.asn_convert.specs.declared.conversion.ConvertFault.{ConvertFault}
-use Rattle.asn_convert.specs.declared.conversion.ConvertFault.TheVariants as convert
+use Rattle.asn_constrained.specs.Places.{last_unit}
+use Rattle.asn_constrained.specs.declared.fault.ConstrainedFault.{ConstrainedFault}
+use Rattle.asn_constrained.specs.declared.fault.ConstrainedFault.TheVariants as under
+use Rattle.asn_constrained.specs.declared.conversion.ConvertFault.{ConvertFault}
+use Rattle.asn_constrained.specs.declared.conversion.ConvertFault.TheVariants as convert
 use Rattle.asn_json.specs.declared.fault.JsonFault.{JsonFault}
 use Rattle.asn_json.specs.declared.fault.JsonFault.TheVariants as json
 use Rattle.asn_newer.specs.declared.fault.NewerFault.{NewerFault}
@@ -46,6 +50,12 @@ misuse = plain 2
 abbrev pub not_of_type : Fault
 not_of_type = plain 11
 
+abbrev pub large_constraint : Fault
+large_constraint = plain 23
+
+abbrev pub too_deep : Fault
+too_deep = plain 24
+
 abbrev pub too_long : Fault
 too_long = plain 6
 
@@ -71,6 +81,18 @@ of_decode (decode.Rest used) = placed 5 used
 of_decode decode.TooLong = too_long
 of_decode decode.Memory = no_memory
 
+-- the value whose encoding so many octets are breaks its constraint: they are refused at their last unit
+abbrev pub broken_after : units.Unit → ℕ → Fault
+broken_after u octets = record { code = 3; why = 8; at = last_unit u octets }
+
+-- all their units but the last were taken
+abbrev pub cut_before : units.Unit → ℕ → Fault
+cut_before u octets = placed 4 (last_unit u octets - 1)
+
+abbrev pub of_constrained : units.Unit → ConstrainedFault → Fault
+of_constrained u (under.Type why) = of_decode why
+of_constrained u (under.Broken used b) = broken_after u used
+
 abbrev pub of_within : WithinFault → Fault
 of_within (within.Decode why) = of_decode why
 of_within within.OverBudget = plain 22
@@ -90,10 +112,10 @@ of_encode_into into.NotOfType = not_of_type
 of_encode_into into.TooLong = too_long
 of_encode_into (into.Short wanted) = placed 7 wanted
 
-abbrev pub of_convert : ConvertFault → Fault
-of_convert (convert.Read why) = of_decode why
-of_convert convert.TooLong = too_long
-of_convert convert.Memory = no_memory
+abbrev pub of_converted : units.Unit → ConvertFault → Fault
+of_converted u (convert.Read why) = of_constrained u why
+of_converted u convert.TooLong = too_long
+of_converted u convert.Memory = no_memory
 
 abbrev pub of_json : JsonFault → Fault
 of_json (json.Shape path) = plain 13
@@ -130,4 +152,9 @@ of_module (module_fault.Cycle name) = no_module 4 0
 of_module (module_fault.Twice name) = no_module 5 0
 of_module (module_fault.BadType name fault) = no_module 6 0
 of_module (module_fault.OutOfProfile at) = no_module 7 at
+of_module (module_fault.TooLarge most size name) = no_module 8 0
 of_module module_fault.Memory = no_memory
+
+-- a line of a constraint is none of its type
+abbrev pub bad_constraint : Fault
+bad_constraint = no_module 9 0

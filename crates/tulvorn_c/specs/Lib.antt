@@ -1,7 +1,9 @@
 pub mod Answers
+pub mod Differences
 pub mod Faults
 pub mod Held
 pub mod Kept
+pub mod Levels
 pub mod Misfits
 pub mod Newer
 pub mod Parts

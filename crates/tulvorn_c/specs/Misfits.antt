@@ -1,10 +1,11 @@
 -- Where a value or JSON is none of a type.
-use Rattle.std.specs.Prelude.{◌≡◌, ◌⊎◌, ◌↔◌, ◌++◌, ℕ, List, [], Option, Some, codes, string_bytes}
+use Rattle.std.specs.Prelude.{◌≡◌, ◌⊎◌, ◌↔◌, ◌++◌, ℕ, true, List, [], Option, Some, codes, string_bytes}
 use Rattle.serde_json.specs.Data.{Data}
 use Rattle.asn_values.specs.Datum.{Datum}
 use Rattle.asn_values.specs.Shape.{Shape}
 use Rattle.asn_values.specs.Fits.{Fits}
 use Rattle.asn_view.specs.Typed.{Typed}
+use Rattle.asn_constraints.specs.Constraints.{meets}
 use Rattle.asn_json.specs.Texts.{IsJson, IsNoJson, RepeatsKey}
 use Rattle.asn_json.specs.Errors.{Shown, Refused}
 use Rattle.asn_json.specs.declared.fault.JsonFault.{JsonFault}
@@ -13,20 +14,20 @@ use Rattle.tulvorn_c.specs.declared.object.Object.{Object}
 use Rattle.tulvorn_c.specs.declared.fault.Fault.{Fault}
 use Rattle.tulvorn_c.specs.Answers.{Asked}
 use Rattle.tulvorn_c.specs.Faults.{plain, done, no_memory}
-use Rattle.tulvorn_c.specs.Held.{held_octets}
+use Rattle.tulvorn_c.specs.Held.{Constrained, held_octets}
 
 -- where one handle holds no type, or another no value, the fault is misuse and what the call writes stays as it was;
 -- else the answer is told of both
-abbrev pub AskedOf : Option Shape → Option Typed → Type 0 → (Shape → Typed → Fault → Type 0) → Fault → Type 0
+abbrev pub AskedOf : Option Constrained → Option Typed → Type 0 → (Constrained → Typed → Fault → Type 0) → Fault → Type 0
 AskedOf t v Stays Tells fault = Asked t Stays (λ t. Asked v Stays (Tells t)) fault
 
--- the handle then holds a text, which is empty exactly where the value fits the type
-pub record HoldsMisfit (t : Shape) (d : Datum) (new : Option Object) : Type 0 where
+-- the handle then holds a text, which is empty exactly if the value fits the type and meets its constraint
+pub record HoldsMisfit (t : Constrained) (d : Datum) (new : Option Object) : Type 0 where
   pub text : List ℕ
   pub held : held_octets new ≡ Some text
-  pub empty : (text ≡ []) ↔ Fits t d
+  pub empty : (text ≡ []) ↔ (Fits t.shape d × (meets t.constraint d ≡ true))
 
-abbrev pub TellsMisfit : Option Object → Option Object → Shape → Datum → Fault → Type 0
+abbrev pub TellsMisfit : Option Object → Option Object → Constrained → Datum → Fault → Type 0
 TellsMisfit old new t d fault = ((fault ≡ done) × HoldsMisfit t d new) ⊎ ((fault ≡ no_memory) × (new ≡ old))
 
 -- the text of a fault of JSON

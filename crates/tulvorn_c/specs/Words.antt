@@ -1,6 +1,7 @@
 -- Faults in words, and other texts.
-use Rattle.std.specs.Prelude.{◌≡◌, ◌⊎◌, ℕ, List, [], codes, string_bytes, Option, Some, None, option_map, nat_eq, if◌then◌else◌}
-use Rattle.asn_values.specs.Shape.{Shape}
+use Rattle.std.specs.Prelude.{◌≡◌, ◌⊎◌, ◌++◌, ◌&&◌, ℕ, Bool, List, [], codes, string_bytes, Option, Some, None, Err, option_map, nat_eq, if◌then◌else◌}
+use Rattle.std.specs.Fmt.{decimal}
+use Rattle.asn_values.specs.Datum.{Datum}
 use Rattle.asn_rules.specs.Answer.{Ruling}
 use Rattle.asn_rules.specs.Reasons.{text_of_fault, name_of_unit}
 use Rattle.asn_rules.specs.declared.fault.Why.{Why}
@@ -9,13 +10,15 @@ use Rattle.asn_rules.specs.declared.fault.DecodeFault.{DecodeFault}
 use Rattle.asn_rules.specs.declared.fault.DecodeFault.TheVariants as decode
 use Rattle.asn_rules.specs.declared.units.Unit.{Unit}
 use Rattle.asn_rules.specs.declared.units.Unit.TheVariants as unit
-use Rattle.asn_explain.specs.Explains.{Explains}
+use Rattle.asn_constraints.specs.declared.broken.Broken.{Broken}
+use Rattle.asn_constrained.specs.Under.{IsEncodingUnder, DecodedUnder}
+use Rattle.asn_constrained.specs.declared.fault.ConstrainedFault.TheVariants as under
 use Rattle.asn_explain.specs.Texts.{text_in}
 use Rattle.asn_explain.specs.declared.explanation.Explanation.{Explanation}
 use Rattle.tulvorn_c.specs.declared.object.Object.{Object}
 use Rattle.tulvorn_c.specs.declared.fault.Fault.{Fault}
 use Rattle.tulvorn_c.specs.Faults.{done, no_memory, misuse}
-use Rattle.tulvorn_c.specs.Held.{held_octets}
+use Rattle.tulvorn_c.specs.Held.{Constrained, held_octets}
 
 -- the version of the library
 abbrev pub version : List ℕ
@@ -60,14 +63,24 @@ words_of_code n =
     else if nat_eq n 17 then codes "cut short" else if nat_eq n 18 then codes "too many additions"
     else if nat_eq n 19 then codes "more octets wanted" else if nat_eq n 20 then codes "session spent"
     else if nat_eq n 21 then codes "absent" else if nat_eq n 22 then codes "over budget"
+    else if nat_eq n 23 then codes "constraint too large"
+    else if nat_eq n 24 then codes "too many levels"
     else codes "unknown code"
 
 abbrev pub words_by : Unit → ℕ → Option DecodeFault → List ℕ
 words_by u code (Some why) = text_of_fault u why
 words_by u code None = words_of_code code
 
+-- the refusal of a value that breaks its constraint
+abbrev pub is_broken : Fault → Bool
+is_broken fault = nat_eq fault.code 3 && nat_eq fault.why 8
+
+abbrev pub words_of_broken : Unit → ℕ → List ℕ
+words_of_broken u at = codes "refused at " ++ (name_of_unit u ++ (codes " " ++ (decimal at ++ codes ": constraint")))
+
 abbrev pub words_of : Unit → Fault → List ℕ
-words_of u fault = words_by u fault.code (decode_fault_of fault)
+words_of u fault =
+    if is_broken fault then words_of_broken u fault.at else words_by u fault.code (decode_fault_of fault)
 
 abbrev pub TellsWords : Option Unit → Fault → Option Object → Option Object → Fault → Type 0
 TellsWords None told old new fault = (fault ≡ misuse) × (new ≡ old)
@@ -75,19 +88,34 @@ TellsWords (Some u) told old new fault = HoldsText (words_of u told) old new fau
 
 -- ---- explanations
 
-abbrev pub text_of_explanation : Unit → Option Explanation → List ℕ
-text_of_explanation u None = []
-text_of_explanation u (Some told) = text_in (name_of_unit u) (string_bytes told.path) told.fault
-
 -- the unit of the encoding rules of that number, 0 or 1
 abbrev pub unit_in : ℕ → Unit
 unit_in n = if nat_eq n 0 then unit.Bit else unit.Octet
 
--- the handle then holds the text of what is explained of the octets, nothing of an encoding
-abbrev pub HoldsExplanation : Unit → List ℕ → Option Object → Ruling → Shape → Type 0
-HoldsExplanation u o new r t =
-    (told : Option Explanation) × Explains r t o told × (held_octets new ≡ Some (text_of_explanation u told))
+-- the octets are the encoding of a value that meets the constraint, and the handle then holds no octets
+abbrev pub HoldsNothing : List ℕ → Option Object → Ruling → Constrained → Type 0
+HoldsNothing o new r t =
+    (held_octets new ≡ Some []) × (d : Datum) × IsEncodingUnder r t.shape t.constraint d o
 
-abbrev pub TellsExplanation : Unit → List ℕ → Option Object → Option Object → Ruling → Shape → Fault → Type 0
+-- the handle then holds the text of what a decoder tells of the octets
+pub record HoldsExplanation (u : Unit) (o : List ℕ) (new : Option Object) (r : Ruling) (t : Constrained) : Type 0 where
+  pub explained : Explanation
+  pub held : held_octets new ≡ Some (text_in (name_of_unit u) (string_bytes explained.path) explained.fault)
+  pub told : DecodedUnder r t.constraint (Err (under.Type explained.fault)) t.shape o
+  pub not_memory : explained.fault ≡ decode.Memory → ⊥
+
+-- the handle then holds words about how their value breaks the constraint
+pub record HoldsBroken (o : List ℕ) (new : Option Object) (r : Ruling) (t : Constrained) : Type 0 where
+  pub words : List ℕ
+  pub held : held_octets new ≡ Some words
+  pub not_empty : words ≡ [] → ⊥
+  pub used : ℕ
+  pub broken : Broken
+  pub told : DecodedUnder r t.constraint (Err (under.Broken used broken)) t.shape o
+
+abbrev pub IsExplained : Unit → List ℕ → Option Object → Ruling → Constrained → Type 0
+IsExplained u o new r t = HoldsNothing o new r t ⊎ HoldsExplanation u o new r t ⊎ HoldsBroken o new r t
+
+abbrev pub TellsExplanation : Unit → List ℕ → Option Object → Option Object → Ruling → Constrained → Fault → Type 0
 TellsExplanation u o old new r t fault =
-    ((fault ≡ done) × HoldsExplanation u o new r t) ⊎ ((fault ≡ no_memory) × (new ≡ old))
+    ((fault ≡ done) × IsExplained u o new r t) ⊎ ((fault ≡ no_memory) × (new ≡ old))

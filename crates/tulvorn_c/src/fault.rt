@@ -3,8 +3,8 @@ ghost use Rattle.std.specs.Prelude.{◌≡◌};
 ghost use Rattle.tulvorn_c.specs.Faults as faults;
 
 use tulvorn::{
-    ConvertFault, DecodeFault, EncodeFault, EncodeIntoFault, FeedFault, JsonFault, LengthFault,
-    ModuleFault, NewerFault, Truncated, Why, WithinFault,
+    ConstrainedConvertFault, ConstrainedFault, DecodeFault, EncodeFault, EncodeIntoFault,
+    FeedFault, JsonFault, LengthFault, ModuleFault, NewerFault, Truncated, Unit, Why, WithinFault,
 };
 
 /// The call did what it was asked for.
@@ -41,7 +41,7 @@ const NO_MODULE: u32 = 9;
 pub(crate) const NO_NAME: u32 = 10;
 
 /// The value does not fit the type.
-const NOT_OF_TYPE: u32 = 11;
+pub(crate) const NOT_OF_TYPE: u32 = 11;
 
 /// The text is no JSON, or has what is not read: half of a surrogate pair, a number past 1e308, more than 127 levels.
 pub(crate) const NO_JSON: u32 = 12;
@@ -55,7 +55,7 @@ pub(crate) const NO_PATH: u32 = 14;
 /// The part at the path is of another kind.
 pub(crate) const OTHER_KIND: u32 = 15;
 
-/// No message of any version begins so, or more octets follow one.
+/// No message of any version begins so, more octets follow one, or one breaks a constraint of spelling.
 const NO_MESSAGE: u32 = 16;
 
 /// The octets end before a message of any version does.
@@ -75,6 +75,19 @@ pub(crate) const ABSENT: u32 = 21;
 
 /// The value takes more than the budget.
 const OVER_BUDGET: u32 = 22;
+
+/// The constraint of the type has more than 1,000,000 parts, or more than 256 names that refer one to the next have
+/// one.
+pub(crate) const LARGE_CONSTRAINT: u32 = 23;
+
+/// The type has more levels than are asked for.
+pub(crate) const TOO_DEEP: u32 = 24;
+
+/// The reason of a refusal where the value breaks the constraint of its type: the one after those of `Why`.
+const WHY_CONSTRAINT: u32 = 8;
+
+/// The reason of a text where a line of a constraint is none of its type: the one after those of `ModuleFault`.
+const WHY_BAD_CONSTRAINT: u32 = 9;
 
 /// What a call answered: a code, and, as the code says, a reason and a place.
 #[repr(C)]
@@ -112,6 +125,39 @@ impl Fault {
             code: REFUSED,
             why: why as u32,
             at,
+        }
+    }
+
+    /// The refusal of a value that breaks its constraint, at the last unit of its encoding.
+    pub(crate) fn broken(octets: u64, unit: Unit) -> Fault
+        ensures { result ≡ faults.broken_after unit octets }
+    {
+        let at = match unit {
+            Unit::Bit => octets.saturating_mul(8),
+            Unit::Octet => octets,
+        };
+        Fault {
+            code: REFUSED,
+            why: WHY_CONSTRAINT,
+            at,
+        }
+    }
+
+    /// The end of a session whose value, with an encoding of so many octets, breaks its constraint.
+    pub(crate) fn cut_before(octets: u64, unit: Unit) -> Fault
+        ensures { result ≡ faults.cut_before unit octets }
+    {
+        let broken = Fault::broken(octets, unit);
+        Fault::placed(TRUNCATED, broken.at.saturating_sub(1))
+    }
+
+    /// Of octets that are decoded under a constraint, their places counted in this unit.
+    pub(crate) fn of_constrained(fault: &ConstrainedFault, unit: Unit) -> Fault
+        ensures { result ≡ faults.of_constrained unit fault.now }
+    {
+        match fault {
+            ConstrainedFault::Type(fault) => Fault::of_decode(*fault),
+            ConstrainedFault::Broken { used, .. } => Fault::broken(*used as u64, unit),
         }
     }
 
@@ -166,13 +212,13 @@ impl Fault {
         }
     }
 
-    pub(crate) fn of_convert(fault: ConvertFault) -> Fault
-        ensures { result ≡ faults.of_convert fault }
+    pub(crate) fn of_converted(fault: &ConstrainedConvertFault, unit: Unit) -> Fault
+        ensures { result ≡ faults.of_converted unit fault.now }
     {
         match fault {
-            ConvertFault::Read(fault) => Fault::of_decode(fault),
-            ConvertFault::TooLong => Fault::plain(TOO_LONG),
-            ConvertFault::Memory => Fault::plain(NO_MEMORY),
+            ConstrainedConvertFault::Read(fault) => Fault::of_constrained(fault, unit),
+            ConstrainedConvertFault::TooLong => Fault::plain(TOO_LONG),
+            ConstrainedConvertFault::Memory => Fault::plain(NO_MEMORY),
         }
     }
 
@@ -219,6 +265,17 @@ impl Fault {
         }
     }
 
+    /// A line of a constraint in the text of a module is none of its type.
+    pub(crate) fn bad_constraint() -> Fault
+        ensures { result ≡ faults.bad_constraint }
+    {
+        Fault {
+            code: NO_MODULE,
+            why: WHY_BAD_CONSTRAINT,
+            at: 0,
+        }
+    }
+
     /// `why` is the number of the fault in the order of `ModuleFault`, from 1, and `at` an octet of the text, counted
     /// from 0, where the fault tells one.
     pub(crate) fn of_module(fault: &ModuleFault) -> Fault
@@ -232,6 +289,7 @@ impl Fault {
             ModuleFault::Twice { .. } => (5, 0),
             ModuleFault::BadType { .. } => (6, 0),
             ModuleFault::OutOfProfile { at } => (7, *at),
+            ModuleFault::TooLarge { .. } => (8, 0),
             ModuleFault::Memory => return Fault::plain(NO_MEMORY),
         };
         Fault {

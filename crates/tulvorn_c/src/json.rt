@@ -8,10 +8,11 @@ ghost use Rattle.asn_view.specs.Typed.{typed};
 ghost use Rattle.asn_json.specs.Written.{json_of, Unwritten};
 ghost use Rattle.asn_json.specs.Errors.{Refused};
 ghost use Rattle.tulvorn_c.specs.Answers.{Asked, WritesJson, ReadsJson, HoldsShown};
-ghost use Rattle.tulvorn_c.specs.Held.{held_type, held_value, held_octets};
+ghost use Rattle.tulvorn_c.specs.Held.{constrained_of, held_constrained, held_value, held_octets};
 
 use crate::fault::{DONE, Fault, MISUSE, NO_JSON, NO_MEMORY, SHAPE};
 use crate::handle::Handle;
+use crate::held::HeldType;
 use crate::object::Object;
 use crate::shown::Shown;
 use serde_json::Value as Json;
@@ -35,7 +36,7 @@ pub extern "C" fn tulvorn_to_json(
         return MISUSE;
     };
     *fault = match it {
-        Object::Value { ty, value } => write_json(alloc, ty, value, json),
+        Object::Value { ty, value } => write_json(alloc, &ty.checked, value, json),
         _ => Fault::plain(MISUSE),
     };
     fault.code
@@ -85,7 +86,7 @@ pub extern "C" fn tulvorn_from_json(
     value: &mut Handle,
     fault: &mut Fault,
 ) -> u32
-    ensures told { Asked (held_type ty.now.kept) (value.new.kept ≡ value.old.kept)
+    ensures told { Asked (held_constrained ty.now.kept) (value.new.kept ≡ value.old.kept)
         (ReadsJson json.now value.old.kept value.new.kept) fault.new }
     ensures code { result ≡ fault.new.code }
 {
@@ -100,8 +101,8 @@ pub extern "C" fn tulvorn_from_json(
     fault.code
 }
 
-fn read_json(alloc: Global, ty: &Checked, text: &[u8], out: &mut Handle) -> Fault
-    ensures { ReadsJson text.now out.old.kept out.new.kept (shape_of ty.now) result }
+fn read_json(alloc: Global, ty: &HeldType, text: &[u8], out: &mut Handle) -> Fault
+    ensures { ReadsJson text.now out.old.kept out.new.kept (constrained_of ty.now) result }
 {
     match json_in(alloc, text) {
         Ok(json) => match put_shown(alloc, ty, &json, out) {
@@ -114,13 +115,13 @@ fn read_json(alloc: Global, ty: &Checked, text: &[u8], out: &mut Handle) -> Faul
     }
 }
 
-/// Puts the value that the JSON shows, beside its type, into the handle.
-fn put_shown(alloc: Global, ty: &Checked, json: &Json, out: &mut Handle) -> Result<(), JsonFault>
-    ensures shown { IfOk result (λ _. HoldsShown (shape_of ty.now) (view json.now) out.new.kept) }
-    ensures refused { IfErr result (λ why. Refused (shape_of ty.now) (view json.now) why) }
+/// Puts the value that the JSON shows into the handle, with its type. No constraint is judged.
+fn put_shown(alloc: Global, ty: &HeldType, json: &Json, out: &mut Handle) -> Result<(), JsonFault>
+    ensures shown { IfOk result (λ _. HoldsShown (constrained_of ty.now) (view json.now) out.new.kept) }
+    ensures refused { IfErr result (λ why. Refused (constrained_of ty.now).shape (view json.now) why) }
     ensures stays { IfErr result (λ _. out.new.kept ≡ out.old.kept) }
 {
-    let value = from_json(alloc, ty, json)?;
+    let value = from_json(alloc, &ty.checked, json)?;
     let ty = ty.copy()?;
     out.put(alloc, Object::Value { ty, value })?;
     Ok(())

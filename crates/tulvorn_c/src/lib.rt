@@ -3,10 +3,14 @@
 //! `bindings/c/tulvorn.h`.
 #![tactic(auto)]
 
+mod conversions;
+mod differences;
 mod explain;
 mod fault;
 mod handle;
+mod held;
 mod json;
+mod levels;
 mod loose;
 mod messages;
 mod misfits;
@@ -17,6 +21,7 @@ mod octets;
 mod part_octets;
 mod parts;
 mod paths;
+mod pieces;
 mod sessions;
 mod shown;
 mod within;

@@ -1,13 +1,12 @@
 //! Messages: octets and values.
-ghost use Rattle.std.specs.Prelude.{◌≡◌, ℕ, List, IfOk, IfErr, Ok, Err, None, Some, ⊤};
-ghost use Rattle.asn_values.specs.View.{shape_of, datum_of};
-ghost use Rattle.asn_view.specs.Typed.{typed};
-ghost use Rattle.asn_rules.specs.Codec.{Decoded, NotEncoded};
-ghost use Rattle.asn_convert.specs.Converted.{Converted, Converts};
+ghost use Rattle.std.specs.Prelude.{◌≡◌, ◌≤◌, vec_len, IfOk, IfErr, OnOk, Ok, Err, None, Some, ⊤};
+ghost use Rattle.asn_values.specs.Datum.{Datum};
+ghost use Rattle.asn_values.specs.View.{datum_of};
+ghost use Rattle.asn_rules.specs.Answer.{max_octets};
+ghost use Rattle.asn_constrained.specs.Under.{IsEncodingUnder, NotEncodedUnder, DecodedUnder};
 ghost use Rattle.tulvorn_c.specs.Answers.{
   AskedBy,
   ruling_of,
-  other_ruling_of,
   Checks,
   Decodes,
   HoldsDecoded,
@@ -15,21 +14,20 @@ ghost use Rattle.tulvorn_c.specs.Answers.{
   HoldsEncoding,
   Measures,
   Places,
-  ConvertsTo,
-  ConvertsExactly,
-  HoldsConverted,
 };
-ghost use Rattle.tulvorn_c.specs.Faults.{no_memory, of_convert};
-ghost use Rattle.tulvorn_c.specs.Held.{held_type, held_value, held_octets};
+ghost use Rattle.tulvorn_c.specs.Held.{constrained_of, value_of, held_constrained, held_valued};
+ghost use Rattle.tulvorn_c.specs.Words.{unit_in};
 
-use crate::fault::{DONE, Fault, MISUSE};
+use crate::fault::{DONE, Fault, MISUSE, NOT_OF_TYPE};
 use crate::handle::Handle;
+use crate::held::HeldType;
 use crate::object::Object;
+use crate::sessions::put_value;
 use crate::shown::Shown;
 use std::alloc::Global;
 use tulvorn::{
-    Checked, ConvertFault, DecodeFault, EncodeFault, Oer, Per, PlanRules, Rules, Value, check,
-    convert, decode, encode, encode_into, encoded_len,
+    ConstrainedFault, Constraint, DecodeFault, EncodeFault, Oer, Per, PlanRules, Rules, Unit,
+    Value, check, decode, decode_under, encode_into, encode_under, encoded_len,
 };
 
 /// Whether the octets are the encoding of a value of the type: see `tulvorn::check`.
@@ -41,7 +39,8 @@ pub extern "C" fn tulvorn_check(
     octets: &[u8],
     fault: &mut Fault,
 ) -> u32
-    ensures told { AskedBy (held_type ty.now.kept) (ruling_of rules) ⊤ (Checks octets.now) fault.new }
+    ensures told { AskedBy (held_constrained ty.now.kept) (ruling_of rules) ⊤
+        (Checks (unit_in rules) octets.now) fault.new }
     ensures code { result ≡ fault.new.code }
 {
     let Some(it) = ty.object() else {
@@ -49,9 +48,9 @@ pub extern "C" fn tulvorn_check(
         return MISUSE;
     };
     *fault = match it {
-        Object::Checked(checked) => match rules {
-            0 => check_by::<Per>(alloc, checked, octets),
-            1 => check_by::<Oer>(alloc, checked, octets),
+        Object::Checked(ty) => match rules {
+            0 => check_by::<Per>(alloc, ty, octets, Unit::Bit),
+            1 => check_by::<Oer>(alloc, ty, octets, Unit::Octet),
             _ => Fault::plain(MISUSE),
         },
         _ => Fault::plain(MISUSE),
@@ -59,12 +58,36 @@ pub extern "C" fn tulvorn_check(
     fault.code
 }
 
-fn check_by<R: PlanRules>(alloc: Global, ty: &Checked, octets: &[u8]) -> Fault
-    ensures { Checks octets.now R.ruling (shape_of ty.now) result }
+fn check_by<R: PlanRules>(alloc: Global, ty: &HeldType, octets: &[u8], unit: Unit) -> Fault
+    ensures { Checks unit octets.now R.ruling (constrained_of ty.now) result }
 {
-    match check::<R>(alloc, ty, octets) {
+    match checked::<R>(alloc, ty, octets) {
         Ok(()) => Fault::plain(DONE),
-        Err(fault) => Fault::of_decode(fault),
+        Err(fault) => Fault::of_constrained(&fault, unit),
+    }
+}
+
+/// Whether the octets are the encoding of a value that meets the constraint. A value is built only to judge it.
+#[tactic(auto, using(crate::proofs::Free::free_fault))]
+fn checked<R: PlanRules>(
+    alloc: Global,
+    ty: &HeldType,
+    octets: &[u8],
+) -> Result<(), ConstrainedFault>
+    ensures done { OnOk result ((d : Datum) × IsEncodingUnder R.ruling (constrained_of ty.now).shape
+        (constrained_of ty.now).constraint d octets.now) }
+    ensures fault { IfErr result (λ why. DecodedUnder R.ruling (constrained_of ty.now).constraint (Err why)
+        (constrained_of ty.now).shape octets.now) }
+{
+    let Some(constraint) = &ty.constraint else {
+        return match check::<R>(alloc, &ty.checked, octets) {
+            Ok(()) => Ok(()),
+            Err(fault) => Err(ConstrainedFault::Type(fault)),
+        };
+    };
+    match decode_under::<R>(alloc, &ty.checked, constraint, octets) {
+        Ok(_) => Ok(()),
+        Err(fault) => Err(fault),
     }
 }
 
@@ -78,8 +101,8 @@ pub extern "C" fn tulvorn_decode(
     value: &mut Handle,
     fault: &mut Fault,
 ) -> u32
-    ensures told { AskedBy (held_type ty.now.kept) (ruling_of rules) (value.new.kept ≡ value.old.kept)
-        (Decodes octets.now value.old.kept value.new.kept) fault.new }
+    ensures told { AskedBy (held_constrained ty.now.kept) (ruling_of rules) (value.new.kept ≡ value.old.kept)
+        (Decodes (unit_in rules) octets.now value.old.kept value.new.kept) fault.new }
     ensures code { result ≡ fault.new.code }
 {
     let Some(it) = ty.object() else {
@@ -88,8 +111,8 @@ pub extern "C" fn tulvorn_decode(
     };
     *fault = match it {
         Object::Checked(ty) => match rules {
-            0 => decode_by::<Per>(alloc, ty, octets, value),
-            1 => decode_by::<Oer>(alloc, ty, octets, value),
+            0 => decode_by::<Per>(alloc, ty, octets, Unit::Bit, value),
+            1 => decode_by::<Oer>(alloc, ty, octets, Unit::Octet, value),
             _ => Fault::plain(MISUSE),
         },
         _ => Fault::plain(MISUSE),
@@ -97,30 +120,56 @@ pub extern "C" fn tulvorn_decode(
     fault.code
 }
 
-fn decode_by<R: Rules>(alloc: Global, ty: &Checked, octets: &[u8], out: &mut Handle) -> Fault
-    ensures { Decodes octets.now out.old.kept out.new.kept R.ruling (shape_of ty.now) result }
+fn decode_by<R: Rules>(
+    alloc: Global,
+    ty: &HeldType,
+    octets: &[u8],
+    unit: Unit,
+    out: &mut Handle,
+) -> Fault
+    ensures { Decodes unit octets.now out.old.kept out.new.kept R.ruling (constrained_of ty.now) result }
 {
     match put_decoded::<R>(alloc, ty, octets, out) {
         Ok(()) => Fault::plain(DONE),
-        Err(fault) => Fault::of_decode(fault),
+        Err(fault) => Fault::of_constrained(&fault, unit),
     }
 }
 
-/// Puts the value, beside its type, into the handle.
+/// Puts the value with its type into the handle.
 fn put_decoded<R: Rules>(
     alloc: Global,
-    ty: &Checked,
+    ty: &HeldType,
     octets: &[u8],
     out: &mut Handle,
-) -> Result<(), DecodeFault>
-    ensures decoded { IfOk result (λ _. HoldsDecoded R.ruling (shape_of ty.now) octets.now out.new.kept) }
-    ensures fault { IfErr result (λ why. Decoded R.ruling (Err why) (shape_of ty.now) octets.now) }
+) -> Result<(), ConstrainedFault>
+    ensures decoded { IfOk result (λ _. HoldsDecoded R.ruling (constrained_of ty.now) octets.now out.new.kept) }
+    ensures fault { IfErr result (λ why. DecodedUnder R.ruling (constrained_of ty.now).constraint (Err why)
+        (constrained_of ty.now).shape octets.now) }
     ensures stays { IfErr result (λ _. out.new.kept ≡ out.old.kept) }
 {
-    let value = decode::<R>(alloc, ty, octets)?;
-    let ty = ty.copy()?;
-    out.put(alloc, Object::Value { ty, value })?;
-    Ok(())
+    let value = decoded::<R>(alloc, ty, octets)?;
+    match put_value(alloc, ty, value, out) {
+        Ok(()) => Ok(()),
+        Err(_) => Err(ConstrainedFault::Type(DecodeFault::Memory)),
+    }
+}
+
+/// The value whose encoding the octets are, if it meets the constraint.
+#[tactic(auto, using(crate::proofs::Free::free_value, crate::proofs::Free::free_fault))]
+pub(crate) fn decoded<R: Rules>(
+    alloc: Global,
+    ty: &HeldType,
+    octets: &[u8],
+) -> Result<Value, ConstrainedFault>
+    ensures { DecodedUnder R.ruling (constrained_of ty.now).constraint result (constrained_of ty.now).shape octets.now }
+{
+    let Some(constraint) = &ty.constraint else {
+        return match decode::<R>(alloc, &ty.checked, octets) {
+            Ok(value) => Ok(value),
+            Err(fault) => Err(ConstrainedFault::Type(fault)),
+        };
+    };
+    decode_under::<R>(alloc, &ty.checked, constraint, octets)
 }
 
 /// The encoding of a value: see `tulvorn::encode`.
@@ -132,7 +181,7 @@ pub extern "C" fn tulvorn_encode(
     octets: &mut Handle,
     fault: &mut Fault,
 ) -> u32
-    ensures told { AskedBy (held_value value.now.kept) (ruling_of rules) (octets.new.kept ≡ octets.old.kept)
+    ensures told { AskedBy (held_valued value.now.kept) (ruling_of rules) (octets.new.kept ≡ octets.old.kept)
         (Encodes octets.old.kept octets.new.kept) fault.new }
     ensures code { result ≡ fault.new.code }
 {
@@ -151,8 +200,9 @@ pub extern "C" fn tulvorn_encode(
     fault.code
 }
 
-fn encode_by<R: Rules>(alloc: Global, ty: &Checked, value: &Value, out: &mut Handle) -> Fault
-    ensures { Encodes out.old.kept out.new.kept R.ruling (typed (shape_of ty.now) (datum_of value.now)) result }
+fn encode_by<R: Rules>(alloc: Global, ty: &HeldType, value: &Value, out: &mut Handle) -> Fault
+    ensures { Encodes out.old.kept out.new.kept R.ruling (value_of (constrained_of ty.now) (datum_of value.now))
+        result }
 {
     match put_encoded::<R>(alloc, ty, value, out) {
         Ok(()) => Fault::plain(DONE),
@@ -163,18 +213,33 @@ fn encode_by<R: Rules>(alloc: Global, ty: &Checked, value: &Value, out: &mut Han
 /// Puts the encoding into the handle.
 fn put_encoded<R: Rules>(
     alloc: Global,
-    ty: &Checked,
+    ty: &HeldType,
     value: &Value,
     out: &mut Handle,
 ) -> Result<(), EncodeFault>
     ensures encoding { IfOk result (λ _.
-        HoldsEncoding R.ruling (typed (shape_of ty.now) (datum_of value.now)) out.new.kept) }
-    ensures fault { IfErr result (λ why. NotEncoded R.ruling why (shape_of ty.now) (datum_of value.now)) }
+        HoldsEncoding R.ruling (value_of (constrained_of ty.now) (datum_of value.now)) out.new.kept) }
+    ensures fault { IfErr result (λ why. NotEncodedUnder R.ruling why (constrained_of ty.now).shape
+        (constrained_of ty.now).constraint (datum_of value.now)) }
     ensures stays { IfErr result (λ _. out.new.kept ≡ out.old.kept) }
 {
-    let octets = encode::<R>(alloc, ty, value)?;
+    let octets = encoded::<R>(alloc, ty, value)?;
     out.put_octets(alloc, octets)?;
     Ok(())
+}
+
+/// The encoding of the value, if it meets the constraint.
+fn encoded<R: Rules>(alloc: Global, ty: &HeldType, value: &Value) -> Result<Vec<u8>, EncodeFault>
+    ensures encoding { IfOk result (λ o. IsEncodingUnder R.ruling (constrained_of ty.now).shape
+        (constrained_of ty.now).constraint (datum_of value.now) o.items) }
+    ensures within { IfOk result (λ o. vec_len o ≤ max_octets) }
+    ensures fault { IfErr result (λ why. NotEncodedUnder R.ruling why (constrained_of ty.now).shape
+        (constrained_of ty.now).constraint (datum_of value.now)) }
+{
+    match &ty.constraint {
+        None => encode_under::<R>(alloc, &ty.checked, &Constraint::Free, value),
+        Some(constraint) => encode_under::<R>(alloc, &ty.checked, constraint, value),
+    }
 }
 
 /// How many octets the encoding of a value has: see `tulvorn::encoded_len`. Takes no memory.
@@ -185,7 +250,7 @@ pub extern "C" fn tulvorn_encoded_len(
     len: &mut usize,
     fault: &mut Fault,
 ) -> u32
-    ensures told { AskedBy (held_value value.now.kept) (ruling_of rules) (len.new ≡ len.old)
+    ensures told { AskedBy (held_valued value.now.kept) (ruling_of rules) (len.new ≡ len.old)
         (Measures len.old len.new) fault.new }
     ensures code { result ≡ fault.new.code }
 {
@@ -204,10 +269,14 @@ pub extern "C" fn tulvorn_encoded_len(
     fault.code
 }
 
-fn measure_by<R: Rules>(ty: &Checked, value: &Value, len: &mut usize) -> Fault
-    ensures { Measures len.old len.new R.ruling (typed (shape_of ty.now) (datum_of value.now)) result }
+#[tactic(auto, using(crate::proofs::Free::unmeasured))]
+fn measure_by<R: Rules>(ty: &HeldType, value: &Value, len: &mut usize) -> Fault
+    ensures { Measures len.old len.new R.ruling (value_of (constrained_of ty.now) (datum_of value.now)) result }
 {
-    match encoded_len::<R>(ty, value) {
+    if !ty.admits(value) {
+        return Fault::plain(NOT_OF_TYPE);
+    }
+    match encoded_len::<R>(&ty.checked, value) {
         Ok(measured) => {
             *len = measured;
             Fault::plain(DONE)
@@ -225,7 +294,7 @@ pub extern "C" fn tulvorn_encode_into(
     len: &mut usize,
     fault: &mut Fault,
 ) -> u32
-    ensures told { AskedBy (held_value value.now.kept) (ruling_of rules)
+    ensures told { AskedBy (held_valued value.now.kept) (ruling_of rules)
         ((into.new ≡ into.old) × (len.new ≡ len.old)) (Places into.old into.new len.old len.new) fault.new }
     ensures code { result ≡ fault.new.code }
 {
@@ -244,83 +313,19 @@ pub extern "C" fn tulvorn_encode_into(
     fault.code
 }
 
-fn place_by<R: Rules>(ty: &Checked, value: &Value, into: &mut [u8], len: &mut usize) -> Fault
-    ensures { Places into.old into.new len.old len.new R.ruling (typed (shape_of ty.now) (datum_of value.now)) result }
+#[tactic(auto, using(crate::proofs::Free::unplaced))]
+fn place_by<R: Rules>(ty: &HeldType, value: &Value, into: &mut [u8], len: &mut usize) -> Fault
+    ensures { Places into.old into.new len.old len.new R.ruling
+        (value_of (constrained_of ty.now) (datum_of value.now)) result }
 {
-    match encode_into::<R>(ty, value, into) {
+    if !ty.admits(value) {
+        return Fault::plain(NOT_OF_TYPE);
+    }
+    match encode_into::<R>(&ty.checked, value, into) {
         Ok(placed) => {
             *len = placed;
             Fault::plain(DONE)
         }
         Err(fault) => Fault::of_encode_into(fault),
-    }
-}
-
-/// The octets by the other rules of the value whose encoding these are: see `tulvorn::convert`.
-#[unsafe(no_mangle)]
-pub extern "C" fn tulvorn_convert(
-    alloc: Global,
-    ty: &Shown,
-    rules: u32,
-    octets: &[u8],
-    other: &mut Handle,
-    fault: &mut Fault,
-) -> u32
-    ensures told { AskedBy (held_type ty.now.kept) (ruling_of rules) (other.new.kept ≡ other.old.kept)
-        (ConvertsTo (other_ruling_of rules) octets.now other.old.kept other.new.kept) fault.new }
-    ensures exact { AskedBy (held_type ty.now.kept) (ruling_of rules) ⊤
-        (ConvertsExactly (other_ruling_of rules) octets.now other.new.kept) fault.new }
-    ensures code { result ≡ fault.new.code }
-{
-    let Some(it) = ty.object() else {
-        *fault = Fault::plain(MISUSE);
-        return MISUSE;
-    };
-    *fault = match it {
-        Object::Checked(ty) => match rules {
-            0 => convert_by::<Per, Oer>(alloc, ty, octets, other),
-            1 => convert_by::<Oer, Per>(alloc, ty, octets, other),
-            _ => Fault::plain(MISUSE),
-        },
-        _ => Fault::plain(MISUSE),
-    };
-    fault.code
-}
-
-fn convert_by<A: Rules, B: Rules>(
-    alloc: Global,
-    ty: &Checked,
-    octets: &[u8],
-    out: &mut Handle,
-) -> Fault
-    ensures told { ConvertsTo B.ruling octets.now out.old.kept out.new.kept A.ruling (shape_of ty.now) result }
-    ensures exact { ConvertsExactly B.ruling octets.now out.new.kept A.ruling (shape_of ty.now) result }
-{
-    match put_converted::<A, B>(alloc, ty, octets, out) {
-        Ok(()) => Fault::plain(DONE),
-        Err(fault) => Fault::of_convert(fault),
-    }
-}
-
-/// Puts the octets by the rules B into the handle.
-fn put_converted<A: Rules, B: Rules>(
-    alloc: Global,
-    ty: &Checked,
-    octets: &[u8],
-    out: &mut Handle,
-) -> Result<(), ConvertFault>
-    ensures converted { IfOk result (λ _.
-        HoldsConverted A.ruling B.ruling (shape_of ty.now) octets.now out.new.kept) }
-    ensures exact { IfOk result (λ _. (p : List ℕ) → Converts A.ruling B.ruling (shape_of ty.now) octets.now p
-        → held_octets out.new.kept ≡ Some p) }
-    ensures fault { IfErr result (λ why. Converted A.ruling B.ruling (Err why) (shape_of ty.now) octets.now) }
-    ensures memory { IfErr result (λ why. (p : List ℕ) → Converts A.ruling B.ruling (shape_of ty.now) octets.now p
-        → of_convert why ≡ no_memory) }
-    ensures stays { IfErr result (λ _. out.new.kept ≡ out.old.kept) }
-{
-    let other = convert::<A, B>(alloc, ty, octets)?;
-    match out.put_octets(alloc, other) {
-        Ok(()) => Ok(()),
-        Err(_) => Err(ConvertFault::Read(DecodeFault::Memory)),
     }
 }

@@ -1,10 +1,11 @@
 //! Where a value or JSON is none of a type.
-ghost use Rattle.std.specs.Prelude.{◌≡◌, ◌⊎◌, ◌↔◌, [], IfOk, IfErr, IsNone, string_bytes};
+ghost use Rattle.std.specs.Prelude.{◌≡◌, ◌⊎◌, ◌↔◌, [], IfOk, IfErr, IsNone, is_none, string_bytes};
 ghost use Rattle.serde_json.specs.View.{view};
 ghost use Rattle.asn_values.specs.View.{shape_of, datum_of};
+ghost use Rattle.asn_constraints.specs.Constraints.{meets};
 ghost use Rattle.tulvorn_c.specs.Answers.{Asked};
 ghost use Rattle.tulvorn_c.specs.Faults.{plain};
-ghost use Rattle.tulvorn_c.specs.Held.{held_type, held_value};
+ghost use Rattle.tulvorn_c.specs.Held.{constrained_of, held_constrained, held_type, held_value};
 ghost use Rattle.tulvorn_c.specs.Misfits.{
   AskedOf,
   TellsMisfit,
@@ -18,14 +19,18 @@ ghost use Rattle.tulvorn_c.specs.Misfits.{
 
 use crate::fault::{DONE, MISUSE, NO_JSON, NO_MEMORY};
 use crate::handle::Handle;
+use crate::held::HeldType;
 use crate::object::Object;
 use crate::shown::Shown;
 use serde_json::Value as Json;
 use std::alloc::{AllocError, Global};
-use tulvorn::{Checked, JsonFault, TextFault, Value, WrongPart, from_json, json_in, misfit};
+use tulvorn::{
+    Checked, JsonFault, TextFault, Value, WrongPart, broken_part, from_json, json_in, judge_at,
+    misfit,
+};
 
-/// Puts into `words` the first part of the value that does not fit the type, and why; no octets where the value fits:
-/// see `tulvorn::misfit`.
+/// Puts into `words` the first part of the value that does not fit the type or breaks its constraint, and why; no octets
+/// if the value fits: see `tulvorn::misfit` and `tulvorn::judge_at`.
 #[unsafe(no_mangle)]
 pub extern "C" fn tulvorn_misfit(
     alloc: Global,
@@ -33,7 +38,7 @@ pub extern "C" fn tulvorn_misfit(
     value: &Shown,
     words: &mut Handle,
 ) -> u32
-    ensures told { AskedOf (held_type ty.now.kept) (held_value value.now.kept) (words.new.kept ≡ words.old.kept)
+    ensures told { AskedOf (held_constrained ty.now.kept) (held_value value.now.kept) (words.new.kept ≡ words.old.kept)
         (λ t v. TellsMisfit words.old.kept words.new.kept t v.datum) (plain result) }
 {
     let Some(it) = ty.object() else {
@@ -46,9 +51,9 @@ pub extern "C" fn tulvorn_misfit(
 }
 
 /// The same of the value that a handle holds.
-fn misfit_in(alloc: Global, ty: &Checked, value: &Shown, words: &mut Handle) -> u32
+fn misfit_in(alloc: Global, ty: &HeldType, value: &Shown, words: &mut Handle) -> u32
     ensures told { Asked (held_value value.now.kept) (words.new.kept ≡ words.old.kept)
-        (λ v. TellsMisfit words.old.kept words.new.kept (shape_of ty.now) v.datum) (plain result) }
+        (λ v. TellsMisfit words.old.kept words.new.kept (constrained_of ty.now) v.datum) (plain result) }
 {
     let Some(it) = value.object() else {
         return MISUSE;
@@ -59,8 +64,8 @@ fn misfit_in(alloc: Global, ty: &Checked, value: &Shown, words: &mut Handle) -> 
     }
 }
 
-fn misfit_of(alloc: Global, ty: &Checked, value: &Value, out: &mut Handle) -> u32
-    ensures { TellsMisfit out.old.kept out.new.kept (shape_of ty.now) (datum_of value.now) (plain result) }
+fn misfit_of(alloc: Global, ty: &HeldType, value: &Value, out: &mut Handle) -> u32
+    ensures { TellsMisfit out.old.kept out.new.kept (constrained_of ty.now) (datum_of value.now) (plain result) }
 {
     match misfit_held(alloc, ty, value) {
         Ok(held) => {
@@ -72,12 +77,28 @@ fn misfit_of(alloc: Global, ty: &Checked, value: &Value, out: &mut Handle) -> u3
 }
 
 /// A handle of the text.
-fn misfit_held(alloc: Global, ty: &Checked, value: &Value) -> Result<Handle, AllocError>
-    ensures { IfOk result (λ h. HoldsMisfit (shape_of ty.now) (datum_of value.now) h.kept) }
+fn misfit_held(alloc: Global, ty: &HeldType, value: &Value) -> Result<Handle, AllocError>
+    ensures { IfOk result (λ h. HoldsMisfit (constrained_of ty.now) (datum_of value.now) h.kept) }
 {
-    let found = misfit(alloc, ty, value)?;
+    let found = match misfit(alloc, &ty.checked, value)? {
+        Some(wrong) => Some(wrong),
+        None => broken_in(alloc, ty, value)?,
+    };
     let words = wrong_words(alloc, &found)?;
     Handle::holding(alloc, Object::Octets(words.into_bytes()))
+}
+
+/// The part in which the value breaks the constraint.
+fn broken_in(alloc: Global, ty: &HeldType, value: &Value) -> Result<Option<WrongPart>, AllocError>
+    ensures { IfOk result (λ found. is_none found ≡ meets (constrained_of ty.now).constraint (datum_of value.now)) }
+{
+    let Some(constraint) = &ty.constraint else {
+        return Ok(None);
+    };
+    match judge_at(alloc, constraint, value)? {
+        Some(broken) => Ok(Some(broken_part(alloc, &ty.checked, &broken)?)),
+        None => Ok(None),
+    }
 }
 
 /// The text of what is found.
@@ -113,7 +134,7 @@ pub extern "C" fn tulvorn_explain_json(
         return MISUSE;
     };
     match it {
-        Object::Checked(ty) => explain_json(alloc, ty, json, words),
+        Object::Checked(ty) => explain_json(alloc, &ty.checked, json, words),
         _ => MISUSE,
     }
 }

@@ -1,6 +1,8 @@
 //! Modules and their types.
 ghost use Rattle.std.specs.Prelude.{◌≡◌, ◌⊎◌, [], IfOk, IfErr, Some, string_bytes};
 ghost use Rattle.asn_values.specs.View.{shape_of};
+ghost use Rattle.asn_constraints.specs.View.{constraint_of};
+ghost use Rattle.asn_module.specs.Accepted.{Accepted};
 ghost use Rattle.asn_module.specs.ModuleView.{types_view};
 ghost use Rattle.tulvorn_c.specs.Answers.{
   Asked,
@@ -10,23 +12,30 @@ ghost use Rattle.tulvorn_c.specs.Answers.{
   TellsText,
   HoldsNoRefusal,
   HoldsRefusal,
+  HoldsBadLine,
   FindsName,
   FindsType,
   SharesType,
   IsModuleRead,
+  IsNoModule,
 };
-ghost use Rattle.tulvorn_c.specs.Held.{held_module, held_type};
-ghost use Rattle.tulvorn_c.specs.Faults.{plain};
-ghost use Rattle.asn_module.specs.Accepted.{Accepted, ModuleTypes};
+ghost use Rattle.tulvorn_c.specs.Faults.{plain, no_memory, bad_constraint};
+ghost use Rattle.tulvorn_c.specs.Held.{constrained_of, held_module, held_constrained};
+ghost use Rattle.tulvorn_c.specs.Misfits.{HoldsWords};
 
-use crate::fault::{DONE, Fault, MISUSE, NO_MEMORY, NO_NAME, NOT_TEXT};
+use crate::fault::{DONE, Fault, LARGE_CONSTRAINT, MISUSE, NO_MEMORY, NO_NAME, NOT_TEXT};
 use crate::handle::Handle;
+use crate::held::HeldType;
 use crate::object::Object;
 use crate::shown::Shown;
 use std::alloc::{AllocError, Global};
-use tulvorn::{Checked, Module, ModuleFault, RefusedText, read, read_explained};
+use std::sync::Arc;
+use tulvorn::{
+    Checked, ConstrainedModule, Constraint, Module, ModuleFault, ModuleLineFault, RefusedText,
+    WholeFault, read, read_explained,
+};
 
-/// Reads the text of a module: see `tulvorn::read`.
+/// Reads the text of a module and the lines of its constraints: see `tulvorn::read_constrained`.
 #[unsafe(no_mangle)]
 pub extern "C" fn tulvorn_module(
     alloc: Global,
@@ -60,27 +69,51 @@ fn put_module(alloc: Global, text: &str, out: &mut Handle) -> Fault
             *out = held;
             Fault::plain(DONE)
         }
-        Err(why) => Fault::of_module(&why),
+        Err(fault) => fault,
     }
 }
 
 /// A handle of the module that a text is.
-fn module_read(alloc: Global, text: &str) -> Result<Handle, ModuleFault>
+fn module_read(alloc: Global, text: &str) -> Result<Handle, Fault>
     ensures read { IfOk result (λ h. IsModuleRead text.now h.kept) }
-    ensures refused { IfErr result (λ e. (e ≡ ModuleFault.Memory → ⊥) → (m : ModuleTypes) →
-        Accepted text.now m → ⊥) }
+    ensures refused { IfErr result (IsNoModule text.now) }
 {
-    let Ok(module) = Box::new(alloc, read(alloc, text)?) else {
-        return Err(ModuleFault::Memory);
+    let module = match read(alloc, text) {
+        Ok(module) => module,
+        Err(why) => return Err(Fault::of_module(&why)),
     };
-    match Handle::holding(alloc, Object::Module(module)) {
+    let module = match ConstrainedModule::new(alloc, module, text) {
+        Ok(module) => module,
+        Err(why) => return Err(fault_of_line(&why)),
+    };
+    match module_held(alloc, module) {
         Ok(held) => Ok(held),
-        Err(_) => Err(ModuleFault::Memory),
+        Err(_) => Err(Fault::plain(NO_MEMORY)),
     }
 }
 
-/// Puts into `words` why the text is no module, with the line and a mark where that shows; no octets where it is one: see
-/// `tulvorn::read_explained`.
+/// A handle of a module.
+fn module_held(alloc: Global, types: ConstrainedModule) -> Result<Handle, AllocError>
+    ensures { IfOk result (λ h. held_module h.kept ≡ Some (types_view types.module)) }
+{
+    match Box::new(alloc, types) {
+        Ok(types) => Handle::holding(alloc, Object::Module(types)),
+        Err(_) => Err(AllocError),
+    }
+}
+
+/// The fault of the lines of constraints.
+fn fault_of_line(fault: &ModuleLineFault) -> Fault
+    ensures { (result ≡ no_memory) ⊎ (result ≡ bad_constraint) }
+{
+    match fault {
+        ModuleLineFault::Memory => Fault::plain(NO_MEMORY),
+        ModuleLineFault::Module(_) | ModuleLineFault::Line { .. } => Fault::bad_constraint(),
+    }
+}
+
+/// Puts into `words` why the text is no module, with the line and a mark where that shows, or which line of a constraint
+/// is none; no octets where the text is a module: see `tulvorn::read_explained`.
 #[unsafe(no_mangle)]
 pub extern "C" fn tulvorn_explain_module(alloc: Global, text: &[u8], words: &mut Handle) -> u32
     ensures { TellsModule text.now words.old.kept words.new.kept (plain result) }
@@ -105,13 +138,37 @@ fn explain_text(alloc: Global, text: &str, out: &mut Handle) -> u32
 
 /// A handle of why the text is no module.
 fn text_explained(alloc: Global, text: &str) -> Result<Handle, AllocError>
-    ensures { IfOk result (λ h. HoldsNoRefusal text.now h.kept ⊎ HoldsRefusal text.now h.kept) }
+    ensures { IfOk result (λ h. HoldsNoRefusal text.now h.kept ⊎ HoldsRefusal text.now h.kept
+        ⊎ HoldsBadLine text.now h.kept) }
 {
-    let Err(refused) = read_explained(alloc, text) else {
-        return Handle::holding(alloc, Object::Octets(Vec::new(alloc)));
-    };
+    match read_explained(alloc, text) {
+        Ok(module) => lines_explained(alloc, module, text),
+        Err(refused) => refusal_explained(alloc, refused),
+    }
+}
+
+/// A handle of the words of a refusal, where it is not for want of memory.
+fn refusal_explained(alloc: Global, refused: RefusedText) -> Result<Handle, AllocError>
+    ensures words { IfOk result (λ h. HoldsWords h.kept) }
+    ensures told { IfOk result (λ _. refused.fault ≡ ModuleFault.Memory → ⊥) }
+{
     let words = refusal_words(alloc, refused)?;
     Handle::holding(alloc, Object::Octets(words.into_bytes()))
+}
+
+/// A handle of which line of a constraint is none, where the text is a module; no octets where there is no such line.
+fn lines_explained(alloc: Global, types: Module, text: &str) -> Result<Handle, AllocError>
+    ensures { Accepted text.now (types_view types)
+        → IfOk result (λ h. HoldsNoRefusal text.now h.kept ⊎ HoldsBadLine text.now h.kept) }
+{
+    match ConstrainedModule::new(alloc, types, text) {
+        Ok(_) => Handle::holding(alloc, Object::Octets(Vec::new(alloc))),
+        Err(ModuleLineFault::Memory) => Err(AllocError),
+        Err(fault) => {
+            let words = some_words(alloc, format!(in alloc; "{fault}")?)?;
+            Handle::holding(alloc, Object::Octets(words.into_bytes()))
+        }
+    }
 }
 
 /// The words of a refusal.
@@ -130,7 +187,8 @@ fn refusal_words(alloc: Global, refused: RefusedText) -> Result<String, AllocErr
         | ModuleFault::Cycle { .. }
         | ModuleFault::Twice { .. }
         | ModuleFault::BadType { .. }
-        | ModuleFault::OutOfProfile { .. } => some_words(alloc, words),
+        | ModuleFault::OutOfProfile { .. }
+        | ModuleFault::TooLarge { .. } => some_words(alloc, words),
         ModuleFault::Memory => Err(AllocError),
     }
 }
@@ -171,8 +229,8 @@ pub extern "C" fn tulvorn_type(
 }
 
 /// Puts the type of the name that octets are as a text into the handle.
-fn put_type_of(alloc: Global, types: &Module, name: &[u8], out: &mut Handle) -> Fault
-    ensures { FindsType name.now out.old.kept out.new.kept (types_view types.now) result }
+fn put_type_of(alloc: Global, types: &ConstrainedModule, name: &[u8], out: &mut Handle) -> Fault
+    ensures { FindsType name.now out.old.kept out.new.kept (types_view types.now.module) result }
 {
     match std::str::from_utf8(name) {
         Ok(name) => put_type(alloc, types, name, out),
@@ -180,25 +238,58 @@ fn put_type_of(alloc: Global, types: &Module, name: &[u8], out: &mut Handle) -> 
     }
 }
 
-/// Puts the type of that name into the handle.
-fn put_type(alloc: Global, types: &Module, name: &str, out: &mut Handle) -> Fault
-    ensures { FindsName name.now out.old.kept out.new.kept (types_view types.now) result }
+/// Puts the type of that name into the handle, with its constraint.
+pub(crate) fn put_type(
+    alloc: Global,
+    types: &ConstrainedModule,
+    name: &str,
+    out: &mut Handle,
+) -> Fault
+    ensures { FindsName name.now out.old.kept out.new.kept (types_view types.now.module) result }
 {
-    match types.type_named(name) {
-        Some(ty) => match type_held(alloc, ty) {
-            Ok(held) => {
-                *out = held;
-                Fault::plain(DONE)
-            }
-            Err(_) => Fault::plain(NO_MEMORY),
-        },
-        None => Fault::plain(NO_NAME),
+    let Some(ty) = types.module.type_named(name) else {
+        return Fault::plain(NO_NAME);
+    };
+    let constraint = match types.constraint_named(alloc, name) {
+        Ok(constraint) => constraint.unwrap_or(Constraint::Free),
+        Err(WholeFault::TooLarge) => return Fault::plain(LARGE_CONSTRAINT),
+        Err(WholeFault::Memory) => return Fault::plain(NO_MEMORY),
+    };
+    match constrained_held(alloc, ty, constraint) {
+        Ok(held) => {
+            *out = held;
+            Fault::plain(DONE)
+        }
+        Err(_) => Fault::plain(NO_MEMORY),
     }
 }
 
-/// A handle of the type.
-fn type_held(alloc: Global, ty: &Checked) -> Result<Handle, AllocError>
-    ensures { IfOk result (λ h. held_type h.kept ≡ Some (shape_of ty.now)) }
+/// A handle of the type with this constraint.
+fn constrained_held(
+    alloc: Global,
+    ty: &Checked,
+    constraint: Constraint,
+) -> Result<Handle, AllocError>
+    ensures { IfOk result (λ h.
+        held_constrained h.kept ≡ Some (record { shape = shape_of ty.now; constraint = constraint_of constraint })) }
+{
+    let constraint = match constraint {
+        Constraint::Free => None,
+        constraint => match Arc::new(alloc, constraint) {
+            Ok(constraint) => Some(constraint),
+            Err(_) => return Err(AllocError),
+        },
+    };
+    let ty = HeldType {
+        checked: ty.copy()?,
+        constraint,
+    };
+    Handle::holding(alloc, Object::Checked(ty))
+}
+
+/// Another handle of the type.
+fn type_held(alloc: Global, ty: &HeldType) -> Result<Handle, AllocError>
+    ensures { IfOk result (λ h. held_constrained h.kept ≡ Some (constrained_of ty.now)) }
 {
     let ty = ty.copy()?;
     Handle::holding(alloc, Object::Checked(ty))
@@ -207,7 +298,7 @@ fn type_held(alloc: Global, ty: &Checked) -> Result<Handle, AllocError>
 /// Another handle of a type, which may go to another thread.
 #[unsafe(no_mangle)]
 pub extern "C" fn tulvorn_share(alloc: Global, ty: &Shown, other: &mut Handle) -> u32
-    ensures told { Asked (held_type ty.now.kept) (other.new.kept ≡ other.old.kept)
+    ensures told { Asked (held_constrained ty.now.kept) (other.new.kept ≡ other.old.kept)
         (SharesType other.old.kept other.new.kept) (plain result) }
 {
     let Some(it) = ty.object() else {

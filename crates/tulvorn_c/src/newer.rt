@@ -1,22 +1,30 @@
 //! Messages of newer and older senders, and the fields of them that the type has not.
 ghost use Rattle.std.specs.Prelude.{◌≡◌, IfOk, IfErr};
-ghost use Rattle.asn_values.specs.View.{shape_of};
-ghost use Rattle.asn_newer.specs.Reading.{NotNewer, skipped_seen};
+ghost use Rattle.asn_newer.specs.Reading.{skipped_seen};
 ghost use Rattle.asn_newer.specs.Rules.{per_loose, oer_loose};
 ghost use Rattle.tulvorn_c.specs.Answers.{Asked, AreAsBefore};
 ghost use Rattle.tulvorn_c.specs.Faults.{plain, misuse};
-ghost use Rattle.tulvorn_c.specs.Held.{held_type, held_skipped};
-ghost use Rattle.tulvorn_c.specs.Newer.{HoldsNewer, BothStay, ReadsNewer, TellsFields, TellsField};
+ghost use Rattle.tulvorn_c.specs.Held.{constrained_of, held_constrained, held_skipped};
+ghost use Rattle.tulvorn_c.specs.Newer.{
+  HoldsNewer,
+  NotNewerUnder,
+  BothStay,
+  ReadsNewer,
+  TellsFields,
+  TellsField,
+};
 
 use crate::fault::{DONE, Fault, MISUSE, NO_PATH};
 use crate::handle::Handle;
+use crate::held::HeldType;
 use crate::object::Object;
 use crate::octets::copy;
 use crate::shown::Shown;
 use std::alloc::Global;
-use tulvorn::{Checked, NewerFault, Oer, Per, ReadNewer, Skipped, read_newer};
+use tulvorn::{NewerFault, Oer, Per, ReadNewer, Skipped, read_newer};
 
 /// The value of a message of some version of the type, and the fields that the type has not: see `tulvorn::read_newer`.
+/// Of the constraint what it says of spelling is judged.
 #[unsafe(no_mangle)]
 pub extern "C" fn tulvorn_read_newer(
     alloc: Global,
@@ -27,10 +35,10 @@ pub extern "C" fn tulvorn_read_newer(
     skipped: &mut Handle,
     fault: &mut Fault,
 ) -> u32
-    ensures per { rules ≡ 0 → Asked (held_type ty.now.kept)
+    ensures per { rules ≡ 0 → Asked (held_constrained ty.now.kept)
         (BothStay value.old.kept value.new.kept skipped.old.kept skipped.new.kept)
         (ReadsNewer per_loose octets.now value.old.kept value.new.kept skipped.old.kept skipped.new.kept) fault.new }
-    ensures oer { rules ≡ 1 → Asked (held_type ty.now.kept)
+    ensures oer { rules ≡ 1 → Asked (held_constrained ty.now.kept)
         (BothStay value.old.kept value.new.kept skipped.old.kept skipped.new.kept)
         (ReadsNewer oer_loose octets.now value.old.kept value.new.kept skipped.old.kept skipped.new.kept) fault.new }
     ensures other { (rules ≡ 0 → ⊥) → (rules ≡ 1 → ⊥) → (fault.new ≡ misuse)
@@ -54,13 +62,13 @@ pub extern "C" fn tulvorn_read_newer(
 
 fn read_by<R: ReadNewer>(
     alloc: Global,
-    ty: &Checked,
+    ty: &HeldType,
     octets: &[u8],
     value: &mut Handle,
     skipped: &mut Handle,
 ) -> Fault
     ensures { ReadsNewer R.OtherVersions.loose octets.now value.old.kept value.new.kept skipped.old.kept
-        skipped.new.kept (shape_of ty.now) result }
+        skipped.new.kept (constrained_of ty.now) result }
 {
     match newer_held::<R>(alloc, ty, octets) {
         Ok(held) => {
@@ -86,14 +94,17 @@ struct BothHeld {
 /// Handles of what is read of the octets.
 fn newer_held<R: ReadNewer>(
     alloc: Global,
-    ty: &Checked,
+    ty: &HeldType,
     octets: &[u8],
 ) -> Result<BothHeld, NewerFault>
     ensures read { IfOk result (λ h.
-        HoldsNewer R.OtherVersions.loose (shape_of ty.now) octets.now h.value.kept h.skipped.kept) }
-    ensures fault { IfErr result (λ why. NotNewer R.OtherVersions.loose (shape_of ty.now) octets.now why) }
+        HoldsNewer R.OtherVersions.loose (constrained_of ty.now) octets.now h.value.kept h.skipped.kept) }
+    ensures fault { IfErr result (NotNewerUnder R.OtherVersions.loose (constrained_of ty.now) octets.now) }
 {
-    let newer = read_newer::<R>(alloc, ty, octets)?;
+    let newer = read_newer::<R>(alloc, &ty.checked, octets)?;
+    if !ty.admits_spelling(&newer.value) {
+        return Err(NewerFault::Refused);
+    }
     let Ok(ty) = ty.copy() else {
         return Err(NewerFault::Memory);
     };

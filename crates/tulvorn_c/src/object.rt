@@ -1,23 +1,25 @@
 //! All that a handle can hold.
-use tulvorn::{Checked, Module, Oer, Per, Session, Skipped, Value};
+use crate::held::HeldType;
+use crate::pieces::HeldSession;
+use tulvorn::{ConstrainedModule, Oer, Per, Skipped, Value};
 
 /// What a handle holds. What is large is in a box, since each call that makes an object moves one.
 #[derive(Drop)]
 pub enum Object {
-    Module(Box<Module>),
-    Checked(Checked),
+    Module(Box<ConstrainedModule>),
+    Checked(HeldType),
     Value {
-        ty: Checked,
+        ty: HeldType,
         value: Value,
     },
     Octets(Vec<u8>),
     Skipped(Vec<Skipped>),
     PerSession {
-        ty: Checked,
-        session: Box<Session<Per>>,
+        ty: HeldType,
+        session: Box<HeldSession<Per>>,
     },
     OerSession {
-        ty: Checked,
-        session: Box<Session<Oer>>,
+        ty: HeldType,
+        session: Box<HeldSession<Oer>>,
     },
 }

@@ -30,7 +30,7 @@ pub extern "C" fn tulvorn_octets(
         return MISUSE;
     };
     match it {
-        Object::Value { ty, value } => octets_at(ty, value, path, into, needed),
+        Object::Value { ty, value } => octets_at(&ty.checked, value, path, into, needed),
         _ => MISUSE,
     }
 }
@@ -70,7 +70,7 @@ pub extern "C" fn tulvorn_text(
         return MISUSE;
     };
     match it {
-        Object::Value { ty, value } => text_at(ty, value, path, into, needed),
+        Object::Value { ty, value } => text_at(&ty.checked, value, path, into, needed),
         _ => MISUSE,
     }
 }
@@ -111,7 +111,7 @@ pub extern "C" fn tulvorn_name(
         return MISUSE;
     };
     match it {
-        Object::Value { ty, value } => name_at(ty, value, path, into, needed),
+        Object::Value { ty, value } => name_at(&ty.checked, value, path, into, needed),
         _ => MISUSE,
     }
 }

@@ -51,7 +51,7 @@ pub extern "C" fn tulvorn_kind(value: &Shown, path: &[u8], kind: &mut u32) -> u3
         return MISUSE;
     };
     match it {
-        Object::Value { ty, value } => kind_at(ty, value, path, kind),
+        Object::Value { ty, value } => kind_at(&ty.checked, value, path, kind),
         _ => MISUSE,
     }
 }
@@ -101,7 +101,7 @@ pub extern "C" fn tulvorn_boolean(value: &Shown, path: &[u8], truth: &mut u32) -
         return MISUSE;
     };
     match it {
-        Object::Value { ty, value } => boolean_at(ty, value, path, truth),
+        Object::Value { ty, value } => boolean_at(&ty.checked, value, path, truth),
         _ => MISUSE,
     }
 }
@@ -142,7 +142,7 @@ pub extern "C" fn tulvorn_integer(value: &Shown, path: &[u8], number: &mut i64) 
         return MISUSE;
     };
     match it {
-        Object::Value { ty, value } => integer_at(ty, value, path, number),
+        Object::Value { ty, value } => integer_at(&ty.checked, value, path, number),
         _ => MISUSE,
     }
 }
@@ -182,7 +182,7 @@ pub extern "C" fn tulvorn_unsigned(value: &Shown, path: &[u8], number: &mut u64)
         return MISUSE;
     };
     match it {
-        Object::Value { ty, value } => unsigned_at(ty, value, path, number),
+        Object::Value { ty, value } => unsigned_at(&ty.checked, value, path, number),
         _ => MISUSE,
     }
 }
@@ -222,7 +222,7 @@ pub extern "C" fn tulvorn_count(value: &Shown, path: &[u8], count: &mut usize) -
         return MISUSE;
     };
     match it {
-        Object::Value { ty, value } => count_at(ty, value, path, count),
+        Object::Value { ty, value } => count_at(&ty.checked, value, path, count),
         _ => MISUSE,
     }
 }
@@ -254,7 +254,7 @@ pub extern "C" fn tulvorn_bit(value: &Shown, path: &[u8], index: usize, bit: &mu
         return MISUSE;
     };
     match it {
-        Object::Value { ty, value } => bit_at(ty, value, path, index, bit),
+        Object::Value { ty, value } => bit_at(&ty.checked, value, path, index, bit),
         _ => MISUSE,
     }
 }

@@ -1,37 +1,34 @@
 //! Sessions: messages whose octets come in pieces.
-ghost use Rattle.std.specs.Prelude.{◌≡◌, ◌↔◌, ⊤, [], IfOk, IfErr, IsTrue, IsSome, Some, None};
-ghost use Rattle.asn_values.specs.Shape.{Shape};
+ghost use Rattle.std.specs.Prelude.{◌≡◌, ◌↔◌, ⊤, [], false, IfOk, IfErr, IsTrue, IsSome, Some, None};
 ghost use Rattle.asn_values.specs.View.{shape_of, datum_of};
-ghost use Rattle.asn_view.specs.Typed.{typed};
-ghost use Rattle.asn_rules.specs.Sessions.{Past, waiting};
+ghost use Rattle.asn_rules.specs.Sessions.{waiting};
 ghost use Rattle.asn_per.specs.Rules.{per_ruling};
 ghost use Rattle.asn_oer.specs.Rules.{oer_ruling};
 ghost use Rattle.tulvorn_c.specs.Answers.{Asked, AskedBy, ruling_of};
 ghost use Rattle.tulvorn_c.specs.Faults.{plain};
-ghost use Rattle.tulvorn_c.specs.Held.{held_type, held_value};
+ghost use Rattle.tulvorn_c.specs.Held.{constrained_of, value_of, held_constrained, held_valued};
 ghost use Rattle.tulvorn_c.specs.Sessions.{
   held_session,
-  TookBeside,
   IsOpened,
   Opens,
-  Answers,
   FeedsSession,
-  EndsAs,
   EndsSession,
 };
 
-use crate::fault::{DONE, Fault, MISUSE, MORE, NO_MEMORY};
+use crate::fault::{DONE, Fault, MISUSE, NO_MEMORY};
 use crate::handle::Handle;
+use crate::held::HeldType;
 use crate::object::Object;
+use crate::pieces::{HeldSession, end_by, feed_by};
 use crate::shown::Shown;
 use std::alloc::{AllocError, Global};
 use std::mem::replace;
-use tulvorn::{Checked, Oer, Per, Rules, Session, Step, Value, open};
+use tulvorn::{Checked, Oer, Per, Rules, Unit, Value, open};
 
 /// A session for a value of the type, which has taken no octet: see `tulvorn::open`.
 #[unsafe(no_mangle)]
 pub extern "C" fn tulvorn_open(alloc: Global, ty: &Shown, rules: u32, session: &mut Handle) -> u32
-    ensures told { AskedBy (held_type ty.now.kept) (ruling_of rules) (session.new.kept ≡ session.old.kept)
+    ensures told { AskedBy (held_constrained ty.now.kept) (ruling_of rules) (session.new.kept ≡ session.old.kept)
         (Opens session.old.kept session.new.kept) (plain result) }
 {
     let Some(it) = ty.object() else {
@@ -47,8 +44,8 @@ pub extern "C" fn tulvorn_open(alloc: Global, ty: &Shown, rules: u32, session: &
     }
 }
 
-fn open_per(alloc: Global, ty: &Checked, out: &mut Handle) -> u32
-    ensures { Opens out.old.kept out.new.kept per_ruling (shape_of ty.now) (plain result) }
+fn open_per(alloc: Global, ty: &HeldType, out: &mut Handle) -> u32
+    ensures { Opens out.old.kept out.new.kept per_ruling (constrained_of ty.now) (plain result) }
 {
     match per_session(alloc, ty) {
         Ok(held) => {
@@ -59,8 +56,8 @@ fn open_per(alloc: Global, ty: &Checked, out: &mut Handle) -> u32
     }
 }
 
-fn open_oer(alloc: Global, ty: &Checked, out: &mut Handle) -> u32
-    ensures { Opens out.old.kept out.new.kept oer_ruling (shape_of ty.now) (plain result) }
+fn open_oer(alloc: Global, ty: &HeldType, out: &mut Handle) -> u32
+    ensures { Opens out.old.kept out.new.kept oer_ruling (constrained_of ty.now) (plain result) }
 {
     match oer_session(alloc, ty) {
         Ok(held) => {
@@ -72,31 +69,38 @@ fn open_oer(alloc: Global, ty: &Checked, out: &mut Handle) -> u32
 }
 
 /// A handle of a session of PER, beside its type.
-fn per_session(alloc: Global, ty: &Checked) -> Result<Handle, AllocError>
-    ensures { IfOk result (λ h. IsOpened per_ruling (shape_of ty.now) h.kept) }
+fn per_session(alloc: Global, ty: &HeldType) -> Result<Handle, AllocError>
+    ensures { IfOk result (λ h. IsOpened per_ruling (constrained_of ty.now) h.kept) }
 {
-    let session = opened::<Per>(alloc, ty)?;
+    let session = opened::<Per>(alloc, &ty.checked)?;
     let ty = ty.copy()?;
     Handle::holding(alloc, Object::PerSession { ty, session })
 }
 
 /// A handle of a session of OER, beside its type.
-fn oer_session(alloc: Global, ty: &Checked) -> Result<Handle, AllocError>
-    ensures { IfOk result (λ h. IsOpened oer_ruling (shape_of ty.now) h.kept) }
+fn oer_session(alloc: Global, ty: &HeldType) -> Result<Handle, AllocError>
+    ensures { IfOk result (λ h. IsOpened oer_ruling (constrained_of ty.now) h.kept) }
 {
-    let session = opened::<Oer>(alloc, ty)?;
+    let session = opened::<Oer>(alloc, &ty.checked)?;
     let ty = ty.copy()?;
     Handle::holding(alloc, Object::OerSession { ty, session })
 }
 
 /// A session in a box.
-fn opened<R: Rules>(alloc: Global, ty: &Checked) -> Result<Box<Session<R>>, AllocError>
-    ensures { IfOk result (λ q. R.took q.value.inner (shape_of ty.now) (waiting [])) }
+fn opened<R: Rules>(alloc: Global, ty: &Checked) -> Result<Box<HeldSession<R>>, AllocError>
+    ensures took { IfOk result (λ q. R.took q.value.session.inner (shape_of ty.now) (waiting [])) }
+    ensures none { IfOk result (λ q. q.value.taken ≡ 0) }
+    ensures unbroken { IfOk result (λ q. q.value.is_broken ≡ false) }
 {
     let Ok(session) = open::<R>(alloc, ty.copy()?) else {
         return Err(AllocError);
     };
-    match Box::new(alloc, session) {
+    let held = HeldSession {
+        session,
+        taken: 0,
+        is_broken: false,
+    };
+    match Box::new(alloc, held) {
         Ok(session) => Ok(session),
         Err(_) => Err(AllocError),
     }
@@ -141,53 +145,24 @@ fn feed_object(
 {
     match object {
         Object::PerSession { ty, session } => {
-            feed_by::<Per>(alloc, ty, session.as_mut(), piece, value, used)
+            feed_by::<Per>(alloc, ty, Unit::Bit, session.as_mut(), piece, value, used)
         }
         Object::OerSession { ty, session } => {
-            feed_by::<Oer>(alloc, ty, session.as_mut(), piece, value, used)
+            feed_by::<Oer>(alloc, ty, Unit::Octet, session.as_mut(), piece, value, used)
         }
         _ => Fault::plain(MISUSE),
-    }
-}
-
-fn feed_by<R: Rules>(
-    alloc: Global,
-    ty: &Checked,
-    session: &mut Session<R>,
-    piece: &[u8],
-    value: &mut Handle,
-    used: &mut usize,
-) -> Fault
-    ensures { (t : Shape) (past : Past) → TookBeside (shape_of ty.now) (R.took session.old.inner) t past
-        → Answers R.ruling (TookBeside (shape_of ty.now) (R.took session.new.inner)) t past piece.now
-        value.old.kept value.new.kept used.old used.new result }
-{
-    match session.feed(piece) {
-        Ok(
-            Step::Done {
-                value: read,
-                used: taken,
-            },
-        ) => match put_value(alloc, ty, read, value) {
-            Ok(()) => {
-                *used = taken;
-                Fault::plain(DONE)
-            }
-            Err(_) => Fault::plain(NO_MEMORY),
-        },
-        Ok(Step::More) => Fault::plain(MORE),
-        Err(fault) => Fault::of_feed(fault),
     }
 }
 
 /// Puts the value and its type into the handle.
 pub(crate) fn put_value(
     alloc: Global,
-    ty: &Checked,
+    ty: &HeldType,
     value: Value,
     out: &mut Handle,
 ) -> Result<(), AllocError>
-    ensures put { IfOk result (λ _. held_value out.new.kept ≡ Some (typed (shape_of ty.now) (datum_of value))) }
+    ensures put { IfOk result (λ _. held_valued out.new.kept
+        ≡ Some (value_of (constrained_of ty.now) (datum_of value))) }
     ensures stays { IfErr result (λ _. out.new.kept ≡ out.old.kept) }
 {
     let ty = ty.copy()?;
@@ -228,14 +203,14 @@ fn end_object(object: Object) -> Fault
     ensures { Asked (held_session (Some object)) ⊤ (EndsSession (Some object) None) result }
 {
     match object {
-        Object::PerSession { ty: _ty, session } => end_by::<Per>(Box::into_inner(session)),
-        Object::OerSession { ty: _ty, session } => end_by::<Oer>(Box::into_inner(session)),
+        Object::PerSession { ty: _ty, session } => end_by::<Per>(
+            Box::into_inner(session),
+            Unit::Bit,
+        ),
+        Object::OerSession { ty: _ty, session } => end_by::<Oer>(
+            Box::into_inner(session),
+            Unit::Octet,
+        ),
         _other => Fault::plain(MISUSE),
     }
-}
-
-fn end_by<R: Rules>(session: Session<R>) -> Fault
-    ensures { (t : Shape) (past : Past) → R.took session.inner t past → EndsAs R.ruling t past result }
-{
-    Fault::of_end(session.finish())
 }

@@ -10,6 +10,9 @@ ghost use Rattle.tulvorn_c.specs.Words.{
   why_of,
   decode_fault_of,
   words_of_code,
+  is_broken,
+  words_of_broken,
+  words_by,
   words_of,
   TellsWords,
 };
@@ -65,14 +68,40 @@ pub extern "C" fn tulvorn_words(alloc: Global, fault: &Fault, rules: u32, words:
 fn words_held(alloc: Global, fault: &Fault, unit: Unit) -> Result<Handle, AllocError>
     ensures { IfOk result (λ h. held_octets h.kept ≡ Some (words_of unit fault.now)) }
 {
-    let words = match decode_fault(fault) {
-        Some(told) => {
-            let told = told.counted_in(unit);
-            format!(in alloc; "{told}")?
-        }
-        None => String::from_str(alloc, words_of_code(fault.code))?,
+    let words = if is_broken(fault) {
+        broken_words(alloc, unit, fault.at)?
+    } else {
+        other_words(alloc, fault, unit)?
     };
     Handle::holding(alloc, Object::Octets(words.into_bytes()))
+}
+
+/// Whether the fault is the refusal of a value that breaks its constraint.
+fn is_broken(fault: &Fault) -> bool
+    ensures { result ≡ is_broken fault.now }
+{
+    fault.code == 3 && fault.why == 8
+}
+
+/// The words of such a refusal.
+fn broken_words(alloc: Global, unit: Unit, at: u64) -> Result<String, AllocError>
+    ensures { IfOk result (λ s. string_bytes s ≡ words_of_broken unit at) }
+{
+    let unit = unit.name();
+    format!(in alloc; "refused at {unit} {at}: constraint")
+}
+
+/// The words of any other fault.
+fn other_words(alloc: Global, fault: &Fault, unit: Unit) -> Result<String, AllocError>
+    ensures { IfOk result (λ s. string_bytes s ≡ words_by unit fault.now.code (decode_fault_of fault.now)) }
+{
+    match decode_fault(fault) {
+        Some(told) => {
+            let told = told.counted_in(unit);
+            format!(in alloc; "{told}")
+        }
+        None => String::from_str(alloc, words_of_code(fault.code)),
+    }
 }
 
 /// The unit of the encoding rules of that number.
@@ -144,6 +173,8 @@ fn words_of_code(code: u32) -> &'static str
         20 => "session spent",
         21 => "absent",
         22 => "over budget",
+        23 => "constraint too large",
+        24 => "too many levels",
         _ => "unknown code",
     }
 }

@@ -36,6 +36,15 @@ unsafe extern "C" {
     pub fn tulvorn_module(text: *const u8, len: usize, module: *mut Handle, fault: *mut Fault) -> u32;
     pub fn tulvorn_explain_module(text: *const u8, len: usize, words: *mut Handle) -> u32;
     pub fn tulvorn_type(module: *const Handle, name: *const u8, len: usize, ty: *mut Handle, fault: *mut Fault) -> u32;
+    pub fn tulvorn_type_levels(
+        module: *const Handle,
+        name: *const u8,
+        len: usize,
+        levels: u32,
+        ty: *mut Handle,
+        fault: *mut Fault,
+    ) -> u32;
+    pub fn tulvorn_difference(module: *const Handle, name: *const u8, len: usize, words: *mut Handle) -> u32;
     pub fn tulvorn_share(ty: *const Handle, other: *mut Handle) -> u32;
     pub fn tulvorn_check(ty: *const Handle, rules: u32, octets: *const u8, len: usize, fault: *mut Fault) -> u32;
     pub fn tulvorn_decode(

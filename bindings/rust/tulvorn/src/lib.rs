@@ -100,10 +100,20 @@ pub enum Why {
     Padding,
     /// Anything else.
     Number,
+    /// The last unit of the encoding of a value that breaks the constraint of its type.
+    Constraint,
 }
 
-const WHYS: [Why; 7] =
-    [Why::Sealed, Why::Default, Why::Length, Why::Extension, Why::Character, Why::Padding, Why::Number];
+const WHYS: [Why; 8] = [
+    Why::Sealed,
+    Why::Default,
+    Why::Length,
+    Why::Extension,
+    Why::Character,
+    Why::Padding,
+    Why::Number,
+    Why::Constraint,
+];
 
 /// Why a call did not do what it was asked for.
 #[derive(Clone, Copy, Debug, PartialEq, Eq, Hash)]
@@ -143,7 +153,7 @@ pub enum Reason {
     },
     /// The module has no type of that name.
     NoName,
-    /// The value is none of the type.
+    /// The value is none of the type, or breaks its constraint.
     NotOfType,
     /// The text is no JSON, or has a number past what is read, as `1e400`, half of a surrogate pair, or more than 127
     /// levels.
@@ -167,6 +177,11 @@ pub enum Reason {
     Absent,
     /// The octets are the encoding of a value that takes more than the budget.
     OverBudget,
+    /// The constraint of the type has more than 1,000,000 parts, or more than 256 names that refer one to the next
+    /// have one.
+    LargeConstraint,
+    /// The type has more levels than were asked for.
+    TooDeep,
     /// The library answered a code that this crate does not know, or the crate misused it.
     Other(u32),
 }
@@ -212,6 +227,8 @@ impl Error {
             20 => Reason::Spent,
             21 => Reason::Absent,
             22 => Reason::OverBudget,
+            23 => Reason::LargeConstraint,
+            24 => Reason::TooDeep,
             code => Reason::Other(code),
         };
         Error { reason, fault: (fault.code, fault.why, fault.at), rules, words: None }
@@ -368,12 +385,49 @@ impl Module {
     /// The type that the module assigns to a name. It outlives the module.
     ///
     /// # Errors
-    /// `NoName`, `Memory`.
+    /// `NoName`, `LargeConstraint`, `Memory`.
     pub fn ty(&self, name: &str) -> Result<Type, Error> {
         let (mut held, mut fault) = (Held::nothing(), Fault::default());
         // SAFETY: as in `read`; the two handles are two objects'.
         let code =
             unsafe { ffi::tulvorn_type(self.0.get(), name.as_ptr(), name.len(), held.fill(), &raw mut fault) };
+        look(code, fault, Rules::Per)?;
+        Ok(Type(held))
+    }
+
+    /// How the type that the module assigns to a name differs from the published type, as the text of the module says;
+    /// None where it says nothing. Its messages are then others than those of the published type.
+    ///
+    /// # Errors
+    /// `NoName`, `Memory`.
+    ///
+    /// ```
+    /// let module = tulvorn::Module::read(
+    ///     "M DEFINITIONS AUTOMATIC TAGS ::= BEGIN\nT ::= OCTET STRING\n--! T wider: a constraint is not looked at\nEND",
+    /// )?;
+    /// assert_eq!(module.difference("T")?.as_deref(), Some("wider: a constraint is not looked at"));
+    /// # Ok::<(), tulvorn::Error>(())
+    /// ```
+    pub fn difference(&self, name: &str) -> Result<Option<String>, Error> {
+        let mut held = Held::nothing();
+        // SAFETY: as in `read`; the two handles are two objects'.
+        let code = unsafe { ffi::tulvorn_difference(self.0.get(), name.as_ptr(), name.len(), held.fill()) };
+        look(code, Fault { code, why: 0, at: 0 }, Rules::Per)?;
+        Ok(held.words())
+    }
+
+    /// The type that the module assigns to a name, if it has at most so many levels. What each call on it takes of the
+    /// stack grows with them.
+    ///
+    /// # Errors
+    /// `NoName`, `TooDeep`, `LargeConstraint`, `Memory`.
+    pub fn ty_of_levels(&self, name: &str, levels: u32) -> Result<Type, Error> {
+        let (mut held, mut fault) = (Held::nothing(), Fault::default());
+        let (octets, len) = (name.as_ptr(), name.len());
+        // SAFETY: as in `read`; the two handles are two objects'.
+        let code = unsafe {
+            ffi::tulvorn_type_levels(self.0.get(), octets, len, levels, held.fill(), &raw mut fault)
+        };
         look(code, fault, Rules::Per)?;
         Ok(Type(held))
     }

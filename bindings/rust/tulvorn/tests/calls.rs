@@ -102,6 +102,23 @@ fn tells_faults() {
 }
 
 #[test]
+fn gives_types_of_few_levels() {
+    let module = Module::read(MODULE).unwrap();
+    assert_eq!(reason(module.ty_of_levels("All", 4)), Reason::TooDeep);
+    assert_eq!(reason(module.ty_of_levels("None", 64)), Reason::NoName);
+    assert!(module.ty_of_levels("All", 5).unwrap().read_json(ALL).is_ok());
+}
+
+#[test]
+fn tells_how_types_differ() {
+    let module = Module::read(&MODULE.replace("END", "\n--! Msg owed: ä\nEND")).unwrap();
+    assert_eq!(module.difference("Msg").unwrap().as_deref(), Some("owed: ä"));
+    assert_eq!(module.difference("All").unwrap().as_deref(), Some("owed: ä"));
+    assert_eq!(module.difference("Low").unwrap(), None);
+    assert_eq!(reason(module.difference("None")), Reason::NoName);
+}
+
+#[test]
 fn takes_messages_in_pieces() {
     let all = Module::read(MODULE).unwrap().ty("All").unwrap();
     let value = all.read_json(ALL).unwrap();

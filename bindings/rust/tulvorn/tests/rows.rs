@@ -3,8 +3,16 @@
 use tulvorn::{Module, Reason, Rules, Type, Value, Why};
 
 const BOTH: [Rules; 2] = [Rules::Per, Rules::Oer];
-const WHYS: [Why; 7] =
-    [Why::Sealed, Why::Default, Why::Length, Why::Extension, Why::Character, Why::Padding, Why::Number];
+const WHYS: [Why; 8] = [
+    Why::Sealed,
+    Why::Default,
+    Why::Length,
+    Why::Extension,
+    Why::Character,
+    Why::Padding,
+    Why::Number,
+    Why::Constraint,
+];
 
 fn octets_of(word: &str) -> Option<Vec<u8>> {
     let digits = word.strip_prefix("0x")?;

@@ -1,15 +1,13 @@
 -- An item is spelt by its index, whatever the numbers of the items are.
 use Rattle.std.proofs.Common.{◌≡◌, ◌+◌, ◌-◌, ◌<◌, ◌≤◌, ◌⊎◌, ◌-ℤ◌, ℕ, suc, ℤ, pos, Bool, true, false, List, [], ◌∷◌, length, inl, inr, refl, sym, ap, subst, ◌∙◌, arith, nat_lt}
-use Rattle.std.proofs.lemmas.Bool.{cases_lt, lt-ltb, ltb-not}
+use Rattle.std.proofs.lemmas.Bool.{cases_lt, lt-ltb, le-ltb}
 use Rattle.std.proofs.lemmas.Int.{ints}
 use Rattle.std.specs.Int.RustNames.{int_lt}
 use Rattle.asn_values.specs.Shape.{Label, MoreLabels, closed_labels, marked_labels, has_more_labels, more_labels, enumerated}
-use Rattle.asn_values.specs.Profile.{InProfile}
 use Rattle.asn_rules.specs.Chunks.{ones}
 use Rattle.asn_rules.specs.Components.{number_at}
 use Rattle.asn_plan.specs.Enumerations.{AreInOrder}
 use Rattle.asn_plan.specs.InOrder.{numbered, AreSpeltAs, SpellsIndexes}
-use Rattle.asn_plan.specs.Ranks.{AreRootItems}
 use Rattle.asn_plan.proofs.Ordered.{Rise, in_order}
 use Rattle.asn_plan.proofs.RootItems.{root_items}
 use Rattle.asn_per.specs.Kinds.{position_of}
@@ -57,7 +55,7 @@ as_addition : (root others : List Label) (more : MoreLabels) (p : ℕ) → lengt
     → p < length root + length (more_labels more) → enumeration root more p ≡ enumeration others more p
 as_addition root others closed_labels p same h few = absurd (omega (arith, h, few))
 as_addition root others (marked_labels ls) p same h few =
-    rw (ltb-not p (length root) h, ltb-not p (length others) (subst (λ (n : ℕ). n ≤ p) same h)) (ap (λ (n : ℕ). 1 ∷ small (p - n)) same)
+    rw (le-ltb p (length root) h, le-ltb p (length others) (subst (λ (n : ℕ). n ≤ p) same h)) (ap (λ (n : ℕ). 1 ∷ small (p - n)) same)
 
 -- an item with the same index, or the same addition
 spelt_as : (root others : List Label) (more : MoreLabels) → length root ≡ length others
@@ -69,7 +67,7 @@ spelt_as root others more same one p fits = go (cases_lt p (length root))
         → (q : ℕ) × (q < length others + length (more_labels more)) × (ones (enumeration root more p) ≡ ones (enumeration others more q))
     go (inl h) =
         let w = one p h in
-        (w.0, omega (arith, w.1.0), ap ones (by_index root others more p w.0 same h w.1.0 w.1.1))
+        (w.0, omega (arith, w.1), ap ones (by_index root others more p w.0 same h w.1 w.2))
     go (inr h) = (p, omega (arith, fits, same), ap ones (as_addition root others more p same h fits))
 
 pub indexes_spelt : SpellsIndexes per_coding.code

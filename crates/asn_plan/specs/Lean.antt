@@ -19,7 +19,10 @@ abbrev mutual
   pub lean_root : Bool → Fields → Fields
   lean_root single no_fields = no_fields
   lean_root single (field name must t fs) =
-      elim (has_nothing single t) [ true ↦ lean_root single fs | false ↦ field name must (lean single t) (lean_root single fs) ]
+      elim (has_nothing single t) [
+        | true ↦ lean_root single fs
+        | false ↦ field name must (lean single t) (lean_root single fs)
+      ]
   lean_root single (field name (default d) t fs) = field name (default d) (lean false t) (lean_root single fs)
   lean_root single (field name demand t fs) = field name demand (lean single t) (lean_root single fs)
 
@@ -48,7 +51,9 @@ is_single single demand = single
 
 -- the types, where there are some, are what the type is without such components
 abbrev pub AreLean : Leans → Shape → Type 0
-AreLean leans t = IfSome leans.any (λ l. shape_of l ≡ lean false t) × IfSome leans.single (λ l. shape_of l ≡ lean true t)
+AreLean leans t =
+    IfSome leans.any (λ l. shape_of l ≡ lean false t)
+    × IfSome leans.single (λ l. shape_of l ≡ lean true t)
 
 -- whether the part is a component that has to be there and has no units
 abbrev pub is_left_out : Bool → Part → Bool

@@ -58,7 +58,8 @@ impl ComponentRows {
     /// How many entries the value has, where it has no units by any rules; else 0. With `single`, the same by rules that spell
     /// the only value of a type by nothing.
     fn entries_if_nothing(&self, single: bool) -> u32
-        ensures { (ns : List Node) (t : Shape) → IsPlan ns t (kind.Sequence self.now) → HasEntriesIfAny single result t }
+        ensures { (ns : List Node) (t : Shape) → IsPlan ns t (kind.Sequence self.now)
+            → HasEntriesIfAny single result t }
     {
         if single {
             return self.single_entries;

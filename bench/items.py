@@ -27,7 +27,7 @@ KINDS = {
 }
 ROWS = (
     "check-plan check-plan-oer decode-flat decode-flat-oer decode-plan into-plan into-plan-oer "
-    "check decode decode-oer encode encode-oer plan"
+    "check decode decode-oer refuse-plan encode encode-oer plan"
 ).split()
 
 

@@ -4,4 +4,5 @@ pub mod RangedRead
 pub mod StringsRead
 pub mod FieldsRead
 pub mod NothingSpelt
+pub mod ItemsSpelt
 pub mod OpenHere

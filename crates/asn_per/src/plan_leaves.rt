@@ -17,6 +17,16 @@ impl PlanLeaves for Per {
     fn keep_nothing() {}
 
     #[inline(always)]
+    fn single_is_empty() -> bool {
+        true
+    }
+
+    #[inline(always)]
+    fn spells_indexes() -> bool {
+        true
+    }
+
+    #[inline(always)]
     fn take_word(run: Run, units: &mut BitCursor<'_>) -> Word {
         take_bits(run.bits, units)
     }

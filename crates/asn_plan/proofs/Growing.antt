@@ -28,7 +28,7 @@ plan_more ns more (sequence root others) (kind.Sequence s) p =
     let before : take s.begin (ns ++ more) ≡ take s.begin ns = take-append-le s.begin ns more (omega (arith, p.0, p.1, p.2)) in
     let first = same_row ns more s.begin s.middle p.0 (omega (arith, p.1, p.2)) in
     let rest = same_row ns more s.middle s.end p.1 p.2 in
-    (p.0, p.1, omega (arith, p.2, length-append ns more), p.3, p.4, rw (before, first) p.5, rw (before, rest) p.6, p.7)
+    (p.0, p.1, omega (arith, p.2, length-append ns more), p.3, p.4, rw (before, first) p.5, rw (before, rest) p.6, p.7, p.8)
 plan_more ns more (sequence root others) (kind.List l) p = absurd p
 plan_more ns more (sequence root others) (kind.Choice a) p = absurd p
 plan_more ns more (sequence_of t s) (kind.Number b) p = absurd p

@@ -7,7 +7,7 @@ use Rattle.std.proofs.lemmas.List.{drop_all, map-append}
 use Rattle.asn_values.specs.declared.types.Field.{Field}
 use Rattle.asn_values.specs.Shape.{Shape, Demand, must, optional, default, Fields, no_fields, field, append_fields, Alternatives, no_alternatives, one_of}
 use Rattle.asn_values.specs.View.{Part, Branch, fields_of, part_of_field, alternatives_of}
-use Rattle.asn_plan.specs.Lean.{lean, lean_root, lean_alternatives, is_left_out}
+use Rattle.asn_plan.specs.Lean.{lean, lean_root, lean_each, lean_alternatives, is_left_out, is_single}
 use Rattle.asn_plan.specs.Nothing.{has_nothing}
 
 -- the next part, and those after it
@@ -27,59 +27,71 @@ append_next [] p fs = refl
 append_next (q ∷ ps) p fs = ap (field q.name q.demand q.shape) (append_next ps p fs)
 
 -- a component that is left out
-pub left_next : (p : Part) (fs : Fields) → is_left_out p ≡ true
-    → lean_root (field p.name p.demand p.shape fs) ≡ lean_root fs
-left_next p fs h = go p.demand p.shape h
+pub left_next : (single : Bool) (p : Part) (fs : Fields) → is_left_out single p ≡ true
+    → lean_root single (field p.name p.demand p.shape fs) ≡ lean_root single fs
+left_next single p fs h = go p.demand p.shape h
   where
     of_true : (t : Shape) (b : Bool) → b ≡ true
-        → elim b [ true ↦ lean_root fs | false ↦ field p.name must (lean t) (lean_root fs) ] ≡ lean_root fs
+        → elim b [ true ↦ lean_root single fs | false ↦ field p.name must (lean single t) (lean_root single fs) ] ≡ lean_root single fs
     of_true t true h = refl
     of_true t false h = absurd (true≢false (sym h))
 
-    go : (d : Demand) (t : Shape) → is_left_out (record { name = p.name; demand = d; shape = t }) ≡ true
-        → lean_root (field p.name d t fs) ≡ lean_root fs
-    go must t h = of_true t (has_nothing t) h
+    go : (d : Demand) (t : Shape) → is_left_out single (record { name = p.name; demand = d; shape = t }) ≡ true
+        → lean_root single (field p.name d t fs) ≡ lean_root single fs
+    go must t h = of_true t (has_nothing single t) h
     go optional t h = absurd (true≢false (sym h))
     go (default d) t h = absurd (true≢false (sym h))
 
 -- one that is not
-pub kept_next : (p : Part) (fs : Fields) → is_left_out p ≡ false
-    → lean_root (field p.name p.demand p.shape fs) ≡ field p.name p.demand (lean p.shape) (lean_root fs)
-kept_next p fs h = go p.demand p.shape h
+pub kept_next : (single : Bool) (p : Part) (fs : Fields) → is_left_out single p ≡ false
+    → lean_root single (field p.name p.demand p.shape fs)
+    ≡ field p.name p.demand (lean (is_single single p.demand) p.shape) (lean_root single fs)
+kept_next single p fs h = go p.demand p.shape h
   where
     of_false : (t : Shape) (b : Bool) → b ≡ false
-        → elim b [ true ↦ lean_root fs | false ↦ field p.name must (lean t) (lean_root fs) ]
-        ≡ field p.name must (lean t) (lean_root fs)
+        → elim b [ true ↦ lean_root single fs | false ↦ field p.name must (lean single t) (lean_root single fs) ]
+        ≡ field p.name must (lean single t) (lean_root single fs)
     of_false t true h = absurd (true≢false h)
     of_false t false h = refl
 
-    go : (d : Demand) (t : Shape) → is_left_out (record { name = p.name; demand = d; shape = t }) ≡ false
-        → lean_root (field p.name d t fs) ≡ field p.name d (lean t) (lean_root fs)
-    go must t h = of_false t (has_nothing t) h
+    go : (d : Demand) (t : Shape) → is_left_out single (record { name = p.name; demand = d; shape = t }) ≡ false
+        → lean_root single (field p.name d t fs) ≡ field p.name d (lean (is_single single d) t) (lean_root single fs)
+    go must t h = of_false t (has_nothing single t) h
     go optional t h = refl
     go (default d) t h = refl
 
+-- an extension addition
+pub each_next : (single : Bool) (p : Part) (fs : Fields)
+    → lean_each single (field p.name p.demand p.shape fs)
+    ≡ field p.name p.demand (lean (is_single single p.demand) p.shape) (lean_each single fs)
+each_next single p fs = go p.demand
+  where
+    go : (d : Demand) → lean_each single (field p.name d p.shape fs) ≡ field p.name d (lean (is_single single d) p.shape) (lean_each single fs)
+    go must = refl
+    go optional = refl
+    go (default d) = refl
+
 -- ---- components that are kept, which stand before those that are left to do; G says what becomes of these
 
-abbrev pub lean_part : Part → Part
-lean_part p = record { name = p.name; demand = p.demand; shape = lean p.shape }
+abbrev pub lean_part : Bool → Part → Part
+lean_part single p = record { name = p.name; demand = p.demand; shape = lean (is_single single p.demand) p.shape }
 
 abbrev pub DoneAndLeft : (Fields → Fields) → List Field → List Field → Fields → Type 0
 DoneAndLeft G kept rest all =
     append_fields (fields_of (map part_of_field kept)) (G (fields_of (map part_of_field rest))) ≡ all
 
-pub one_kept : (G : Fields → Fields) (kept : List Field) (f x : Field) (fs : List Field) (i : ℕ) (all : Fields)
-    → i < length fs → x ≡ get_or fs i x → part_of_field f ≡ lean_part (part_of_field x)
+pub one_kept : (single : Bool) (G : Fields → Fields) (kept : List Field) (f x : Field) (fs : List Field) (i : ℕ) (all : Fields)
+    → i < length fs → x ≡ get_or fs i x → part_of_field f ≡ lean_part single (part_of_field x)
     → ((rest : Fields) → G (field (part_of_field x).name (part_of_field x).demand (part_of_field x).shape rest)
-    ≡ field (part_of_field x).name (part_of_field x).demand (lean (part_of_field x).shape) (G rest))
+    ≡ field (part_of_field x).name (part_of_field x).demand (lean (is_single single (part_of_field x).demand) (part_of_field x).shape) (G rest))
     → DoneAndLeft G kept (drop i fs) all → DoneAndLeft G (kept ++ f ∷ []) (drop (i + 1) fs) all
-one_kept G kept f x fs i all less e is step h =
+one_kept single G kept f x fs i all less e is step h =
     let p = part_of_field x in
     let rest = fields_of (map part_of_field (drop (i + 1) fs)) in
     let ks = fields_of (map part_of_field kept) in
     let here : append_fields ks (G (field p.name p.demand p.shape rest)) ≡ all = rw (next_part fs i x less e) at h in
-    let new : fields_of (map part_of_field (kept ++ f ∷ [])) ≡ fields_of (map part_of_field kept ++ lean_part p ∷ []) = ap fields_of (map-append part_of_field kept (f ∷ []) ∙ ap (λ (q : Part). map part_of_field kept ++ q ∷ []) is) in
-    ap (λ (a : Fields). append_fields a (G rest)) new ∙ append_next (map part_of_field kept) (lean_part p) (G rest) ∙ ap (append_fields ks) (sym (step rest)) ∙ here
+    let new : fields_of (map part_of_field (kept ++ f ∷ [])) ≡ fields_of (map part_of_field kept ++ lean_part single p ∷ []) = ap fields_of (map-append part_of_field kept (f ∷ []) ∙ ap (λ (q : Part). map part_of_field kept ++ q ∷ []) is) in
+    ap (λ (a : Fields). append_fields a (G rest)) new ∙ append_next (map part_of_field kept) (lean_part single p) (G rest) ∙ ap (append_fields ks) (sym (step rest)) ∙ here
 
 pub one_left : (G : Fields → Fields) (kept : List Field) (x : Field) (fs : List Field) (i : ℕ) (all : Fields)
     → i < length fs → x ≡ get_or fs i x
@@ -110,17 +122,17 @@ more_seen : (bs : List Branch) (b : Branch)
 more_seen [] b = refl
 more_seen (x ∷ bs) b = ap (one_of x.name x.shape) (more_seen bs b)
 
-lean_appended : (alts : Alternatives) (name : List ℕ) (t : Shape)
-    → lean_alternatives (append_alternatives alts (one_of name t no_alternatives))
-    ≡ append_alternatives (lean_alternatives alts) (one_of name (lean t) no_alternatives)
-lean_appended no_alternatives name t = refl
-lean_appended (one_of other u alts) name t = ap (one_of other (lean u)) (lean_appended alts name t)
+lean_appended : (single : Bool) (alts : Alternatives) (name : List ℕ) (t : Shape)
+    → lean_alternatives single (append_alternatives alts (one_of name t no_alternatives))
+    ≡ append_alternatives (lean_alternatives single alts) (one_of name (lean single t) no_alternatives)
+lean_appended single no_alternatives name t = refl
+lean_appended single (one_of other u alts) name t = ap (one_of other (lean single u)) (lean_appended single alts name t)
 
-pub alternatives_next : (cs bs : List Branch) (c b : Branch)
-    → alternatives_of cs ≡ lean_alternatives (alternatives_of bs)
-    → c ≡ record { name = b.name; shape = lean b.shape }
-    → alternatives_of (cs ++ c ∷ []) ≡ lean_alternatives (alternatives_of (bs ++ b ∷ []))
-alternatives_next cs bs c b h e =
+pub alternatives_next : (single : Bool) (cs bs : List Branch) (c b : Branch)
+    → alternatives_of cs ≡ lean_alternatives single (alternatives_of bs)
+    → c ≡ record { name = b.name; shape = lean single b.shape }
+    → alternatives_of (cs ++ c ∷ []) ≡ lean_alternatives single (alternatives_of (bs ++ b ∷ []))
+alternatives_next single cs bs c b h e =
     more_seen cs c ∙ ap (λ (d : Branch). append_alternatives (alternatives_of cs) (one_of d.name d.shape no_alternatives)) e
-    ∙ ap (λ (a : Alternatives). append_alternatives a (one_of b.name (lean b.shape) no_alternatives)) h
-    ∙ sym (lean_appended (alternatives_of bs) b.name b.shape) ∙ ap lean_alternatives (sym (more_seen bs b))
+    ∙ ap (λ (a : Alternatives). append_alternatives a (one_of b.name (lean single b.shape) no_alternatives)) h
+    ∙ sym (lean_appended single (alternatives_of bs) b.name b.shape) ∙ ap (lean_alternatives single) (sym (more_seen bs b))

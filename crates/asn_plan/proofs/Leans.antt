@@ -2,10 +2,10 @@
 use Rattle.std.proofs.Common.{◌≡◌, ◌⊎◌, ℕ, zero, suc, Bool, true, false, List, [], ◌∷◌, ◌++◌, length, Option, Some, None, inl, inr, refl, sym, ap, ◌∙◌, subst}
 use Rattle.std.specs.Prelude.{⊤}
 use Rattle.std.proofs.lemmas.Bool.{true≢false}
-use Rattle.asn_values.specs.Datum.{Datum, elements, elements_of}
+use Rattle.asn_values.specs.Datum.{Datum, item, elements, elements_of}
 use Rattle.asn_values.specs.Parts.{AreOfProfile, AreAllOfProfile}
 use Rattle.asn_values.specs.Profile.{InProfile}
-use Rattle.asn_values.specs.Shape.{Shape, sequence, sequence_of, choice, must, optional, default, Fields, no_fields, field, MoreFields, closed, marked, demands, Alternatives, no_alternatives, one_of, MoreAlternatives, closed_choice, marked_choice, count}
+use Rattle.asn_values.specs.Shape.{Shape, Label, MoreLabels, enumerated, sequence, sequence_of, choice, must, optional, default, Fields, no_fields, field, MoreFields, closed, marked, demands, Alternatives, no_alternatives, one_of, MoreAlternatives, closed_choice, marked_choice, count}
 use Rattle.asn_values.proofs.InnerTypes.{element_of_profile, root_alternatives_of_profile, added_alternatives_of_profile, additions_of_profile}
 use Rattle.asn_values.proofs.Parts.{components_of_profile}
 use Rattle.asn_bits.specs.Numbers.{bits}
@@ -18,6 +18,7 @@ use Rattle.asn_rules.specs.Listed.{Spelt, Listed, Before, bitmap_length}
 use Rattle.asn_rules.specs.Reading.{Wholes}
 use Rattle.asn_walk.specs.Coding.{Coding, PreambleOf, AdditionBitmapOf, IndexOf, OpenOf, OpenListed, AdditionsOf, AddedOf, SequencesOf, sequence_told, ChoicesOf, ChosenOf, ChosenBy, chosen_value, added, added_alternatives, absent_entries}
 use Rattle.asn_walk.specs.Laws.{Laws}
+use Rattle.asn_plan.specs.InOrder.{numbered, numbered_if, AreSpeltAs, SpellsIndexes}
 use Rattle.asn_plan.specs.Lean.{lean, lean_root, lean_each, lean_more, lean_alternatives, lean_others}
 use Rattle.asn_plan.specs.Nothing.{has_nothing, only_value, SpellsNothing}
 use Rattle.asn_plan.specs.SimpleTypes.{is_simple}
@@ -78,37 +79,39 @@ encodes_alike r t u k v o h =
 
 -- ---- what the two types have in common
 
-lean_simple : (t : Shape) → is_simple t ≡ true → lean t ≡ t
+lean_simple : (t : Shape) → is_simple t ≡ true → lean false t ≡ t
 lean_simple (sequence root more) e = absurd (true≢false (sym e))
 lean_simple (sequence_of t s) e = absurd (true≢false (sym e))
 lean_simple (choice root more) e = absurd (true≢false (sym e))
 lean_simple t e = refl
 
-lean_bitmap : (fs : Fields) → bitmap_length (lean_root fs) ≡ bitmap_length fs
-lean_bitmap no_fields = refl
-lean_bitmap (field name must t fs) = go (has_nothing t) (lean_bitmap fs)
+lean_bitmap : (single : Bool) (fs : Fields) → bitmap_length (lean_root single fs) ≡ bitmap_length fs
+lean_bitmap single no_fields = refl
+lean_bitmap single (field name must t fs) = go (has_nothing single t) (lean_bitmap single fs)
   where
-    go : (b : Bool) → bitmap_length (lean_root fs) ≡ bitmap_length fs → bitmap_length (elim b [ true ↦ lean_root fs | false ↦ field name must (lean t) (lean_root fs) ]) ≡ bitmap_length fs
+    go : (b : Bool) → bitmap_length (lean_root single fs) ≡ bitmap_length fs → bitmap_length (elim b [ true ↦ lean_root single fs | false ↦ field name must (lean single t) (lean_root single fs) ]) ≡ bitmap_length fs
     go true e = e
     go false e = e
-lean_bitmap (field name optional t fs) = ap suc (lean_bitmap fs)
-lean_bitmap (field name (default d) t fs) = ap suc (lean_bitmap fs)
+lean_bitmap single (field name optional t fs) = ap suc (lean_bitmap single fs)
+lean_bitmap single (field name (default d) t fs) = ap suc (lean_bitmap single fs)
 
-lean_many : (fs : Fields) → length (demands (lean_each fs)) ≡ length (demands fs)
-lean_many no_fields = refl
-lean_many (field name demand t fs) = ap suc (lean_many fs)
+lean_many : (single : Bool) (fs : Fields) → length (demands (lean_each single fs)) ≡ length (demands fs)
+lean_many single no_fields = refl
+lean_many single (field name must t fs) = ap suc (lean_many single fs)
+lean_many single (field name optional t fs) = ap suc (lean_many single fs)
+lean_many single (field name (default d) t fs) = ap suc (lean_many single fs)
 
-lean_added : (more : MoreFields) → added (lean_more more) ≡ added more
-lean_added closed = refl
-lean_added (marked fs) = ap Some (lean_many fs)
+lean_added : (single : Bool) (more : MoreFields) → added (lean_more single more) ≡ added more
+lean_added single closed = refl
+lean_added single (marked fs) = ap Some (lean_many single fs)
 
-lean_count : (alts : Alternatives) → count (lean_alternatives alts) ≡ count alts
-lean_count no_alternatives = refl
-lean_count (one_of name t alts) = ap suc (lean_count alts)
+lean_count : (single : Bool) (alts : Alternatives) → count (lean_alternatives single alts) ≡ count alts
+lean_count single no_alternatives = refl
+lean_count single (one_of name t alts) = ap suc (lean_count single alts)
 
-lean_others_count : (more : MoreAlternatives) → added_alternatives (lean_others more) ≡ added_alternatives more
-lean_others_count closed_choice = refl
-lean_others_count (marked_choice alts) = ap Some (lean_count alts)
+lean_others_count : (single : Bool) (more : MoreAlternatives) → added_alternatives (lean_others single more) ≡ added_alternatives more
+lean_others_count single closed_choice = refl
+lean_others_count single (marked_choice alts) = ap Some (lean_count single alts)
 
 -- the additions are of the profile, where there is a mark
 abbrev MoreOfProfile : MoreFields → Type 0
@@ -129,7 +132,7 @@ others_of_profile root (marked_choice alts) good = added_alternatives_of_profile
 
 -- ---- spellings
 
-module _ (c : Coding) (laws : Laws c) (law : SpellsNothing c.code) where
+module _ (c : Coding) (laws : Laws c) (single : Bool) (law : SpellsNothing single c.code) (indexes : single ≡ true → SpellsIndexes c.code) where
   -- the whole encodings, and open type fields
   wholes_alike : (t u : Shape) → InProfile t → InProfile u → AreAlike (Spelt c.code None t) (Spelt c.code None u)
       → AreAlike (Wholes c.ruling t) (Wholes c.ruling u)
@@ -143,8 +146,8 @@ module _ (c : Coding) (laws : Laws c) (law : SpellsNothing c.code) where
 
   -- a component that has to be there and has no units
   left_out : (name : List ℕ) (t : Shape) (fs : Fields) (bs : List ℕ) {M : List (Option Datum) → List Chunk → Type 0}
-      → has_nothing t ≡ true → AreAlike (Listed c.code fs bs) M → AreAlike (Listed c.code (field name must t fs) bs) M
-  left_out name t fs bs {M} none k = record {
+      → InProfile t → has_nothing single t ≡ true → AreAlike (Listed c.code fs bs) M → AreAlike (Listed c.code (field name must t fs) bs) M
+  left_out name t fs bs {M} good none k = record {
     to = λ v cs h. (
         let x = h.spelt in
         let e : x.first ≡ [] = x.spelt.spelt.same ∙ law t x.spelt.source none x.spelt.spelt.fits.0 in
@@ -153,7 +156,7 @@ module _ (c : Coding) (laws : Laws c) (law : SpellsNothing c.code) where
         (w.0, subst (λ (l : List Chunk). M w.0 l) (sym rest) w.1));
     from = λ w cs h. (
         let v = k.from w cs h in
-        let fits = only_fits t none in (
+        let fits = only_fits single t good none in (
           Some (only_value t) ∷ v.0,
           record {
             source = (Some (only_value t), v.0);
@@ -168,6 +171,24 @@ module _ (c : Coding) (laws : Laws c) (law : SpellsNothing c.code) where
           },
         ));
   }
+
+  -- items that are spelt as others are
+  items_cover : (root : List Label) (more : MoreLabels) (u : Shape) → AreSpeltAs c.code (enumerated root more) u
+      → Covers (Spelt c.code None (enumerated root more)) (Spelt c.code None u)
+  items_cover root more u k (item p) cs h =
+      let w = k p h.fits.0 in
+      (item w.0, record { fits = (w.1, tt); same = h.same ∙ w.2 })
+  items_cover root more u k v cs h = absurd h.fits.0
+
+  items_alike : (b : Bool) → (b ≡ true → SpellsIndexes c.code) → (root : List Label) (more : MoreLabels) → InProfile (enumerated root more)
+      → AreAlike (Spelt c.code None (enumerated root more)) (Spelt c.code None (enumerated (numbered_if b root) more))
+  items_alike true k root more good =
+      let w = k refl root more good in
+      record {
+        to = items_cover root more (enumerated (numbered 0 root) more) w.0;
+        from = items_cover (numbered 0 root) more (enumerated root more) w.1;
+      }
+  items_alike false k root more good = alike_self (Spelt c.code None (enumerated root more))
 
   -- SEQUENCEs whose parts are alike
   sequences_alike : (root other : Fields) (more others : MoreFields) → bitmap_length other ≡ bitmap_length root
@@ -199,56 +220,57 @@ module _ (c : Coding) (laws : Laws c) (law : SpellsNothing c.code) where
       (subst (λ m. AreAlike (Then (IndexOf c (count root) (added_alternatives more)) (ChosenBy c root more)) (Then (IndexOf c (count root) m) (ChosenBy c other others))) (sym f)
       (alike_after k)))
 
-  open_alike : (t : Shape) → InProfile t → InProfile (lean t) → AreAlike (Spelt c.code None t) (Spelt c.code None (lean t))
-      → AreAlike (OpenOf c t) (OpenOf c (lean t))
+  open_alike : (t : Shape) → InProfile t → InProfile (lean single t) → AreAlike (Spelt c.code None t) (Spelt c.code None (lean single t))
+      → AreAlike (OpenOf c t) (OpenOf c (lean single t))
   open_alike t good other k =
-      let w = wholes_alike t (lean t) good other k in
-      record { to = open_covers t (lean t) w.to; from = open_covers (lean t) t w.from }
+      let w = wholes_alike t (lean single t) good other k in
+      record { to = open_covers t (lean single t) w.to; from = open_covers (lean single t) t w.from }
 
   -- the alternatives of the root, and the others
   chosen_alike : (root : Alternatives) (more : MoreAlternatives)
-      → ((i : ℕ) → AreAlike (ChosenBy c root more (inl i)) (ChosenBy c (lean_alternatives root) (lean_others more) (inl i)))
-      → ((i : ℕ) → AreAlike (ChosenBy c root more (inr i)) (ChosenBy c (lean_alternatives root) (lean_others more) (inr i)))
-      → (i : ℕ ⊎ ℕ) → AreAlike (ChosenBy c root more i) (ChosenBy c (lean_alternatives root) (lean_others more) i)
+      → ((i : ℕ) → AreAlike (ChosenBy c root more (inl i)) (ChosenBy c (lean_alternatives single root) (lean_others single more) (inl i)))
+      → ((i : ℕ) → AreAlike (ChosenBy c root more (inr i)) (ChosenBy c (lean_alternatives single root) (lean_others single more) (inr i)))
+      → (i : ℕ ⊎ ℕ) → AreAlike (ChosenBy c root more i) (ChosenBy c (lean_alternatives single root) (lean_others single more) i)
   chosen_alike root more one other (inl i) = one i
   chosen_alike root more one other (inr i) = other i
 
   mutual
-    pub lean_alike : (t : Shape) → InProfile t → InProfile (lean t) → AreAlike (Spelt c.code None t) (Spelt c.code None (lean t))
+    pub lean_alike : (t : Shape) → InProfile t → InProfile (lean single t) → AreAlike (Spelt c.code None t) (Spelt c.code None (lean single t))
+    lean_alike (enumerated root more) good other = items_alike single indexes root more good
     lean_alike (sequence root more) good other =
         alike_on (alike_from (laws.sequences root more good))
-        (alike_on (sequences_alike root (lean_root root) more (lean_more more) (lean_bitmap root) (lean_added more)
-        (root_alike root (components_of_profile root more good) (components_of_profile (lean_root root) (lean_more more) other))
-        (more_alike more (more_of_profile root more good) (more_of_profile (lean_root root) (lean_more more) other)))
-        (alike_to (laws.sequences (lean_root root) (lean_more more) other)))
+        (alike_on (sequences_alike root (lean_root single root) more (lean_more single more) (lean_bitmap single root) (lean_added single more)
+        (root_alike root (components_of_profile root more good) (components_of_profile (lean_root single root) (lean_more single more) other))
+        (more_alike more (more_of_profile root more good) (more_of_profile (lean_root single root) (lean_more single more) other)))
+        (alike_to (laws.sequences (lean_root single root) (lean_more single more) other)))
     lean_alike (sequence_of t s) good other =
-        let k = lean_alike t (element_of_profile t s good) (element_of_profile (lean t) s other) in
+        let k = lean_alike t (element_of_profile t s good) (element_of_profile (lean single t) s other) in
         alike_on (alike_from (laws.lists t s good))
         (alike_on (alike_map (λ vs. elements (elements_of vs)) (λ vs. elements (elements_of vs))
         (alike_map after_first after_first (alike_after (λ a. record { to = covers_remaining k.to a; from = covers_remaining k.from a }))))
-        (alike_to (laws.lists (lean t) s other)))
+        (alike_to (laws.lists (lean single t) s other)))
     lean_alike (choice root more) good other =
         alike_on (alike_from (laws.choices root more good))
-        (alike_on (choices_alike root (lean_alternatives root) more (lean_others more) (lean_count root) (lean_others_count more)
+        (alike_on (choices_alike root (lean_alternatives single root) more (lean_others single more) (lean_count single root) (lean_others_count single more)
         (chosen_alike root more
-        (root_chosen root (root_alternatives_of_profile root more good) (root_alternatives_of_profile (lean_alternatives root) (lean_others more) other))
-        (others_chosen root more (others_of_profile root more good) (others_of_profile (lean_alternatives root) (lean_others more) other))))
-        (alike_to (laws.choices (lean_alternatives root) (lean_others more) other)))
+        (root_chosen root (root_alternatives_of_profile root more good) (root_alternatives_of_profile (lean_alternatives single root) (lean_others single more) other))
+        (others_chosen root more (others_of_profile root more good) (others_of_profile (lean_alternatives single root) (lean_others single more) other))))
+        (alike_to (laws.choices (lean_alternatives single root) (lean_others single more) other)))
     lean_alike t good other = alike_self (Spelt c.code None t)
 
-    root_alike : (fs : Fields) → AreOfProfile fs → AreOfProfile (lean_root fs) → (bs : List ℕ)
-        → AreAlike (Listed c.code fs bs) (Listed c.code (lean_root fs) bs)
+    root_alike : (fs : Fields) → AreOfProfile fs → AreOfProfile (lean_root single fs) → (bs : List ℕ)
+        → AreAlike (Listed c.code fs bs) (Listed c.code (lean_root single fs) bs)
     root_alike no_fields good other bs = alike_self (Listed c.code no_fields bs)
     root_alike (field name must t fs) good other bs =
-        go (has_nothing t) refl other (λ h. lean_alike t good.0 h) (λ h. root_alike fs good.2 h bs)
+        go (has_nothing single t) refl other (λ h. lean_alike t good.0 h) (λ h. root_alike fs good.2 h bs)
       where
-        go : (b : Bool) → has_nothing t ≡ b
-            → AreOfProfile (elim b [ true ↦ lean_root fs | false ↦ field name must (lean t) (lean_root fs) ])
-            → (InProfile (lean t) → AreAlike (Spelt c.code None t) (Spelt c.code None (lean t)))
-            → (AreOfProfile (lean_root fs) → AreAlike (Listed c.code fs bs) (Listed c.code (lean_root fs) bs))
+        go : (b : Bool) → has_nothing single t ≡ b
+            → AreOfProfile (elim b [ true ↦ lean_root single fs | false ↦ field name must (lean single t) (lean_root single fs) ])
+            → (InProfile (lean single t) → AreAlike (Spelt c.code None t) (Spelt c.code None (lean single t)))
+            → (AreOfProfile (lean_root single fs) → AreAlike (Listed c.code fs bs) (Listed c.code (lean_root single fs) bs))
             → AreAlike (Listed c.code (field name must t fs) bs)
-            (Listed c.code (elim b [ true ↦ lean_root fs | false ↦ field name must (lean t) (lean_root fs) ]) bs)
-        go true e h one rest = left_out name t fs bs e (rest h)
+            (Listed c.code (elim b [ true ↦ lean_root single fs | false ↦ field name must (lean single t) (lean_root single fs) ]) bs)
+        go true e h one rest = left_out name t fs bs good.0 e (rest h)
         go false e h one rest = alike_before (one h.0) (rest h.2)
     root_alike (field name optional t fs) good other (suc b ∷ bs) =
         alike_before (lean_alike t good.0 other.0) (root_alike fs good.2 other.2 bs)
@@ -260,39 +282,47 @@ module _ (c : Coding) (laws : Laws c) (law : SpellsNothing c.code) where
         alike_map (λ es. Some d ∷ es) (λ es. Some d ∷ es) (root_alike fs good.2 other.2 bs)
     root_alike (field name (default d) t fs) good other [] = no_language
 
-    more_alike : (more : MoreFields) → MoreOfProfile more → MoreOfProfile (lean_more more) → (b : Bool)
-        → AreAlike (AddedOf c more b) (AddedOf c (lean_more more) b)
+    more_alike : (more : MoreFields) → MoreOfProfile more → MoreOfProfile (lean_more single more) → (b : Bool)
+        → AreAlike (AddedOf c more b) (AddedOf c (lean_more single more) b)
     more_alike closed good other b = alike_self (AddedOf c closed b)
     more_alike (marked fs) good other false = record {
-      to = covers_nothing (absent_entries fs) (absent_entries (lean_each fs));
-      from = covers_nothing (absent_entries (lean_each fs)) (absent_entries fs);
+      to = covers_nothing (absent_entries fs) (absent_entries (lean_each single fs));
+      from = covers_nothing (absent_entries (lean_each single fs)) (absent_entries fs);
     }
-    more_alike (marked fs) good other true = additions_alike fs (lean_each fs) (lean_many fs) (each_alike fs good other)
+    more_alike (marked fs) good other true = additions_alike fs (lean_each single fs) (lean_many single fs) (each_alike fs good other)
 
-    each_alike : (fs : Fields) → AreOfProfile fs → AreOfProfile (lean_each fs) → (bs : List ℕ)
-        → AreAlike (OpenListed c fs bs) (OpenListed c (lean_each fs) bs)
+    each_alike : (fs : Fields) → AreOfProfile fs → AreOfProfile (lean_each single fs) → (bs : List ℕ)
+        → AreAlike (OpenListed c fs bs) (OpenListed c (lean_each single fs) bs)
     each_alike no_fields good other bs = alike_self (OpenListed c no_fields bs)
-    each_alike (field name demand t fs) good other (suc b ∷ bs) =
+    each_alike (field name must t fs) good other (suc b ∷ bs) =
         alike_before (open_alike t good.0 other.0 (lean_alike t good.0 other.0)) (each_alike fs good.2 other.2 bs)
-    each_alike (field name demand t fs) good other (zero ∷ bs) = alike_absent (each_alike fs good.2 other.2 bs)
-    each_alike (field name demand t fs) good other [] = no_language
+    each_alike (field name must t fs) good other (zero ∷ bs) = alike_absent (each_alike fs good.2 other.2 bs)
+    each_alike (field name must t fs) good other [] = no_language
+    each_alike (field name optional t fs) good other (suc b ∷ bs) =
+        alike_before (open_alike t good.0 other.0 (lean_alike t good.0 other.0)) (each_alike fs good.2 other.2 bs)
+    each_alike (field name optional t fs) good other (zero ∷ bs) = alike_absent (each_alike fs good.2 other.2 bs)
+    each_alike (field name optional t fs) good other [] = no_language
+    each_alike (field name (default d) t fs) good other (suc b ∷ bs) =
+        rw (lean_simple t (default_is_simple t d good.1)) (alike_before (alike_self (OpenOf c t)) (each_alike fs good.2 other.2 bs))
+    each_alike (field name (default d) t fs) good other (zero ∷ bs) = alike_absent (each_alike fs good.2 other.2 bs)
+    each_alike (field name (default d) t fs) good other [] = no_language
 
-    others_chosen : (root : Alternatives) (more : MoreAlternatives) → OthersOfProfile more → OthersOfProfile (lean_others more)
-        → (i : ℕ) → AreAlike (ChosenBy c root more (inr i)) (ChosenBy c (lean_alternatives root) (lean_others more) (inr i))
+    others_chosen : (root : Alternatives) (more : MoreAlternatives) → OthersOfProfile more → OthersOfProfile (lean_others single more)
+        → (i : ℕ) → AreAlike (ChosenBy c root more (inr i)) (ChosenBy c (lean_alternatives single root) (lean_others single more) (inr i))
     others_chosen root closed_choice first rest i = alike_self (ChosenOf (λ t. OpenOf c t) no_alternatives i)
     others_chosen root (marked_choice alts) first rest i = added_chosen alts first rest i
 
-    root_chosen : (alts : Alternatives) → AreAllOfProfile alts → AreAllOfProfile (lean_alternatives alts) → (i : ℕ)
-        → AreAlike (ChosenOf (λ t. Spelt c.code None t) alts i) (ChosenOf (λ t. Spelt c.code None t) (lean_alternatives alts) i)
+    root_chosen : (alts : Alternatives) → AreAllOfProfile alts → AreAllOfProfile (lean_alternatives single alts) → (i : ℕ)
+        → AreAlike (ChosenOf (λ t. Spelt c.code None t) alts i) (ChosenOf (λ t. Spelt c.code None t) (lean_alternatives single alts) i)
     root_chosen no_alternatives good other i = no_language
     root_chosen (one_of name t alts) good other zero = lean_alike t good.0 other.0
     root_chosen (one_of name t alts) good other (suc i) = root_chosen alts good.1 other.1 i
 
-    added_chosen : (alts : Alternatives) → AreAllOfProfile alts → AreAllOfProfile (lean_alternatives alts) → (i : ℕ)
-        → AreAlike (ChosenOf (λ t. OpenOf c t) alts i) (ChosenOf (λ t. OpenOf c t) (lean_alternatives alts) i)
+    added_chosen : (alts : Alternatives) → AreAllOfProfile alts → AreAllOfProfile (lean_alternatives single alts) → (i : ℕ)
+        → AreAlike (ChosenOf (λ t. OpenOf c t) alts i) (ChosenOf (λ t. OpenOf c t) (lean_alternatives single alts) i)
     added_chosen no_alternatives good other i = no_language
     added_chosen (one_of name t alts) good other zero = open_alike t good.0 other.0 (lean_alike t good.0 other.0)
     added_chosen (one_of name t alts) good other (suc i) = added_chosen alts good.1 other.1 i
 
-  pub lean_wholes : (t : Shape) → InProfile t → InProfile (lean t) → AreAlike (Wholes c.ruling t) (Wholes c.ruling (lean t))
-  lean_wholes t good other = wholes_alike t (lean t) good other (lean_alike t good other)
+  pub lean_wholes : (t : Shape) → InProfile t → InProfile (lean single t) → AreAlike (Wholes c.ruling t) (Wholes c.ruling (lean single t))
+  lean_wholes t good other = wholes_alike t (lean single t) good other (lean_alike t good other)

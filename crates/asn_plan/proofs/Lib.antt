@@ -9,6 +9,7 @@ pub mod FieldBits
 pub mod FixedSizes
 pub mod Growing
 pub mod IntegerRanges
+pub mod ItemNumbers
 pub mod LeafTypes
 pub mod LeanAnswers
 pub mod LeanTypes
@@ -22,6 +23,7 @@ pub mod Placing
 pub mod Ranks
 pub mod RootItems
 pub mod Rows
+pub mod Singles
 pub mod Sorting
 pub mod StringsPut
 pub mod WordsTaken

@@ -1,5 +1,5 @@
 -- What a node says of the types that it is a plan of.
-use Rattle.std.proofs.Common.{◌≡◌, ◌≤◌, ◌<◌, ◌+◌, ◌∷◌, ◌∙◌, sym, arith, List, take, drop, length, get_or, refl, Option, Some, None}
+use Rattle.std.proofs.Common.{◌≡◌, ◌≤◌, ◌<◌, ◌+◌, ◌∷◌, ◌∙◌, sym, arith, true, false, List, take, drop, length, get_or, refl, Option, Some, None}
 use Rattle.std.specs.Prelude.{IfSome}
 use Rattle.std.proofs.Math.Seq.{drop-cons}
 use Rattle.std.proofs.Math.Numerals.{add-one}
@@ -56,7 +56,8 @@ pub record IsSequence (ns : List Node) (s : ComponentRows) (t : Shape) : Type 0 
   pub additions : s.additions ≡ added more
   pub plans : ArePlans (take s.begin ns) (row s.begin s.middle ns) root
   pub others : ArePlansOfMore (take s.begin ns) (row s.middle s.end ns) more
-  pub entries : HasEntriesIfAny s.entries t
+  pub entries : HasEntriesIfAny false s.entries t
+  pub single : HasEntriesIfAny true s.single_entries t
 
 pub sequence_is : (ns : List Node) (t : Shape) (s : ComponentRows) → IsPlan ns t (kind.Sequence s) → IsSequence ns s t
 sequence_is ns (sequence root more) s p = record {
@@ -68,6 +69,7 @@ sequence_is ns (sequence root more) s p = record {
   plans = p.5;
   others = p.6;
   entries = p.7;
+  single = p.8;
 }
 sequence_is ns t s p = absurd p
 

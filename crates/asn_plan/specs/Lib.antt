@@ -3,6 +3,7 @@ pub mod Enumerations
 pub mod Fields
 pub mod FixedSizes
 pub mod FixedStrings
+pub mod InOrder
 pub mod Lean
 pub mod Nothing
 pub mod Placed

@@ -1,5 +1,5 @@
 -- Which types the nodes of a plan stand for, and what the walk of a plan says of units.
-use Rattle.std.specs.Prelude.{◌≡◌, ◌+◌, ◌-◌, ◌*◌, ◌≤◌, ◌<◌, ℕ, zero, suc, List, [], ◌∷◌, ◌++◌, length, take, drop, Option, None, IfSome, Result, ⊤}
+use Rattle.std.specs.Prelude.{◌≡◌, ◌+◌, ◌-◌, ◌*◌, ◌≤◌, ◌<◌, ℕ, zero, suc, true, false, List, [], ◌∷◌, ◌++◌, length, take, drop, Option, None, IfSome, Result, ⊤}
 use Rattle.asn_values.specs.Datum.{Datum}
 use Rattle.asn_values.specs.Parts.{AreOfProfile}
 use Rattle.asn_values.specs.Profile.{InProfile}
@@ -70,7 +70,8 @@ abbrev mutual
       × (s.width ≡ bitmap_length root) × (s.additions ≡ added more)
       × ArePlans (take s.begin ns) (row s.begin s.middle ns) root
       × ArePlansOfMore (take s.begin ns) (row s.middle s.end ns) more
-      × HasEntriesIfAny s.entries (sequence root more)
+      × HasEntriesIfAny false s.entries (sequence root more)
+      × HasEntriesIfAny true s.single_entries (sequence root more)
   IsPlan ns (sequence root more) (kind.List l) = ⊥
   IsPlan ns (sequence root more) (kind.Choice a) = ⊥
   IsPlan ns (sequence_of t s) (kind.Number b) = ⊥

@@ -80,9 +80,9 @@ pub trait Build {
         None
     }
 
-    /// Whether values of no units are built of the count of their entries, by `counted`; else they are walked.
+    /// Whether values of no units are built in this room of the count of their entries, by `counted`; else they are walked.
     #[inline(always)]
-    fn takes_counts() -> bool {
+    fn takes_counts(_room: &Self::Room) -> bool {
         false
     }
 
@@ -245,7 +245,7 @@ impl Build for Nothing {
     }
 
     #[inline(always)]
-    fn takes_counts() -> bool {
+    fn takes_counts(_room: &()) -> bool {
         true
     }
 

@@ -41,8 +41,12 @@ pub(crate) fn build_sequence<R: PlanLeaves, B: Build>(
 {
     R::keep_laws();
     R::keep_nothing();
-    if B::takes_counts() && parts.entries > 0 {
+    if B::takes_counts(room) && parts.entries > 0 {
         let part = B::counted(room, parts.entries)?;
+        return Some(part);
+    }
+    if B::takes_counts(room) && parts.single_entries > 0 && R::single_is_empty() {
+        let part = B::counted(room, parts.single_entries)?;
         return Some(part);
     }
     if parts.begin > parts.middle || parts.middle > parts.end || parts.end > nodes.len() {

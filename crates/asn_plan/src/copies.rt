@@ -7,7 +7,7 @@ use asn_values::{AsnType, Item, Value};
 use std::alloc::{AllocError, Global};
 
 /// A copy of these items.
-fn copy_items(alloc: Global, items: &[Item]) -> Result<Vec<Item>, AllocError>
+pub(crate) fn copy_items(alloc: Global, items: &[Item]) -> Result<Vec<Item>, AllocError>
     ensures { IfOk result (λ v. labels_seen v.items ≡ labels_seen items.now) }
 {
     let mut copies = Vec::new(alloc);

@@ -111,7 +111,7 @@ impl Build for Counting {
     }
 
     #[inline(always)]
-    fn takes_counts() -> bool {
+    fn takes_counts(_room: &()) -> bool {
         true
     }
 

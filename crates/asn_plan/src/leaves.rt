@@ -45,7 +45,7 @@ pub(crate) fn build_leaf<R: PlanLeaves, B: Build>(
         → Builds R.rules (B.built room.old room.new) t p units.old units.new) }
 {
     R::keep_nothing();
-    if B::takes_counts()
+    if B::takes_counts(room)
         && let AsnType::Null = &leaf.ty
     {
         let null = B::counted(room, 1)?;

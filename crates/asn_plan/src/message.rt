@@ -5,13 +5,16 @@ ghost use Rattle.asn_values.specs.Shape.{Shape};
 ghost use Rattle.asn_values.specs.View.{shape_of, datum_of};
 ghost use Rattle.asn_rules.specs.Answer.{IsEncoding, max_octets};
 ghost use Rattle.asn_rules.specs.Codec.{Decoded};
-ghost use Rattle.asn_plan.specs.Lean.{lean as lean_shape};
+ghost use Rattle.asn_plan.specs.InOrder.{SpellsIndexes};
+ghost use Rattle.asn_plan.specs.Lean.{AreLean, lean as lean_shape};
+ghost use Rattle.asn_plan.specs.Nothing.{SpellsNothing};
 ghost use Rattle.asn_plan.specs.Plans.{IsPlanOf, BuildsMessage, Checks};
 ghost use Rattle.asn_plan.specs.Within.{CheckedWithin, DecodedWithin, IsTaken};
 
 use crate::budget::{Budget, Taken, WithinFault};
 use crate::build::{Build, Nothing};
 use crate::counting::Counting;
+use crate::lean::Leans;
 use crate::open::build_complete;
 use crate::plan::Plan;
 use crate::reused::{Reused, Spare};
@@ -59,25 +62,47 @@ pub fn check_exactly<R: PlanRules>(
     check_message::<R>(alloc, ty, octets)
 }
 
-/// The same as `check_exactly`, by the lean type if there is one, whose spellings are the same.
+/// The same as `check_exactly`, by what the type is without the components that have no units, whose spellings are the same.
+fn check_as_lean<R: PlanRules>(
+    alloc: Global,
+    ty: &Checked,
+    lean: &Checked,
+    _single: bool,
+    octets: &[u8],
+) -> Result<(), DecodeFault>
+    requires lean { shape_of lean.now ≡ lean_shape _single (shape_of ty.now) }
+    requires law { SpellsNothing _single R.rules.code }
+    requires indexes { _single ≡ true → SpellsIndexes R.rules.code }
+    ensures { Checks R.ruling result (shape_of ty.now) octets.now }
+{
+    <R as ReadLeaves>::keep_laws();
+    ty.get();
+    lean.get();
+    check_exactly::<R>(alloc, lean, octets)
+}
+
+/// The same as `check_exactly`, by a lean type if there is one.
 #[inline(never)]
 fn check_leanly<R: PlanRules>(
     alloc: Global,
     ty: &Checked,
-    lean: &Option<Checked>,
+    leans: &Leans,
     octets: &[u8],
 ) -> Result<(), DecodeFault>
-    requires { IfSome lean.now (λ l. shape_of l ≡ lean_shape (shape_of ty.now)) }
+    requires { AreLean leans.now (shape_of ty.now) }
     ensures { Checks R.ruling result (shape_of ty.now) octets.now }
 {
-    let Some(lean) = lean else {
-        return check_exactly::<R>(alloc, ty, octets);
-    };
-    <R as ReadLeaves>::keep_laws();
+    if R::single_is_empty()
+        && R::spells_indexes()
+        && let Some(lean) = &leans.single
+    {
+        return check_as_lean::<R>(alloc, ty, lean, true, octets);
+    }
     R::keep_nothing();
-    ty.get();
-    lean.get();
-    check_exactly::<R>(alloc, lean, octets)
+    match &leans.any {
+        Some(lean) => check_as_lean::<R>(alloc, ty, lean, false, octets),
+        None => check_exactly::<R>(alloc, ty, octets),
+    }
 }
 
 /// Whether the octets are the encoding of some value of the type: `Ok` exactly where they are, unless an allocation failed,
@@ -89,19 +114,19 @@ fn check_leanly<R: PlanRules>(
 pub(crate) fn check_by<R: PlanRules>(
     alloc: Global,
     ty: &Checked,
-    lean: &Option<Checked>,
+    leans: &Leans,
     plan: &Plan,
     octets: &[u8],
 ) -> Result<(), DecodeFault>
     requires plan { IsPlanOf plan.now (shape_of ty.now) }
-    requires lean { IfSome lean.now (λ l. shape_of l ≡ lean_shape (shape_of ty.now)) }
+    requires lean { AreLean leans.now (shape_of ty.now) }
     ensures { Checks R.ruling result (shape_of ty.now) octets.now }
 {
     ty.get();
     if let Some(()) = build_octets::<R, Nothing>(alloc, plan, octets, &mut ()) {
         return Ok(());
     }
-    check_leanly::<R>(alloc, ty, lean, octets)
+    check_leanly::<R>(alloc, ty, leans, octets)
 }
 
 /// The value of the type whose complete encoding the octets are: what `asn_rules::decode` answers.
@@ -112,15 +137,20 @@ pub(crate) fn check_by<R: PlanRules>(
 pub(crate) fn decode_by<R: PlanRules>(
     alloc: Global,
     ty: &Checked,
+    leans: &Leans,
     plan: &Plan,
     octets: &[u8],
 ) -> Result<Value, DecodeFault>
-    requires { IsPlanOf plan.now (shape_of ty.now) }
+    requires plan { IsPlanOf plan.now (shape_of ty.now) }
+    requires lean { AreLean leans.now (shape_of ty.now) }
     ensures { Decoded R.ruling result (shape_of ty.now) octets.now }
 {
     ty.get();
     if let Some(value) = build_octets::<R, Values>(alloc, plan, octets, &mut ()) {
         return Ok(value);
+    }
+    if let Err(why) = check_leanly::<R>(alloc, ty, leans, octets) {
+        return Err(why);
     }
     R::decode(alloc, ty, octets)
 }
@@ -158,18 +188,23 @@ fn overwrite<R: PlanLeaves>(
 pub(crate) fn decode_into_by<R: PlanRules>(
     alloc: Global,
     ty: &Checked,
+    leans: &Leans,
     plan: &Plan,
     octets: &[u8],
     value: &mut Value,
     spare: &mut Spare,
 ) -> Result<(), DecodeFault>
-    requires { IsPlanOf plan.now (shape_of ty.now) }
+    requires plan { IsPlanOf plan.now (shape_of ty.now) }
+    requires lean { AreLean leans.now (shape_of ty.now) }
     ensures done { OnOk result (Decoded R.ruling (Ok value.new) (shape_of ty.now) octets.now) }
     ensures fault { IfErr result (λ why. Decoded R.ruling (Err why) (shape_of ty.now) octets.now) }
 {
     ty.get();
     if overwrite::<R>(alloc, plan, octets, value, spare) {
         return Ok(());
+    }
+    if let Err(why) = check_leanly::<R>(alloc, ty, leans, octets) {
+        return Err(why);
     }
     R::decode_into(alloc, ty, octets, value)
 }
@@ -191,16 +226,11 @@ pub(crate) fn taken_by<R: PlanRules>(
 
 /// The fault of octets at which the walk gave up: it does so at no encoding unless an allocation failed.
 #[inline(never)]
-fn fault_of<R: PlanRules>(
-    alloc: Global,
-    ty: &Checked,
-    lean: &Option<Checked>,
-    octets: &[u8],
-) -> DecodeFault
-    requires { IfSome lean.now (λ l. shape_of l ≡ lean_shape (shape_of ty.now)) }
+fn fault_of<R: PlanRules>(alloc: Global, ty: &Checked, leans: &Leans, octets: &[u8]) -> DecodeFault
+    requires { AreLean leans.now (shape_of ty.now) }
     ensures { Decoded R.ruling (Err result) (shape_of ty.now) octets.now }
 {
-    match check_leanly::<R>(alloc, ty, lean, octets) {
+    match check_leanly::<R>(alloc, ty, leans, octets) {
         Ok(()) => DecodeFault::Memory,
         Err(why) => why,
     }
@@ -214,18 +244,18 @@ fn fault_of<R: PlanRules>(
 pub(crate) fn check_within_by<R: PlanRules>(
     alloc: Global,
     ty: &Checked,
-    lean: &Option<Checked>,
+    leans: &Leans,
     plan: &Plan,
     octets: &[u8],
     budget: &Budget,
 ) -> Result<Taken, WithinFault>
     requires plan { IsPlanOf plan.now (shape_of ty.now) }
-    requires lean { IfSome lean.now (λ l. shape_of l ≡ lean_shape (shape_of ty.now)) }
+    requires lean { AreLean leans.now (shape_of ty.now) }
     ensures { CheckedWithin R.ruling budget.now result (shape_of ty.now) octets.now }
 {
     ty.get();
     let Some(taken) = taken_by::<R>(alloc, ty, plan, octets) else {
-        let why = fault_of::<R>(alloc, ty, lean, octets);
+        let why = fault_of::<R>(alloc, ty, leans, octets);
         return Err(WithinFault::Decode(why));
     };
     if !taken.is_within(budget) {
@@ -242,24 +272,24 @@ pub(crate) fn check_within_by<R: PlanRules>(
 pub(crate) fn decode_within_by<R: PlanRules>(
     alloc: Global,
     ty: &Checked,
-    lean: &Option<Checked>,
+    leans: &Leans,
     plan: &Plan,
     octets: &[u8],
     budget: &Budget,
 ) -> Result<Value, WithinFault>
     requires plan { IsPlanOf plan.now (shape_of ty.now) }
-    requires lean { IfSome lean.now (λ l. shape_of l ≡ lean_shape (shape_of ty.now)) }
+    requires lean { AreLean leans.now (shape_of ty.now) }
     ensures { DecodedWithin R.ruling budget.now result (shape_of ty.now) octets.now }
 {
     <R as Rules>::keep_laws();
     ty.get();
     let Some(taken) = taken_by::<R>(alloc, ty, plan, octets) else {
-        return Err(WithinFault::Decode(fault_of::<R>(alloc, ty, lean, octets)));
+        return Err(WithinFault::Decode(fault_of::<R>(alloc, ty, leans, octets)));
     };
     if !taken.is_within(budget) {
         return Err(WithinFault::OverBudget);
     }
-    match decode_by::<R>(alloc, ty, plan, octets) {
+    match decode_by::<R>(alloc, ty, leans, plan, octets) {
         Ok(value) => Ok(value),
         Err(why) => Err(WithinFault::Decode(why)),
     }

@@ -124,7 +124,8 @@ fn place_components(
     let mut rest = rest;
     let begin = nodes.len();
     let head = head_of(first.as_slice(), additions, width);
-    let entries = entries_of(first.as_slice(), additions);
+    let entries = entries_of(first.as_slice(), additions, false);
+    let single_entries = entries_of(first.as_slice(), additions, true);
     nodes.append(&mut first)?;
     let middle = nodes.len();
     nodes.append(&mut rest)?;
@@ -138,6 +139,7 @@ fn place_components(
         mask: greatest_of_width(width.min(64)),
         head,
         entries,
+        single_entries,
     }))
 }
 

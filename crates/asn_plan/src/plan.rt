@@ -74,8 +74,10 @@ pub struct ComponentRows {
     pub mask: u64,
     /// The units of the extension bit and the presence bits, and the runs of the first component.
     pub head: Runs,
-    /// How many entries the value has, where it has no units; else 0.
+    /// How many entries the value has, where it has no units by any rules; else 0.
     pub entries: u32,
+    /// The same by rules that spell the only value of a type by nothing.
+    pub single_entries: u32,
     ghost is_mask: { width ≤ 64 → mask + 1 ≡ 2 ^ width },
 }
 

@@ -3,7 +3,7 @@ ghost use Rattle.std.specs.Prelude.{◌≡◌, IfOk};
 
 use crate::budget::{Budget, Taken, WithinFault};
 use crate::build::Build;
-use crate::lean::lean_type;
+use crate::lean::{Leans, leans_of};
 use crate::message::{
     build_octets, check_by, check_within_by, decode_by, decode_into_by, decode_within_by, taken_by,
 };
@@ -20,8 +20,7 @@ use std::marker::Model;
 #[derive(Drop)]
 pub struct Planned {
     ty: Checked,
-    /// The type without the components that have no units, where it has many of these.
-    lean: Option<Checked>,
+    leans: Leans,
     plan: Plan,
 }
 
@@ -34,15 +33,13 @@ impl Model for Planned {
 
     ghost coded = { Prim.hlevel (codes, e.the_row.coded) };
 
-    ghost use Rattle.std.specs.Prelude.{◌≡◌, IfSome};
     ghost use Rattle.asn_values.specs.View.{shape_of};
-    ghost use Rattle.asn_plan.specs.Lean.{lean as lean_shape};
+    ghost use Rattle.asn_plan.specs.Lean.{AreLean};
     ghost use Rattle.asn_plan.specs.Plans.{IsPlanOf};
 
     ghost view = { λ p. p.ty };
 
-    ghost invariant = { λ p. IsPlanOf p.plan (shape_of p.ty)
-        × IfSome p.lean (λ l. shape_of l ≡ lean_shape (shape_of p.ty)) };
+    ghost invariant = { λ p. IsPlanOf p.plan (shape_of p.ty) × AreLean p.leans (shape_of p.ty) };
 }
 
 impl Planned {
@@ -54,8 +51,8 @@ impl Planned {
         ensures { IfOk result (λ p. p ≡ ty) }
     {
         let plan = plan_of(alloc, &ty)?;
-        let lean = lean_type(alloc, &ty, &plan)?;
-        Ok(Planned { ty, lean, plan })
+        let leans = leans_of(alloc, &ty, &plan)?;
+        Ok(Planned { ty, leans, plan })
     }
 
     /// The type.
@@ -83,7 +80,7 @@ impl Planned {
     pub fn check<R: PlanRules>(&self, alloc: Global, octets: &[u8]) -> Result<(), DecodeFault>
         ensures { Checks R.ruling result (shape_of self.now) octets.now }
     {
-        check_by::<R>(alloc, &self.ty, &self.lean, &self.plan, octets)
+        check_by::<R>(alloc, &self.ty, &self.leans, &self.plan, octets)
     }
 
     /// The value of the type whose complete encoding by the rules R the octets are: what `asn_rules::decode` answers.
@@ -93,7 +90,7 @@ impl Planned {
     pub fn decode<R: PlanRules>(&self, alloc: Global, octets: &[u8]) -> Result<Value, DecodeFault>
         ensures { Decoded R.ruling result (shape_of self.now) octets.now }
     {
-        decode_by::<R>(alloc, &self.ty, &self.plan, octets)
+        decode_by::<R>(alloc, &self.ty, &self.leans, &self.plan, octets)
     }
 
     /// Decodes the value of the type whose complete encoding by the rules R the octets are into the one that is there,
@@ -113,7 +110,15 @@ impl Planned {
         ensures done { OnOk result (Decoded R.ruling (Ok value.new) (shape_of self.now) octets.now) }
         ensures fault { IfErr result (λ why. Decoded R.ruling (Err why) (shape_of self.now) octets.now) }
     {
-        decode_into_by::<R>(alloc, &self.ty, &self.plan, octets, value, spare)
+        decode_into_by::<R>(
+            alloc,
+            &self.ty,
+            &self.leans,
+            &self.plan,
+            octets,
+            value,
+            spare,
+        )
     }
 
     /// What is built, in this room, of the value of the type whose complete encoding by the rules R the octets are.
@@ -156,7 +161,7 @@ impl Planned {
     ) -> Result<Taken, WithinFault>
         ensures { CheckedWithin R.ruling budget.now result (shape_of self.now) octets.now }
     {
-        check_within_by::<R>(alloc, &self.ty, &self.lean, &self.plan, octets, budget)
+        check_within_by::<R>(alloc, &self.ty, &self.leans, &self.plan, octets, budget)
     }
 
     /// The value of the type whose complete encoding by the rules R the octets are, if it takes no more than the
@@ -173,6 +178,6 @@ impl Planned {
     ) -> Result<Value, WithinFault>
         ensures { DecodedWithin R.ruling budget.now result (shape_of self.now) octets.now }
     {
-        decode_within_by::<R>(alloc, &self.ty, &self.lean, &self.plan, octets, budget)
+        decode_within_by::<R>(alloc, &self.ty, &self.leans, &self.plan, octets, budget)
     }
 }

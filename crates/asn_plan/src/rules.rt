@@ -1,5 +1,5 @@
 //! Encoding rules by which a plan is read.
-ghost use Rattle.std.specs.Prelude.{◌≡◌, ◌^◌, ◌+◌, ◌≤◌, ℕ, List, Option, IfSome, IsNone, true};
+ghost use Rattle.std.specs.Prelude.{◌≡◌, ◌^◌, ◌+◌, ◌≤◌, ℕ, List, Option, IfSome, IsNone, true, false};
 ghost use mathlib.Core.Logic.{inl};
 ghost use Rattle.asn_values.specs.Datum.{truth, number, item};
 ghost use Rattle.asn_values.specs.Profile.{InProfile};
@@ -13,6 +13,7 @@ ghost use Rattle.asn_walk.specs.Reading.{Reads, ValuesOf};
 ghost use Rattle.asn_plan.specs.Enumerations.{IsEnumeration};
 ghost use Rattle.asn_plan.specs.Fields.{AreCountFields, AreIndexFields, BeginsList};
 ghost use Rattle.asn_plan.specs.FixedStrings.{IsFixedString};
+ghost use Rattle.asn_plan.specs.InOrder.{SpellsIndexes};
 ghost use Rattle.asn_plan.specs.Nothing.{SpellsNothing};
 ghost use Rattle.asn_plan.specs.Plans.{BeginsOpen, EndsOpen, TellsString};
 ghost use Rattle.asn_plan.specs.Ranged.{ranged, IsRanged};
@@ -33,7 +34,23 @@ pub trait PlanLeaves: ReadLeaves {
     /// Values of NULL, and of SEQUENCEs of these alone, have no units. The call does nothing: its clause is what the
     /// proofs of the walk cite.
     fn keep_nothing()
-        ensures { SpellsNothing Self.rules.code };
+        ensures { SpellsNothing false Self.rules.code };
+
+    /// Whether the only value of a type has no units either, as by PER that of INTEGER (5..5).
+    #[inline(always)]
+    fn single_is_empty() -> bool
+        ensures { result ≡ true → SpellsNothing true Self.rules.code }
+    {
+        false
+    }
+
+    /// Whether an item is spelled by its index, as by PER.
+    #[inline(always)]
+    fn spells_indexes() -> bool
+        ensures { result ≡ true → SpellsIndexes Self.rules.code }
+    {
+        false
+    }
 
     /// Takes this many units at once, if they have all come and a word holds them; otherwise none.
     fn take_word(run: Run, units: &mut BitCursor<'_>) -> Word

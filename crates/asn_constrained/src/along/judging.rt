@@ -86,8 +86,8 @@ impl<'c> Build for Along<'c> {
     }
 
     #[inline(always)]
-    fn takes_counts() -> bool {
-        true
+    fn takes_counts(room: &Option<&'c Constraint>) -> bool {
+        room.is_none()
     }
 
     #[inline(always)]

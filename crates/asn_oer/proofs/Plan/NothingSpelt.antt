@@ -17,14 +17,14 @@ not_such : {A : Type 0} → false ≡ true → A
 not_such e = absurd (true≢false (sym e))
 
 -- such components have no presence bits
-presence_empty : (fs : Fields) (es : List (Option Datum)) → have_nothing fs ≡ true → presence (demands fs) es ≡ []
+presence_empty : (fs : Fields) (es : List (Option Datum)) → have_nothing false fs ≡ true → presence (demands fs) es ≡ []
 presence_empty no_fields es h = refl
 presence_empty (field name must t fs) [] h = refl
-presence_empty (field name must t fs) (e ∷ es) h = presence_empty fs es (and_parts (has_nothing t) (have_nothing fs) h).1
+presence_empty (field name must t fs) (e ∷ es) h = presence_empty fs es (and_parts (has_nothing false t) (have_nothing false fs) h).1
 presence_empty (field name demand t fs) es h = not_such h
 
 mutual
-  value_empty : (t : Shape) (d : Datum) → HasNothing t → Fits t d → oer t d ≡ []
+  value_empty : (t : Shape) (d : Datum) → HasNothing false t → Fits t d → oer t d ≡ []
   value_empty null d h f = refl
   value_empty (sequence root closed) (components cs) h f =
       let es = take (length (demands root)) (component_list cs) in
@@ -34,15 +34,15 @@ mutual
   value_empty (sequence root closed) d h f = absurd f
   value_empty t d h f = not_such h
 
-  each_empty : (fs : Fields) (es : List (Option Datum)) → have_nothing fs ≡ true → FitsEach fs es → oer_each fs es ≡ []
+  each_empty : (fs : Fields) (es : List (Option Datum)) → have_nothing false fs ≡ true → FitsEach fs es → oer_each fs es ≡ []
   each_empty no_fields es h f = refl
   each_empty (field name demand t fs) [] h f = refl
   each_empty (field name must t fs) (None ∷ es) h f = absurd f.0
   each_empty (field name must t fs) (Some d ∷ es) h f =
-      let w = and_parts (has_nothing t) (have_nothing fs) h in
+      let w = and_parts (has_nothing false t) (have_nothing false fs) h in
       ap (λ cs. cs ++ oer_each fs es) (value_empty t d w.0 f.0) ∙ each_empty fs es w.1 f.1
   each_empty (field name demand t fs) (e ∷ es) h f = not_such h
 
-pub nothing_spelt : SpellsNothing oer_coding.code
+pub nothing_spelt : SpellsNothing false oer_coding.code
 unfolding oer_coding
 nothing_spelt t d h f = value_empty t d h f

@@ -1,4 +1,4 @@
-use Rattle.std.proofs.Common.{◌≡◌, ◌<◌, ◌/◌, ◌%◌, ◌^◌, refl, sym, ap, ◌∙◌, ℕ, List, Some, None, inl, inr, length, arith, ◌-◌, []}
+use Rattle.std.proofs.Common.{◌≡◌, ◌<◌, ◌/◌, ◌%◌, ◌^◌, refl, sym, ap, ◌∙◌, ℕ, List, Some, None, inl, inr, length, arith, ◌-◌, [], true, false}
 use Rattle.std.proofs.lemmas.List.{drop_all, nil_from_length}
 use Rattle.asn_values.specs.Datum.{truth, number, item, alternative}
 use Rattle.asn_values.specs.Profile.{InProfile}
@@ -77,7 +77,14 @@ components::build_sequence-returns-then-parts-gt0-clause-some g t c s good p =
     let r = g.R.ReadLeaves.rules in
     let some : 0 < c.args.parts.now.entries = omega (arith, c.if-parts-gt0.true) in
     let h = (sequence_is c.args.nodes.now s c.args.parts.now p).entries some in
-    record { value = only_value s; of_value = c.in_ok-part.ensures (only_value s) (sym h.1) (only_octets s h.0); read = nothing_taken r c.keep_nothing.ensures s h.0 (r.to_units c.args.units.now) }
+    record { value = only_value s; of_value = c.in_ok-part.ensures (only_value s) (sym h.1) (only_octets s); read = nothing_taken r false c.keep_nothing.ensures s good h.0 (r.to_units c.args.units.now) }
+
+pub components::build_sequence-returns-then-single_is_empty-clause-some : goal.components::build_sequence-returns-then-single_is_empty-clause-some
+components::build_sequence-returns-then-single_is_empty-clause-some g t c s good p =
+    let r = g.R.ReadLeaves.rules in
+    let some : 0 < c.args.parts.now.single_entries = omega (arith, c.if-parts-gt0-2.true) in
+    let h = (sequence_is c.args.nodes.now s c.args.parts.now p).single some in
+    record { value = only_value s; of_value = c.in_ok-part-2.ensures (only_value s) (sym h.1) (only_octets s); read = nothing_taken r true (c.single_is_empty.ensures c.if-single_is_empty.true) s good h.0 (r.to_units c.args.units.now) }
 
 pub components::build_sequence-returns-then-parts-3-clause-some : goal.components::build_sequence-returns-then-parts-3-clause-some
 components::build_sequence-returns-then-parts-3-clause-some g t c s good p =

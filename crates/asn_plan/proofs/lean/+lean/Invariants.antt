@@ -6,12 +6,12 @@ use Rattle.asn_plan.proofs.lean.+lean.Given as goal
 
 abbrev pub invariant-lean_root-loop-field : goal.invariant-lean_root-loop-field
 invariant-lean_root-loop-field l =
-    append_fields (fields_of (map part_of_field l.kept.items)) (lean_root (fields_of (map part_of_field (drop l.field-index l.fields)))) ≡ lean_root (fields_of (map part_of_field l.fields))
+    append_fields (fields_of (map part_of_field l.kept.items)) (lean_root l.single (fields_of (map part_of_field (drop l.field-index l.fields)))) ≡ lean_root l.single (fields_of (map part_of_field l.fields))
 
 abbrev pub invariant-lean_each-loop-field : goal.invariant-lean_each-loop-field
 invariant-lean_each-loop-field l =
-    append_fields (fields_of (map part_of_field l.kept.items)) (lean_each (fields_of (map part_of_field (drop l.field-index l.fields)))) ≡ lean_each (fields_of (map part_of_field l.fields))
+    append_fields (fields_of (map part_of_field l.kept.items)) (lean_each l.single (fields_of (map part_of_field (drop l.field-index l.fields)))) ≡ lean_each l.single (fields_of (map part_of_field l.fields))
 
 abbrev pub invariant-lean_alternatives-loop-alternative : goal.invariant-lean_alternatives-loop-alternative
 invariant-lean_alternatives-loop-alternative l =
-    alternatives_of (map branch_of l.kept.items) ≡ lean_alternatives (alternatives_of (map branch_of (take l.alternative-index l.alternatives)))
+    alternatives_of (map branch_of l.kept.items) ≡ lean_alternatives l.single (alternatives_of (map branch_of (take l.alternative-index l.alternatives)))

@@ -11,7 +11,7 @@ loop-part-preserved c =
     let more = c.entries_if_nothing-more.result in
     let some : 0 < more = omega (arith, c.if-more-eq0.false) in
     let sum : c.loop-part.entries + more ≡ c.in-Some.all = omega (arith, c.in-Some.ensures) in
-    subst (λ (n : ℕ). CountedUpTo n c.args.first.now (drop (c.loop-part.part-index + 1) c.args.first.now)) sum (counted_further h more (c.entries_if_nothing-more.ensures some))
+    subst (λ (n : ℕ). CountedUpTo c.args.single n c.args.first.now (drop (c.loop-part.part-index + 1) c.args.first.now)) sum (counted_further h more (c.entries_if_nothing-more.ensures some))
 
 none_of : (o : Option ℕ) → is_some o ≡ false → o ≡ None
 none_of None e = refl

@@ -9,6 +9,7 @@ pub mod FieldsRead
 pub mod Goings
 pub mod HeldNodes
 pub mod HeldRead
+pub mod InPlace
 pub mod ItemsRead
 pub mod KeptNodes
 pub mod KeptRead

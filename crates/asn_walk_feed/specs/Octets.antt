@@ -132,3 +132,23 @@ abbrev pub KeepsOctetsFrom : {F : Type 0} → Coding → OctetCoding → (F → 
     → List (Frame F) → List ℕ → Stop → Type 0
 KeepsOctetsFrom c f ahead between fs gs old why = (us : List ℕ) → OctetsTook c f ahead between fs us
     → KeepsOctets c f ahead between gs (us ++ c.to_units old) why
+
+-- the octets are read, of which these nodes had begun: the one node has all of them
+abbrev pub HasRead : {F : Type 0} → Coding → OctetCoding → (F → Ahead) → (F → Type 0) → List (Frame F) → List (Frame F)
+    → List ℕ → List ℕ → Type 0
+HasRead {F} c f ahead between fs gs old new =
+    (q : Elements F ℕ) × (gs ≡ frame.Octets q ∷ []) × ReadsOctetsFrom c f ahead between fs q.elements.items old new
+
+-- the octets go on that this node has
+abbrev pub NodeGoesOn : {F : Type 0} → Coding → OctetCoding → (F → Ahead) → (F → Type 0) → Frame F → List ℕ → List ℕ
+    → Type 0
+NodeGoesOn c f ahead between (frame.Octets q) all units = OctetsGoOn c f ahead between q all units
+NodeGoesOn c f ahead between x all units = ⊥
+
+-- they are read, and the node has all of them
+abbrev pub NodeHasRead : {F : Type 0} → Coding → OctetCoding → (F → Ahead) → (F → Type 0) → Frame F → Frame F → List ℕ
+    → List ℕ → Type 0
+NodeHasRead {F} c f ahead between x (frame.Octets q) old new =
+    (all : List ℕ) → NodeGoesOn c f ahead between x all (c.to_units old)
+    → Spells c.ruling.fielding (OctetsOf f) q.elements.items all (c.to_units new)
+NodeHasRead c f ahead between x y old new = ⊥

@@ -3,7 +3,7 @@ ghost use Rattle.std.specs.Prelude.{◌≡◌, ◌∷◌, ◌↔◌, List, [], O
 ghost use Rattle.asn_values.specs.View.{shape_of};
 ghost use Rattle.asn_walk_feed.specs.Holding.{held_in, counted};
 ghost use Rattle.asn_walk_feed.specs.Keeping.{kept_in};
-ghost use Rattle.asn_walk_feed.specs.Nodes.{nodes};
+ghost use Rattle.asn_walk_feed.specs.Nodes.{nodes, HaveOctets};
 
 use crate::begun::Begun;
 use crate::held::held_in;
@@ -80,7 +80,7 @@ pub struct AdditionBits {
 #[derive(Drop)]
 pub struct Frames<F> {
     // the outermost last
-    stack: Vec<Frame<F>>,
+    pub(crate) stack: Vec<Frame<F>>,
 }
 
 impl<F: Drop> Frames<F> {
@@ -98,6 +98,16 @@ impl<F: Drop> Frames<F> {
         ensures { IsTrue result ↔ (nodes self.now ≡ []) }
     {
         self.stack.is_empty()
+    }
+
+    /// Whether the outermost node has octets.
+    pub(crate) fn have_octets(&self) -> bool
+        ensures { IsTrue result → HaveOctets (nodes self.now) }
+    {
+        match self.stack.last() {
+            Some(Frame::Octets(_)) => true,
+            _ => false,
+        }
     }
 
     /// Takes the outermost node.

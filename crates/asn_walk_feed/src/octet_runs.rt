@@ -164,7 +164,7 @@ fn take_run<R: FeedLeaves, K: InFragments<R>>(
 }
 
 /// Makes room for the next octets, of which the piece has `there`, and of which `left` are left to come: for at most
-/// four times as many octets as have come, and for none that are not left.
+/// eight times as many octets as have come, and for none that are not left.
 ///
 /// # Errors
 /// `AllocError` where an allocation failed.
@@ -175,5 +175,5 @@ fn make_room(octets: &mut Vec<u8>, left: usize, there: usize) -> Result<(), Allo
     if came <= octets.capacity() {
         return Ok(());
     }
-    octets.reserve_exact(left.min(came.saturating_mul(3)))
+    octets.reserve_exact(left.min(came.saturating_mul(7)))
 }

@@ -5,8 +5,8 @@ ghost use Rattle.asn_rules.specs.Languages.{Spells};
 ghost use Rattle.asn_rules.specs.Stops.{Stops};
 ghost use Rattle.asn_rules.specs.declared.stop.Stop.TheVariants.{Short, Memory};
 ghost use Rattle.asn_walk_feed.specs.Feeding.{Waits, Ticked, StandsAfter};
-ghost use Rattle.asn_walk_feed.specs.Nodes.{nodes};
-ghost use Rattle.asn_walk_feed.specs.Octets.{OctetsOf, OctetsGoOn, ReadsOctetsOn, StopsOctetsOn, OctetsGoOnTo, OctetsTook, KeepsOctets, ReadsOctetsFrom, StopsOctetsFrom, KeepsOctetsFrom, first_octets};
+ghost use Rattle.asn_walk_feed.specs.Nodes.{nodes, HaveOctets};
+ghost use Rattle.asn_walk_feed.specs.Octets.{OctetsOf, OctetsGoOn, ReadsOctetsOn, StopsOctetsOn, OctetsGoOnTo, OctetsTook, KeepsOctets, ReadsOctetsFrom, StopsOctetsFrom, KeepsOctetsFrom, HasRead, NodeGoesOn, NodeHasRead, first_octets};
 ghost use Rattle.asn_walk_feed.specs.Taken.{with_node};
 
 use crate::begun::Begun;
@@ -46,8 +46,119 @@ pub(crate) fn feed_octets<R: FeedLeaves, K: InFragments<R>>(
     ensures rising { ticks.old.taken ≤ ticks.new.taken }
     ensures inside { ticks.new.inside ≡ ticks.old.inside }
 {
+    if frames.have_octets() {
+        return resume_in_place::<R, K>(alloc, kind, frames, units, ticks);
+    }
     let node = frames.take();
     resume_octets::<R, K>(alloc, kind, node, frames, units, ticks)
+}
+
+/// Reads what is left of the octets of the one node that has begun. They stay in it where the units end first.
+fn resume_in_place<R: FeedLeaves, K: InFragments<R>>(
+    alloc: Global,
+    kind: &K,
+    frames: &mut Frames<R::Fragments>,
+    units: &mut Units<'_>,
+    ticks: &mut Ticks,
+) -> Result<Vec<u8>, Stop>
+    requires good { K.good kind.now }
+    requires at_unit { R.rules.at_unit units.old }
+    requires begun { HaveOctets (nodes frames.old) }
+    requires reached { (us : List ℕ) × OctetsTook R.rules (K.coding kind.now) R.ahead R.is_between
+        (nodes frames.old) us }
+    requires few { ticks.old.taken + length (R.rules.to_units units.old) < 2 ^ 64 }
+    ensures at_unit { R.rules.at_unit units.new }
+    ensures done { IfOk result (λ os. ReadsOctetsFrom R.rules (K.coding kind.now) R.ahead R.is_between
+        (nodes frames.old) os.items units.old units.new) }
+    ensures emptied { OnOk result (nodes frames.new ≡ []) }
+    ensures stop { IfErr result (λ why. StopsOctetsFrom R.rules (K.coding kind.now) R.ahead R.is_between
+        (nodes frames.old) units.old why) }
+    ensures kept { IfErr result (λ why. KeepsOctetsFrom R.rules (K.coding kind.now) R.ahead R.is_between
+        (nodes frames.old) (nodes frames.new) units.old why) }
+    ensures after { IfErr result (λ why. StandsAfter R.rules units.new why) }
+    ensures ticked { Ticked R.rules units.old ticks.old.taken units.new ticks.new.taken }
+    ensures rising { ticks.old.taken ≤ ticks.new.taken }
+    ensures inside { ticks.new.inside ≡ ticks.old.inside }
+{
+    feed_in_place::<R, K>(alloc, kind, frames, units, ticks)?;
+    let Some(Frame::Octets(octets)) = frames.take() else {
+        unreachable!()
+    };
+    Ok(octets.elements)
+}
+
+/// Reads the octets that are left, and puts them after those of the one node that has begun.
+fn feed_in_place<R: FeedLeaves, K: InFragments<R>>(
+    alloc: Global,
+    kind: &K,
+    frames: &mut Frames<R::Fragments>,
+    units: &mut Units<'_>,
+    ticks: &mut Ticks,
+) -> Result<(), Stop>
+    requires good { K.good kind.now }
+    requires at_unit { R.rules.at_unit units.old }
+    requires begun { HaveOctets (nodes frames.old) }
+    requires reached { (us : List ℕ) × OctetsTook R.rules (K.coding kind.now) R.ahead R.is_between
+        (nodes frames.old) us }
+    requires few { ticks.old.taken + length (R.rules.to_units units.old) < 2 ^ 64 }
+    ensures at_unit { R.rules.at_unit units.new }
+    ensures done { OnOk result (HasRead R.rules (K.coding kind.now) R.ahead R.is_between
+        (nodes frames.old) (nodes frames.new) units.old units.new) }
+    ensures stop { IfErr result (λ why. StopsOctetsFrom R.rules (K.coding kind.now) R.ahead R.is_between
+        (nodes frames.old) units.old why) }
+    ensures kept { IfErr result (λ why. KeepsOctetsFrom R.rules (K.coding kind.now) R.ahead R.is_between
+        (nodes frames.old) (nodes frames.new) units.old why) }
+    ensures after { IfErr result (λ why. StandsAfter R.rules units.new why) }
+    ensures ticked { Ticked R.rules units.old ticks.old.taken units.new ticks.new.taken }
+    ensures rising { ticks.old.taken ≤ ticks.new.taken }
+    ensures inside { ticks.new.inside ≡ ticks.old.inside }
+{
+    R::keep_laws();
+    R::keep_feed_laws();
+    kind.keep_octet_laws();
+    let Some(node) = frames.stack.last_mut() else {
+        unreachable!()
+    };
+    feed_node::<R, K>(alloc, kind, node, units, ticks)
+}
+
+/// Reads the octets that are left, and puts them after those of the node, which has octets.
+fn feed_node<R: FeedLeaves, K: InFragments<R>>(
+    alloc: Global,
+    kind: &K,
+    node: &mut Frame<R::Fragments>,
+    units: &mut Units<'_>,
+    ticks: &mut Ticks,
+) -> Result<(), Stop>
+    requires good { K.good kind.now }
+    requires at_unit { R.rules.at_unit units.old }
+    requires reached { (all : List ℕ) × NodeGoesOn R.rules (K.coding kind.now) R.ahead R.is_between node.old all
+        (R.rules.to_units units.old) }
+    requires few { ticks.old.taken + length (R.rules.to_units units.old) < 2 ^ 64 }
+    ensures at_unit { R.rules.at_unit units.new }
+    ensures done { OnOk result (NodeHasRead R.rules (K.coding kind.now) R.ahead R.is_between node.old node.new
+        units.old units.new) }
+    ensures stop { IfErr result (λ why. (all : List ℕ) → NodeGoesOn R.rules (K.coding kind.now) R.ahead R.is_between
+        node.old all (R.rules.to_units units.old)
+        → Stops R.rules.ruling.fielding (OctetsOf (K.coding kind.now)) all why) }
+    ensures kept { result ≡ Err Short → ((all : List ℕ) → NodeGoesOn R.rules (K.coding kind.now) R.ahead
+        R.is_between node.old all (R.rules.to_units units.old)
+        → NodeGoesOn R.rules (K.coding kind.now) R.ahead R.is_between node.new all (R.rules.to_units units.new)) }
+    ensures after { IfErr result (λ why. StandsAfter R.rules units.new why) }
+    ensures ticked { Ticked R.rules units.old ticks.old.taken units.new ticks.new.taken }
+    ensures rising { ticks.old.taken ≤ ticks.new.taken }
+    ensures inside { ticks.new.inside ≡ ticks.old.inside }
+{
+    match node {
+        Frame::Octets(octets) => feed_fragments::<R, K>(alloc, kind, octets, units, ticks),
+        Frame::Start(_) => unreachable!(),
+        Frame::Elements(_) => unreachable!(),
+        Frame::Components(_) => unreachable!(),
+        Frame::Bitmap(_) => unreachable!(),
+        Frame::Additions(_) => unreachable!(),
+        Frame::Chosen(_) => unreachable!(),
+        Frame::Added(_) => unreachable!(),
+    }
 }
 
 /// Reads what is left of the octets, of which this node has begun.

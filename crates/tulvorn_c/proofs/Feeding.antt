@@ -67,12 +67,12 @@ module _ {Q : Type 0} (r : Ruling) (took : Q → Shape → Past → Type 0) (q q
       go : (past : PastUnder) → HasTaken (took q own.shape) false n past → AnswersUnder u r (TookBeside own (took q') false (sum_of n (length piece))) own past piece old new before after fault
       go (going (waiting s)) h =
           let w = f own.shape (waiting s) h.0 in
-          let few : length (all_so_far s piece) < max_octets = w.answered.1.1 in
+          let few : length (all_so_far s piece) < max_octets = w.answered.2 in
           let all : length (all_so_far s piece) ≡ length s + length piece = took_all s piece few in
           let here : n ≡ length s = h.1 in
           let within : n + length piece ≤ max_octets = omega (arith, few, all, here) in
           let count : sum_of n (length piece) ≡ length (all_so_far s piece) = omega (arith, counted n (length piece) within, all, here) in
-          record { answer = Ok step.More; answered = w.answered; taken = (refl, (w.taken, count)); told = (told, (stays, same)) }
+          record { answer = Ok step.More; answered = w.answered; taken = (refl, (w.taken, count)); told = (told, stays, same) }
       go (going (stopped s why)) h = absurd (no_step step.More why (f own.shape (stopped s why) h.0).answered)
       go (going (over s)) h = absurd (no_step step.More feed.Spent (f own.shape (over s) h.0).answered)
       go (broken k) h = absurd h
@@ -84,7 +84,7 @@ module _ {Q : Type 0} (r : Ruling) (took : Q → Shape → Past → Type 0) (q q
       go : (past : PastUnder) → HasTaken (took q own.shape) false n past → AnswersUnder u r (TookBeside own (took q') false n) own past piece old new before after fault
       go (going past) h =
           let w = f own.shape past h.0 in
-          record { answer = Err why; answered = w.answered; taken = (refl, (w.taken, uncounted n past piece why)); told = (told, (stays, same)) }
+          record { answer = Err why; answered = w.answered; taken = (refl, (w.taken, uncounted n past piece why)); told = (told, stays, same) }
       go (broken k) h = absurd h
 
   -- a value that meets the constraint
@@ -116,7 +116,7 @@ module _ {Q : Type 0} (r : Ruling) (took : Q → Shape → Past → Type 0) (q q
           let count : sum_of n used ≡ length s + used = omega (arith, counted n used within, here) in
           let taken : HasTaken (took q' own.shape) true (sum_of n used) (past_under own (waiting s) piece (Ok (step.Done v used))) = rw broke count in
           let place : fault ≡ broken_after u (length s + used) = told ∙ ap (broken_after u) count in
-          let said : TellsStep u own (length s) (Ok (step.Done v used)) old new before after fault = rw broke (place, (stays, same)) in
+          let said : TellsStep u own (length s) (Ok (step.Done v used)) old new before after fault = rw broke (place, stays, same) in
           record { answer = Ok (step.Done v used); answered = w.answered; taken = (refl, taken); told = said }
       go (going (stopped s why)) h = absurd (no_step (step.Done v used) why (f own.shape (stopped s why) h.0).answered)
       go (going (over s)) h = absurd (no_step (step.Done v used) feed.Spent (f own.shape (over s) h.0).answered)
@@ -128,4 +128,4 @@ module _ {Q : Type 0} (r : Ruling) (took : Q → Shape → Past → Type 0) (q q
     where
       go : (past : PastUnder) → HasTaken (took q own.shape) true n past → AnswersUnder u r (TookBeside own (took q') true n) own past piece old new before after fault
       go (going past) h = absurd h
-      go (broken k) h = ((refl, h), (told ∙ ap (broken_after u) h, (stays, same)))
+      go (broken k) h = ((refl, h), told ∙ ap (broken_after u) h, stays, same)

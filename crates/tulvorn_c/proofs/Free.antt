@@ -20,7 +20,7 @@ use Rattle.asn_constrained.specs.Measured.{NotMeasuredUnder, NotPlacedUnder}
 pub free_fault : (r : Ruling) (t : Shape) (o : List ℕ) (why : DecodeFault) → Decoded r (Err why) t o → DecodedUnder r free (Err (under.Type why)) t o
 free_fault r t o (decode.Refused at why) h = h
 free_fault r t o (decode.Truncated taken) h = h
-free_fault r t o (decode.Rest used) h = (h.0, (h.1.0, (h.1.1, refl)))
+free_fault r t o (decode.Rest used) h = (h.0, h.1, (h.2, refl))
 free_fault r t o decode.TooLong h = h
 free_fault r t o decode.Memory h = h
 

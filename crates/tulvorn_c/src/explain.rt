@@ -77,8 +77,10 @@ fn explained<R: Rules + ReadLeaves>(
 {
     match decoded::<R>(alloc, ty, octets) {
         Ok(_) => Handle::holding(alloc, Object::Octets(Vec::new(alloc))),
-        Err(ConstrainedFault::Type(DecodeFault::Memory)) => Err(AllocError),
         Err(ConstrainedFault::Type(fault)) => {
+            if let DecodeFault::Memory = fault {
+                return Err(AllocError);
+            }
             let told = explain_fault::<R>(alloc, &ty.checked, octets, fault)?;
             explanation_held(alloc, &told, unit)
         }

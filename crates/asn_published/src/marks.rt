@@ -1,7 +1,7 @@
 //! What of a value is not looked at as the published type has it.
 use crate::looking::Search;
-use asn_published_types::report::Remark;
-use asn_published_types::steps::Marked;
+use asn_published_types::report::{ARE_CONTENTS_JUDGED, Remark};
+use asn_published_types::steps::{Marked, Trail};
 use asn_values::{Checked, Value};
 use std::alloc::{AllocError, Global};
 
@@ -44,6 +44,23 @@ impl Marks {
             start,
             levels,
         })
+    }
+
+    /// The mark of a type of the profile of whose values some octets are encodings; `None` if these are judged.
+    ///
+    /// # Errors
+    /// `AllocError` where an allocation failed.
+    pub fn of_contents(alloc: Global) -> Result<Option<Marks>, AllocError> {
+        if ARE_CONTENTS_JUDGED {
+            return Ok(None);
+        }
+        let mut trail = Trail::new(alloc);
+        trail.enter(alloc, 0, 1)?;
+        trail.mark(0, Remark::Contents)?;
+        let mut types = Vec::new(alloc);
+        let marked = trail.finish(alloc, types.as_slice());
+        types.push(marked)?;
+        Ok(Marks::of(types, 0, 0))
     }
 
     /// How many levels a recursive type has, where recursion ends in the type.

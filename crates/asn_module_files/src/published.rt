@@ -1,5 +1,6 @@
 //! What the type of a job has in addition to the type of the profile.
 use crate::kept::{Lines, constraint_in, has_lines, lines_of_flattened, lines_of_own};
+use crate::terminal::printable;
 use asn_constraint_text::{ConstrainedFault, ConstraintTextFault, read_constrained};
 use asn_constraints::Constraint;
 use asn_jobs::Job;
@@ -64,8 +65,8 @@ impl Published {
         })
     }
 
-    /// What the text of a module of the profile has for the type of a job, on lines that begin with `--:`, or for all types
-    /// where the job is to print the module.
+    /// What the text of a module of the profile has for the type of a job, on lines that begin with `--:` or `--!`, or for all
+    /// types where the job is to print the module. Of a type that differs so, no value is looked at in full.
     ///
     /// # Errors
     /// `Text` with the first such line that is no constraint of a name, `TooLarge` if the constraint is too large, and
@@ -85,9 +86,14 @@ impl Published {
         let Job::Lines { type_name, .. } = job else {
             return Ok(Published::of_lines(lines_of_own(alloc, &own)?));
         };
+        let name = type_name.as_str();
+        let marks = match own.difference_named(alloc, name)? {
+            Some(words) => Marks::of_told(alloc, printable(alloc, words)?.as_str())?,
+            None => None,
+        };
         Ok(Published {
-            constraint: constraint_in(alloc, &own, type_name.as_str())?,
-            marks: None,
+            constraint: constraint_in(alloc, &own, name)?,
+            marks,
             lines: None,
         })
     }

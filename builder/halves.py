@@ -14,7 +14,7 @@ EMPTIED = [it.split() for it in ("""
 asn_module asn_notation asn_constraint_text clap strsim
 asn_published_text asn_published_read asn_published_types asn_published_report asn_published_write
 """, """
-asn_plan asn_per asn_oer asn_newer asn_constrained asn_fields asn_explain asn_examples asn_resuming asn_window
+asn_plan asn_per asn_oer asn_newer asn_constrained asn_containing asn_fields asn_explain asn_examples asn_resuming asn_window
 asn_walk_feed asn_walk_read asn_walk_into asn_walk_check asn_walk_write asn_json json serde_json
 asn_look asn_convert asn_tool/running
 """)]

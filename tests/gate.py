@@ -30,7 +30,7 @@ from room import files_of  # noqa: E402
 
 # what is built without a proof, the parts of its second program, and the scripts over the proved program, longest first
 PROGRAMS = ("tests/programs/outcomes", "tests/programs/checks")
-CHECKS = "rows hostile texts constraints types names fields published memory memory_texts uses".split()
+CHECKS = "rows hostile texts constraints contents types names fields published memory memory_texts uses".split()
 SCRIPTS = """published limits shown versions streaming published_commands published_marks published_sets published_tags
 published_sequences forms bounds""".split()
 FIRST, TOOL = "crates/asn_first/out/asn_first", "crates/asn_tool/out/asn_tool"

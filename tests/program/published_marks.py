@@ -5,7 +5,8 @@ usage: tests/program/published_marks.py PROGRAM
 
 published_messages.txt has types with a remark or a constraint, messages that these concern, and messages that they do
 not.
-published_marks.txt has recursive types, what other orders write, and what --strict refuses.
+published_marks.txt has recursive types, what other orders write, and what --strict refuses. published_contents.txt has
+messages whose octets are encodings of other types.
 """
 from run import HERE, cases_of, expand, script, text_of
 
@@ -34,4 +35,4 @@ def messages(test):
                 test.add(is_refused, f"{case.said['<'].octets} {octets}: {ran.status} {ran.out}")
 
 
-script(__doc__, messages, "published_marks.txt")
+script(__doc__, messages, "published_marks.txt", "published_contents.txt")

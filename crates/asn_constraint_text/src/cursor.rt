@@ -1,7 +1,10 @@
 //! A text, and how far it is read.
 ghost use Rattle.std.specs.Prelude.{◌≡◌, ◌≤◌, ◌<◌, true, length, IfOk, IfSome};
 
+use crate::extents::{blank_len, digits_len, sign_len, word_len};
 use crate::fault::ConstraintTextFault;
+use crate::strings::hexadecimal_value;
+use std::collections::HashMap;
 
 /// A text, and how far it is read.
 #[derive(Drop)]
@@ -9,69 +12,8 @@ pub(crate) struct Cursor<'t> {
     rest: &'t [u8],
     /// the length of the whole text
     total: usize,
-}
-
-fn is_blank(octet: u8) -> bool {
-    octet == b' ' || (9 <= octet && octet <= 13)
-}
-
-fn is_word_character(octet: u8) -> bool {
-    octet.is_ascii_alphanumeric()
-}
-
-/// How many octets are blank at the start.
-fn blank_len(text: &[u8]) -> usize
-    ensures { result ≤ length text.now }
-{
-    for (index, octet) in text.iter().enumerate() {
-        if !is_blank(*octet) {
-            return index;
-        }
-    }
-    text.len()
-}
-
-/// How many octets a word has at the start: letters, digits, and hyphens before these.
-fn word_len(text: &[u8]) -> usize
-    ensures { result ≤ length text.now }
-{
-    for (index, octet) in text.iter().enumerate() {
-        let is_hyphen = *octet == b'-' && index > 0 && begins_word(&text[index + 1..]);
-        if !is_word_character(*octet) && !is_hyphen {
-            return index;
-        }
-    }
-    text.len()
-}
-
-/// Whether a letter or a digit comes next.
-fn begins_word(text: &[u8]) -> bool {
-    match text {
-        [first, ..] => is_word_character(*first),
-        [] => false,
-    }
-}
-
-/// How many digits are at the start.
-fn digits_len(text: &[u8]) -> usize
-    ensures { result ≤ length text.now }
-{
-    for (index, octet) in text.iter().enumerate() {
-        if !octet.is_ascii_digit() {
-            return index;
-        }
-    }
-    text.len()
-}
-
-/// How many octets a minus sign has at the start.
-fn sign_len(text: &[u8]) -> usize
-    ensures { result ≤ length text.now }
-{
-    match text {
-        [b'-', ..] => 1,
-        _ => 0,
-    }
+    /// the names of types that CONTAINING may have, with the position of each
+    names: Option<&'t HashMap<String, usize>>,
 }
 
 /// The number that digits write.
@@ -96,7 +38,13 @@ impl<'t> Cursor<'t> {
         Cursor {
             rest: text.as_bytes(),
             total: text.len(),
+            names: None,
         }
+    }
+
+    /// Takes the names of types that CONTAINING may have.
+    pub fn take_names(&mut self, names: &'t HashMap<String, usize>) {
+        self.names = Some(names);
     }
 
     /// The octet of the text that comes next, counted from 0.
@@ -199,6 +147,19 @@ impl<'t> Cursor<'t> {
         word
     }
 
+    /// Reads the name of a type, if one comes next, and returns its position.
+    pub fn type_name(&mut self) -> Option<usize>
+        ensures within { length self.new.rest.now ≤ length self.old.rest.now }
+    {
+        let names = self.names?;
+        let Ok(name) = std::str::from_utf8(self.word()) else {
+            return None;
+        };
+        let position = *names.get(name)?;
+        let _ = self.take_word();
+        Some(position)
+    }
+
     /// Reads this word, if it comes next.
     pub fn takes_word(&mut self, word: &[u8]) -> bool
         ensures within { length self.new.rest.now ≤ length self.old.rest.now }
@@ -209,6 +170,22 @@ impl<'t> Cursor<'t> {
         } else {
             false
         }
+    }
+
+    /// Reads `CONSTRAINED BY {selected`, if it comes next.
+    pub fn takes_selected(&mut self) -> bool
+        ensures within { length self.new.rest.now ≤ length self.old.rest.now }
+    {
+        let start = self.rest;
+        if self.takes_word(b"CONSTRAINED")
+            && self.takes_word(b"BY")
+            && self.takes(b'{')
+            && self.takes_word(b"selected")
+        {
+            return true;
+        }
+        self.rest = start;
+        false
     }
 
     /// Reads this name if it comes next, after a comma where it is not the first one.
@@ -366,16 +343,5 @@ impl<'t> Cursor<'t> {
             }
             [] => None,
         }
-    }
-}
-
-/// The value of a hexadecimal digit.
-fn hexadecimal_value(octet: u8) -> Option<u8>
-    ensures { IfSome result (λ d. d < 16) }
-{
-    match octet {
-        b'0'..=b'9' => Some(octet - b'0'),
-        b'A'..=b'F' => Some(octet - b'A' + 10),
-        _ => None,
     }
 }

@@ -2,21 +2,27 @@
 //! differ from published ones.
 #![tactic(auto)]
 
+mod contents_writing;
 mod copying;
 mod cursor;
 mod differences;
+mod extents;
 mod fault;
 mod leaves;
 mod lines;
 mod module;
+mod read;
 mod reading;
 mod references;
+mod selected_reading;
 mod strings;
 mod value_reading;
 mod value_writing;
 mod whole;
+mod whole_contents;
 mod writing;
 
+pub use contents_writing::contents_text;
 pub use fault::{ConstrainedFault, ConstraintTextFault, WholeFault};
 pub use lines::{with_constraints, with_differences};
 pub use module::{ConstrainedModule, read_constrained};

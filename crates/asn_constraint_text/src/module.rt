@@ -9,10 +9,13 @@ use crate::cursor::Cursor;
 use crate::differences::{difference_after, difference_at};
 use crate::fault::{ConstrainedFault, ConstraintTextFault, WholeFault};
 use crate::lines::{CONSTRAINT, DIFFERENCE, has_marks, marked_line};
-use crate::reading::constraint_after;
+use crate::read::Read;
+use crate::reading::constraints_after;
 use crate::references::{Named, indices_of, names_of};
-use crate::whole::whole_named;
+use crate::whole::{MOST_PARTS, whole_named};
+use crate::whole_contents::contents_named;
 use asn_constraints::Constraint;
+use asn_contents::Contents;
 use asn_module::{Module, read};
 use asn_notation::read_notation;
 use asn_values::profile::MAX_LEVELS;
@@ -99,14 +102,71 @@ impl ConstrainedModule {
     ) -> Result<Option<Constraint>, WholeFault>
         ensures { IfOk result (λ c. is_some c ≡ is_some (type_in (types_view self.now.module).types name.now)) }
     {
+        let mut room = MOST_PARTS;
+        self.constraint_within(alloc, name, &mut room)
+    }
+
+    /// The same, of which the parts are taken from `room`.
+    ///
+    /// # Errors
+    /// `TooLarge` where there is no room; `Memory` where an allocation failed.
+    pub fn constraint_within(
+        &self,
+        alloc: Global,
+        name: &str,
+        room: &mut usize,
+    ) -> Result<Option<Constraint>, WholeFault>
+        ensures { IfOk result (λ c. is_some c ≡ is_some (type_in (types_view self.now.module).types name.now)) }
+    {
         let Some(ty) = self.module.type_named(name) else {
             return Ok(None);
         };
         let Some(index) = self.indices.get(name) else {
             return Ok(Some(Constraint::Free));
         };
-        let constraint = whole_named(alloc, ty.get(), *index, &self.names)?;
+        let constraint = whole_named(alloc, ty.get(), *index, &self.names, room)?;
         Ok(Some(constraint))
+    }
+
+    /// Which octets of the values of the type of a name are encodings: those that the text has for it, and at each place of
+    /// the type that refers to another name that name's. None where the module assigns no such name. The position of a type
+    /// is that of its name in the module, counted from 0 (`name_at`).
+    ///
+    /// # Errors
+    /// `TooLarge` where they have more than `MOST_PARTS`; `Memory` where an allocation failed.
+    pub fn contents_named(&self, alloc: Global, name: &str) -> Result<Option<Contents>, WholeFault>
+        ensures { IfOk result (λ c. is_some c ≡ is_some (type_in (types_view self.now.module).types name.now)) }
+    {
+        let mut room = MOST_PARTS;
+        self.contents_within(alloc, name, &mut room)
+    }
+
+    /// The same, of which the parts are taken from `room`.
+    ///
+    /// # Errors
+    /// `TooLarge` where there is no room; `Memory` where an allocation failed.
+    pub fn contents_within(
+        &self,
+        alloc: Global,
+        name: &str,
+        room: &mut usize,
+    ) -> Result<Option<Contents>, WholeFault>
+        ensures { IfOk result (λ c. is_some c ≡ is_some (type_in (types_view self.now.module).types name.now)) }
+    {
+        let Some(ty) = self.module.type_named(name) else {
+            return Ok(None);
+        };
+        let Some(index) = self.indices.get(name) else {
+            return Ok(Some(Contents::Nowhere));
+        };
+        let contents = contents_named(alloc, ty.get(), *index, &self.names, room)?;
+        Ok(Some(contents))
+    }
+
+    /// The name with this position in the module, counted from 0; None where there is none, or the text has no constraint.
+    /// Takes no memory.
+    pub fn name_at(&self, position: usize) -> Option<&str> {
+        Some(self.names.get(position)?.name.as_str())
     }
 
     /// How the type of a name differs from the published one, so that other octets are accepted: what the text says on a
@@ -154,14 +214,15 @@ fn read_lines(
 }
 
 /// Reads a line, and keeps what it has of a name.
-fn read_line(
+fn read_line<'t>(
     alloc: Global,
     module: &Module,
-    indices: &HashMap<String, usize>,
+    indices: &'t HashMap<String, usize>,
     names: &mut Vec<Named>,
-    line: &str,
+    line: &'t str,
 ) -> Result<(), ConstraintTextFault> {
     if let Some(mut cursor) = marked_line(line, CONSTRAINT)? {
+        cursor.take_names(indices);
         return read_constraint(alloc, module, indices, names, &mut cursor);
     }
     if let Some(mut cursor) = marked_line(line, DIFFERENCE)? {
@@ -191,7 +252,7 @@ fn read_constraint(
         return Err(cursor.fault(NAME));
     }
     let _ = cursor.take_word();
-    let own = constraint_after(alloc, ty.get(), cursor)?;
+    let own = constraints_after(alloc, ty.get(), cursor)?;
     keep(names, *index, own);
     Ok(())
 }
@@ -225,10 +286,11 @@ fn has_own(names: &[Named], index: usize) -> bool {
     index < names.len() && names[index].own.is_some()
 }
 
-/// Keeps the constraint of the name at an index.
-fn keep(names: &mut Vec<Named>, index: usize, own: Constraint) {
-    if index < names.len() {
-        names[index].own = Some(own);
+/// Keeps what was read for the name at an index.
+fn keep(names: &mut Vec<Named>, index: usize, read: Read) {
+    if let Some(named) = names.get_mut(index) {
+        named.own = Some(read.constraint);
+        named.contents = read.contents;
     }
 }
 

@@ -4,52 +4,19 @@ ghost use Rattle.std.specs.Prelude.{◌≡◌, ◌≤◌, ◌<◌, length};
 use crate::cursor::Cursor;
 use crate::fault::ConstraintTextFault;
 use crate::leaves::{OF_TYPE, free_component, items_at, leaf_at, numbers_at, presence_at};
+use crate::read::{
+    Listed, Read, above, both, either, elements_of, leaf, leaf_of_contents, of_components,
+};
+use crate::selected_reading::{TYPE_NAME, selected_at};
 use crate::value_reading::{ALTERNATIVE, COMPONENT, part_index};
 use asn_constraints::{Component, Constraint};
+use asn_contents::Contents;
 use asn_values::internal::{additions, part_at};
 use asn_values::{Alt, AsnType, Field};
-use std::alloc::{AllocError, Global};
+use std::alloc::Global;
 
 /// How many constraints may be inside one another: each parenthesis, each `|` and each `^` counts.
 pub const MOST_LEVELS: u32 = 256;
-
-/// What was read, and how many constraints are inside one another in it.
-#[derive(Drop)]
-struct Read {
-    constraint: Constraint,
-    levels: u32,
-}
-
-/// A constraint with no other in it.
-fn leaf(constraint: Constraint) -> Read {
-    Read {
-        constraint,
-        levels: 1,
-    }
-}
-
-/// The levels above these, if they are not too many.
-fn above(cursor: &Cursor<'_>, levels: u32) -> Result<u32, ConstraintTextFault> {
-    if levels < MOST_LEVELS {
-        Ok(levels + 1)
-    } else {
-        Err(ConstraintTextFault::TooDeep { at: cursor.at() })
-    }
-}
-
-/// One constraint or the other.
-fn either(alloc: Global, first: Constraint, second: Constraint) -> Result<Constraint, AllocError> {
-    let first = Box::new(alloc, first)?;
-    let second = Box::new(alloc, second)?;
-    Ok(Constraint::Either(first, second))
-}
-
-/// Both constraints.
-fn both(alloc: Global, first: Constraint, second: Constraint) -> Result<Constraint, AllocError> {
-    let first = Box::new(alloc, first)?;
-    let second = Box::new(alloc, second)?;
-    Ok(Constraint::Both(first, second))
-}
 
 /// The constraint of this type that a text is, in parentheses and with names for what is inside the type.
 ///
@@ -62,20 +29,31 @@ pub fn constraint_in(
     text: &str,
 ) -> Result<Constraint, ConstraintTextFault> {
     let mut cursor = Cursor::new(text);
-    let constraint = constraint_after(alloc, ty, &mut cursor)?;
-    Ok(constraint)
+    let read = constraint_at(alloc, ty, &mut cursor, MOST_LEVELS)?;
+    end_at(&mut cursor)?;
+    Ok(read.constraint)
 }
 
-/// The constraint of this type that the rest of a text is.
-pub(crate) fn constraint_after(
+/// The constraints of this type that the rest of a text is: one, or two of which both are met.
+pub(crate) fn constraints_after(
     alloc: Global,
     ty: &AsnType,
     cursor: &mut Cursor<'_>,
-) -> Result<Constraint, ConstraintTextFault> {
-    let read = constraint_at(alloc, ty, cursor, MOST_LEVELS)?;
+) -> Result<Read, ConstraintTextFault> {
+    let mut read = constraint_at(alloc, ty, cursor, MOST_LEVELS)?;
+    if cursor.begins(b'(') {
+        let next = constraint_at(alloc, ty, cursor, MOST_LEVELS)?;
+        read = both(alloc, read, next, cursor)?;
+    }
+    end_at(cursor)?;
+    Ok(read)
+}
+
+/// Reads the end of a text.
+fn end_at(cursor: &mut Cursor<'_>) -> Result<(), ConstraintTextFault> {
     cursor.skip_blank();
     if cursor.is_at_end() {
-        Ok(read.constraint)
+        Ok(())
     } else {
         Err(cursor.fault("the end"))
     }
@@ -137,18 +115,12 @@ fn union_at(
 ) -> Result<Read, ConstraintTextFault>
     ensures { length cursor.new.rest.now ≤ length cursor.old.rest.now }
 {
-    let first = intersection_at(alloc, ty, cursor, levels)?;
-    let mut constraint = first.constraint;
-    let mut deepest = first.levels;
+    let mut read = intersection_at(alloc, ty, cursor, levels)?;
     'operands: while cursor.takes(b'|') {
         let next = intersection_at(alloc, ty, cursor, levels)?;
-        deepest = above(cursor, deepest.max(next.levels))?;
-        constraint = either(alloc, constraint, next.constraint)?;
+        read = either(alloc, read, next, cursor)?;
     }
-    Ok(Read {
-        constraint,
-        levels: deepest,
-    })
+    Ok(read)
 }
 
 /// Constraints with `^` between them.
@@ -161,18 +133,12 @@ fn intersection_at(
 ) -> Result<Read, ConstraintTextFault>
     ensures { length cursor.new.rest.now ≤ length cursor.old.rest.now }
 {
-    let first = single_at(alloc, ty, cursor, levels)?;
-    let mut constraint = first.constraint;
-    let mut deepest = first.levels;
+    let mut read = single_at(alloc, ty, cursor, levels)?;
     'operands: while cursor.takes(b'^') {
         let next = single_at(alloc, ty, cursor, levels)?;
-        deepest = above(cursor, deepest.max(next.levels))?;
-        constraint = both(alloc, constraint, next.constraint)?;
+        read = both(alloc, read, next, cursor)?;
     }
-    Ok(Read {
-        constraint,
-        levels: deepest,
-    })
+    Ok(read)
 }
 
 /// A constraint that is no union and no intersection, or one in parentheses.
@@ -191,7 +157,26 @@ fn single_at(
     if cursor.takes_word(b"WITH") {
         return inner_at(alloc, ty, cursor, levels);
     }
+    if cursor.takes_word(b"CONTAINING") {
+        return containing_at(ty, cursor);
+    }
+    if cursor.takes_selected() {
+        return selected_at(alloc, ty, cursor);
+    }
     Ok(leaf(leaf_at(alloc, ty, cursor)?))
+}
+
+/// The type that octets contain, after CONTAINING.
+fn containing_at(ty: &AsnType, cursor: &mut Cursor<'_>) -> Result<Read, ConstraintTextFault>
+    ensures { length cursor.new.rest.now ≤ length cursor.old.rest.now }
+{
+    let AsnType::Octets(_) = ty else {
+        return Err(cursor.fault(OF_TYPE));
+    };
+    match cursor.type_name() {
+        Some(position) => Ok(leaf_of_contents(Contents::Octets(position))),
+        None => Err(cursor.fault(TYPE_NAME)),
+    }
 }
 
 /// The constraint of what is inside the type, after WITH.
@@ -208,11 +193,7 @@ fn inner_at(
         AsnType::SeqOf(element, _) => {
             cursor.expect_word("COMPONENT")?;
             let inner = constraint_at(alloc, element, cursor, levels)?;
-            let levels = above(cursor, inner.levels)?;
-            Ok(Read {
-                constraint: Constraint::Elements(Box::new(alloc, inner.constraint)?),
-                levels,
-            })
+            elements_of(alloc, inner, cursor)
         }
         AsnType::Seq { root, ext } => {
             cursor.expect_word("COMPONENTS")?;
@@ -249,17 +230,15 @@ fn components_at(
         return Err(cursor.fault("`...`"));
     }
     let mut all = Vec::new(alloc);
+    let mut contents = Vec::new(alloc);
     let mut deepest = 0;
     'components: while cursor.takes(b',') {
-        let inner = push_component(alloc, &mut all, root, ext, cursor, levels)?;
+        let inner = push_component(alloc, &mut all, &mut contents, root, ext, cursor, levels)?;
         deepest = inner.max(deepest);
     }
     cursor.expect(b'}', "`}`")?;
     let levels = above(cursor, deepest)?;
-    Ok(Read {
-        constraint: Constraint::Components(all),
-        levels,
-    })
+    Ok(of_components(all, contents, levels))
 }
 
 /// Adds a component that comes after those that there are, and free ones between. Returns how many levels it has.
@@ -267,6 +246,7 @@ fn components_at(
 fn push_component(
     alloc: Global,
     all: &mut Vec<Component>,
+    contents: &mut Vec<Contents>,
     root: &[Field],
     ext: &Option<Vec<Field>>,
     cursor: &mut Cursor<'_>,
@@ -277,6 +257,7 @@ fn push_component(
     let index = part_index(root, additions(ext), all.len(), cursor, COMPONENT)?;
     for _ in all.len()..index {
         all.push(free_component())?;
+        contents.push(Contents::Nowhere)?;
     }
     let Some(field) = part_at(root, ext, index) else {
         return Err(cursor.fault(COMPONENT));
@@ -286,6 +267,7 @@ fn push_component(
         presence: presence_at(cursor),
         constraint: read.constraint,
     })?;
+    contents.push(read.contents)?;
     Ok(read.levels)
 }
 
@@ -306,7 +288,7 @@ fn part_constraint_at(
     }
 }
 
-/// Alternatives with their constraints, in their order.
+/// Alternatives with their constraints, in their order. After `...` the others have none.
 #[cycle(reading)]
 fn alternatives_at(
     alloc: Global,
@@ -318,21 +300,18 @@ fn alternatives_at(
     ensures { length cursor.new.rest.now ≤ length cursor.old.rest.now }
 {
     cursor.expect(b'{', "`{`")?;
-    let mut all = Vec::new(alloc);
-    let deepest = push_alternatives(alloc, &mut all, root, ext, cursor, levels)?;
+    let mut listed = Listed::new(alloc, cursor.takes_dots());
+    let deepest = push_alternatives(alloc, &mut listed, root, ext, cursor, levels)?;
     cursor.expect(b'}', "`}`")?;
     let levels = above(cursor, deepest)?;
-    Ok(Read {
-        constraint: Constraint::Alternatives(all),
-        levels,
-    })
+    listed.finish(root.len().saturating_add(additions(ext).len()), levels)
 }
 
 /// Adds the alternatives that are listed, if there are some. Returns how many levels they have.
 #[cycle(reading)]
 fn push_alternatives(
     alloc: Global,
-    all: &mut Vec<Constraint>,
+    listed: &mut Listed,
     root: &[Alt],
     ext: &Option<Vec<Alt>>,
     cursor: &mut Cursor<'_>,
@@ -340,22 +319,25 @@ fn push_alternatives(
 ) -> Result<u32, ConstraintTextFault>
     ensures { length cursor.new.rest.now ≤ length cursor.old.rest.now }
 {
-    if !cursor.begins_identifier() {
-        return Ok(0);
+    let mut deepest = 0;
+    if !listed.is_partial() {
+        if !cursor.begins_identifier() {
+            return Ok(0);
+        }
+        deepest = push_alternative(alloc, listed, root, ext, cursor, levels)?;
     }
-    let mut deepest = push_alternative(alloc, all, root, ext, cursor, levels)?;
     'alternatives: while cursor.takes(b',') {
-        let inner = push_alternative(alloc, all, root, ext, cursor, levels)?;
+        let inner = push_alternative(alloc, listed, root, ext, cursor, levels)?;
         deepest = inner.max(deepest);
     }
     Ok(deepest)
 }
 
-/// Adds an alternative that comes after those that there are, and barred ones between. Returns how many levels it has.
+/// Adds an alternative that comes after those that there are. Returns how many levels it has.
 #[cycle(reading)]
 fn push_alternative(
     alloc: Global,
-    all: &mut Vec<Constraint>,
+    listed: &mut Listed,
     root: &[Alt],
     ext: &Option<Vec<Alt>>,
     cursor: &mut Cursor<'_>,
@@ -363,16 +345,14 @@ fn push_alternative(
 ) -> Result<u32, ConstraintTextFault>
     ensures { length cursor.new.rest.now ≤ length cursor.old.rest.now }
 {
-    let index = part_index(root, additions(ext), all.len(), cursor, ALTERNATIVE)?;
-    for _ in all.len()..index {
-        all.push(Constraint::Barred)?;
-    }
+    let index = part_index(root, additions(ext), listed.len(), cursor, ALTERNATIVE)?;
     let Some(alternative) = part_at(root, ext, index) else {
         return Err(cursor.fault(ALTERNATIVE));
     };
     let read = alternative_at(alloc, &alternative.ty, cursor, levels)?;
-    all.push(read.constraint)?;
-    Ok(read.levels)
+    let levels = read.levels;
+    listed.push(index, read)?;
+    Ok(levels)
 }
 
 /// The constraint of an alternative if it has one, or that it is ABSENT.

@@ -1,5 +1,6 @@
 //! Where a type refers to names.
 use asn_constraints::Constraint;
+use asn_contents::Contents;
 use asn_notation::{AlternativeNotation, AssignmentNotation, ComponentNotation, TypeNotation};
 use std::alloc::{AllocError, Global};
 use std::collections::HashMap;
@@ -24,13 +25,15 @@ impl References {
     }
 }
 
-/// A name of a module: what its type refers to, the constraint of its line, and how it differs from the published type, if
-/// it has such lines.
+/// A name of a module: what its type refers to, the constraint of its line, with which octets are encodings, and how it
+/// differs from the published type, if it has such lines.
 #[derive(Debug, Drop)]
 pub(crate) struct Named {
+    pub name: String,
     pub references: References,
     pub own: Option<Constraint>,
     pub difference: Option<String>,
+    pub contents: Contents,
 }
 
 /// The index of each name.
@@ -55,9 +58,11 @@ pub(crate) fn names_of(
     for assignment in assignments {
         let references = references_of(alloc, &assignment.ty, indices)?;
         names.push(Named {
+            name: String::from_str(alloc, assignment.name)?,
             references,
             own: None,
             difference: None,
+            contents: Contents::Nowhere,
         })?;
     }
     Ok(names)

@@ -228,3 +228,14 @@ fn piece_at(cursor: &mut Cursor<'_>, octets: &mut Vec<u8>) -> Result<(), Constra
     cursor.expect(b'"', "a character")?;
     quoted_at(cursor, octets)
 }
+
+/// The value of a hexadecimal digit.
+pub(crate) fn hexadecimal_value(octet: u8) -> Option<u8>
+    ensures { IfSome result (λ d. d < 16) }
+{
+    match octet {
+        b'0'..=b'9' => Some(octet - b'0'),
+        b'A'..=b'F' => Some(octet - b'A' + 10),
+        _ => None,
+    }
+}

@@ -30,7 +30,7 @@ fn is_free(constraint: &Constraint) -> bool {
 }
 
 /// The name that a type is, if it only refers to one.
-fn name_in(references: &References) -> Option<usize> {
+pub(crate) fn name_in(references: &References) -> Option<usize> {
     match references {
         References::Name(index) => Some(*index),
         References::None | References::Parts(_) | References::Elements(_) => None,
@@ -38,7 +38,7 @@ fn name_in(references: &References) -> Option<usize> {
 }
 
 /// The name that the type of a name is, if it only refers to one.
-fn next_name(names: &[Named], index: usize) -> Option<usize> {
+pub(crate) fn next_name(names: &[Named], index: usize) -> Option<usize> {
     name_in(&names.get(index)?.references)
 }
 
@@ -97,7 +97,7 @@ fn own_of(
 }
 
 /// What the type refers to inside itself, of one that refers to these names.
-fn shape_in<'a>(references: &'a References, names: &'a [Named]) -> &'a References {
+pub(crate) fn shape_in<'a>(references: &'a References, names: &'a [Named]) -> &'a References {
     match references {
         References::Name(index) => match names.get(last_name(names, *index)) {
             Some(named) => &named.references,
@@ -107,19 +107,19 @@ fn shape_in<'a>(references: &'a References, names: &'a [Named]) -> &'a Reference
     }
 }
 
-/// The whole constraint of a type that is the one of a name.
+/// The whole constraint of a type that is the one of a name. Takes its parts from `room`.
 ///
 /// # Errors
-/// `TooLarge` where it has more than `MOST_PARTS`, or more than `MOST_LEVELS` names that refer one to the next have one;
-/// `Memory` where an allocation failed.
+/// `TooLarge` where there is no room, or more than `MOST_LEVELS` names that refer one to the next have one; `Memory` where an
+/// allocation failed.
 pub(crate) fn whole_named(
     alloc: Global,
     ty: &AsnType,
     index: usize,
     names: &[Named],
+    room: &mut usize,
 ) -> Result<Constraint, WholeFault> {
-    let mut room = MOST_PARTS;
-    whole(alloc, ty, &References::Name(index), names, &mut room)
+    whole(alloc, ty, &References::Name(index), names, room)
 }
 
 /// The constraint of a type that refers to these names.

@@ -1,12 +1,12 @@
 //! Messages field by field.
-use crate::broken_parts::{broken_at_end, broken_in, lines_marked};
+use crate::broken_parts::{WrongPart, lines_marked, wrong_part};
+use crate::containing::MessageType;
 use crate::explaining::why_refused;
 use crate::fault::ShowFault;
 use crate::fronts::front_len;
 use crate::looking::written;
 use crate::named_fields::fields_within_by;
 use crate::streams::{Next, next_message};
-use asn_constraints::{Broken, Constraint, path_text};
 use asn_fields::{PAGE_END, page_head, page_note};
 use asn_jobs::{
     OFFSETS, OctetForm, Order, Place, RuleName, RunFault, dump_fault_text, is_dump, next_text,
@@ -25,8 +25,8 @@ pub struct Shown<'t> {
     /// The type of the messages, and its name.
     pub ty: &'t Checked,
     pub name: &'t str,
-    /// The constraint on its values, if it has one.
-    pub constraint: Option<&'t Constraint>,
+    /// The type with its constraint and contents, if it has some.
+    pub messages: Option<&'t MessageType>,
     pub rules: RuleName,
     pub forms: Forms,
     /// Whether they are shown as a page of HTML.
@@ -266,17 +266,9 @@ fn show_message<'a>(
     let Some((text, is_good)) = message_text(rt.alloc(), shown, place, octets)? else {
         return show_over(rt, shown, place, so_far);
     };
-    if is_good {
-        if let Some(broken) = broken_part(rt.alloc(), shown, octets)? {
-            return show_broken(
-                rt,
-                shown,
-                place,
-                text.as_str(),
-                &broken,
-                octets.len(),
-                so_far,
-            );
+    if let (true, Some(messages)) = (is_good, shown.messages) {
+        if let Some(wrong) = wrong_part(rt.alloc(), messages, shown.rules, octets)? {
+            return show_wrong(rt, shown, place, text.as_str(), &wrong, so_far);
         }
     }
     so_far.all_good &= is_good;
@@ -287,42 +279,25 @@ fn show_message<'a>(
     Ok(())
 }
 
-/// The part of a message that breaks the constraint of its type.
-fn broken_part(
-    alloc: Global,
-    shown: Shown<'_>,
-    octets: &[u8],
-) -> Result<Option<Broken>, AllocError> {
-    let Some(constraint) = shown.constraint else {
-        return Ok(None);
-    };
-    let digits = hex::encode(alloc, octets)?;
-    broken_in(alloc, shown.ty, constraint, shown.rules, digits.as_bytes())
-}
-
-/// Shows a message of so many octets whose value breaks its constraint: marks the part, and adds a line that says why.
-fn show_broken<'a>(
+/// Shows a message of which a part is wrong: the part is marked, and a line says why the message is refused.
+fn show_wrong<'a>(
     rt: &HostRuntime,
     shown: Shown<'_>,
     place: Place<'_>,
     text: &str,
-    broken: &Broken,
-    octets: usize,
+    wrong: &WrongPart,
     so_far: &mut SoFar,
 ) -> Result<(), ShowFault<'a>> {
     let alloc = rt.alloc();
-    let ty = shown.ty.get();
-    let refusal = broken_at_end(alloc, ty, broken, shown.rules, octets)?;
+    let refusal = wrong.refusal.as_str();
     let mut all = if shown.is_page {
         String::from_str(alloc, text)?
     } else {
-        let path = path_text(alloc, ty, broken.path.as_slice())?;
-        lines_marked(alloc, text, path.as_str(), broken.reason)?
+        lines_marked(alloc, text, wrong.path.as_str(), wrong.reason.as_str())?
     };
     let end = if shown.is_page {
-        page_note(alloc, place_text(alloc, place)?.as_str(), refusal.as_str())?
+        page_note(alloc, place_text(alloc, place)?.as_str(), refusal)?
     } else {
-        let refusal = refusal.as_str();
         format!(in alloc; "{refusal}\n")?
     };
     all.push_str(end.as_str())?;

@@ -4,6 +4,7 @@
 
 mod broken_parts;
 mod budget;
+mod containing;
 mod counting;
 mod examples;
 mod explaining;
@@ -23,6 +24,7 @@ mod wanted;
 
 pub use broken_parts::{broken_at_end, broken_words};
 pub use budget::{over_in_line, over_text};
+pub use containing::MessageType;
 pub use counting::Counts;
 pub use examples::{example_line, example_within};
 pub use explaining::{over_words, why_refused};

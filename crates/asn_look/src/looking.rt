@@ -1,9 +1,10 @@
 //! What is shown of a module: its types, values of a type to begin from, and messages field by field.
 use crate::broken_parts::broken_words;
+use crate::containing::MessageType;
 use crate::examples::example_within;
 use crate::fault::ShowFault;
 use crate::field_lines::{Shown, show_messages};
-use asn_constraints::{Constraint, judge_at};
+use asn_constraints::judge_at;
 use asn_examples::value_within;
 use asn_fields::outline;
 use asn_module::Module;
@@ -20,7 +21,7 @@ pub const MOST_ENTRIES: u32 = 1_000_000;
 const MOST_FIELDS: u32 = 100_000;
 
 /// Shows what is asked for of a module, and gives the exit status; `None` if it has no type of the name, and nothing is
-/// shown. The constraint is that on values of the type that is named, if it has one.
+/// shown. `messages` is the type that is named with its constraint and contents, if it has some.
 ///
 /// # Errors
 /// Where reading, writing or memory failed.
@@ -28,7 +29,7 @@ pub fn show_of<'a, R: BufRead>(
     rt: &HostRuntime,
     look: &Look,
     module: &Module,
-    constraint: Option<&Constraint>,
+    messages: Option<&MessageType>,
     asking: &Asking<'a>,
     lines: &mut R,
 ) -> Result<Option<u8>, ShowFault<'a>> {
@@ -38,7 +39,7 @@ pub fn show_of<'a, R: BufRead>(
     let name = name.as_str();
     match module.type_named(name) {
         Some(ty) => {
-            let status = show_type(rt, look, name, ty, constraint, asking, lines)?;
+            let status = show_type(rt, look, name, ty, messages, asking, lines)?;
             Ok(Some(status))
         }
         None => Ok(None),
@@ -51,7 +52,7 @@ fn show_type<'a, R: BufRead>(
     look: &Look,
     name: &str,
     ty: &Checked,
-    constraint: Option<&Constraint>,
+    messages: Option<&MessageType>,
     asking: &Asking<'a>,
     lines: &mut R,
 ) -> Result<u8, ShowFault<'a>> {
@@ -60,7 +61,7 @@ fn show_type<'a, R: BufRead>(
             let shown = Shown {
                 ty,
                 name,
-                constraint,
+                messages,
                 rules: look.rules,
                 forms: asking.forms,
                 is_page: look.is_page,
@@ -75,7 +76,7 @@ fn show_type<'a, R: BufRead>(
         }
         Looking::Example => {
             let most = asking.budget.unwrap_or(MOST_ENTRIES);
-            show_examples(rt, look, ty, constraint, most)
+            show_examples(rt, look, ty, messages, most)
         }
     }
 }
@@ -98,16 +99,16 @@ fn show_examples<'a>(
     rt: &HostRuntime,
     look: &Look,
     ty: &Checked,
-    constraint: Option<&Constraint>,
+    messages: Option<&MessageType>,
     most: u32,
 ) -> Result<u8, ShowFault<'a>> {
     let Look { seed, count, .. } = *look;
     if seed.is_none() && count.is_none() {
-        return show_example(rt, ty, constraint, None, most);
+        return show_example(rt, ty, messages, None, most);
     }
     let first = u64::from(seed.unwrap_or(0));
     for later in 0..u64::from(count.unwrap_or(1)) {
-        let status = show_example(rt, ty, constraint, Some(first.saturating_add(later)), most)?;
+        let status = show_example(rt, ty, messages, Some(first.saturating_add(later)), most)?;
         if status > 0 {
             return Ok(status);
         }
@@ -115,19 +116,19 @@ fn show_examples<'a>(
     Ok(0)
 }
 
-/// Writes the value of a seed, or the least one, and gives the exit status. Standard error says what of the value breaks the
-/// constraint.
+/// Writes the value of a seed, or the least one, and gives the exit status. Standard error says what of the value is
+/// wrong.
 fn show_example<'a>(
     rt: &HostRuntime,
     ty: &Checked,
-    constraint: Option<&Constraint>,
+    messages: Option<&MessageType>,
     seed: Option<u64>,
     most: u32,
 ) -> Result<u8, ShowFault<'a>> {
     match example_within(rt.alloc(), ty, seed, u64::from(most))? {
         Some(line) => {
             written(rt, line.as_str())?;
-            tell_broken(rt, ty, constraint, seed, most)?;
+            tell_wrong(rt, ty, messages, seed, most)?;
             Ok(0)
         }
         None => {
@@ -139,23 +140,29 @@ fn show_example<'a>(
     }
 }
 
-/// Says on standard error what of the value of a seed, or of the least one, breaks the constraint.
-fn tell_broken(
+/// Says on standard error what of the value of a seed, or of the least one, breaks the constraint, or has to be an encoding.
+fn tell_wrong(
     rt: &HostRuntime,
     ty: &Checked,
-    constraint: Option<&Constraint>,
+    messages: Option<&MessageType>,
     seed: Option<u64>,
     most: u32,
 ) -> Result<(), AllocError> {
-    let Some(constraint) = constraint else {
+    let Some(messages) = messages else {
         return Ok(());
     };
     let Some(value) = value_within(rt.alloc(), ty, seed, u64::from(most))? else {
         return Ok(());
     };
+    let constraint = messages.constrained().constraint();
     if let Some(broken) = judge_at(rt.alloc(), constraint, &value)? {
         let words = broken_words(rt.alloc(), ty.get(), &broken)?;
         let _ = eprintln!(rt; "change the value before you encode it: {words}");
+    }
+    if let Some(path) = messages.first_contents(rt.alloc(), &value)? {
+        let _ = eprintln!(rt;
+            "change the value before you encode it: {path} has to be an encoding"
+        );
     }
     Ok(())
 }

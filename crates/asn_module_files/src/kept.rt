@@ -4,12 +4,15 @@ use crate::differences::difference_in;
 use crate::published::fault_of_constraints;
 use crate::sources::own_of;
 use asn_constraint_text::{
-    ConstrainedModule, MOST_PARTS, WholeFault, constraint_text, with_constraints, with_differences,
+    ConstrainedModule, MOST_PARTS, WholeFault, constraint_text, contents_text, with_constraints,
+    with_differences,
 };
 use asn_constraints::Constraint;
+use asn_contents::{Contents, is_nowhere, moved, push_types};
 use asn_published::{Flattened, PublishedFault, TypeReport};
 use asn_values::AsnType;
 use std::alloc::{AllocError, Global};
+use std::collections::HashMap;
 
 /// How many octets the lines of the types of a module may have.
 const MOST_OCTETS: u32 = 80_000_000;
@@ -44,7 +47,8 @@ impl Lines {
         self.constraints.is_empty() && self.differences.is_empty()
     }
 
-    /// Takes the constraint of the type of a name, unless each value meets it.
+    /// Takes the constraint of the type of a name, and which octets of its values are encodings, unless each value meets it and
+    /// no octets are. `names` has the names of types by their positions.
     ///
     /// # Errors
     /// `TooLarge` if the lines have more octets than `MOST_OCTETS`, and `Memory` if an allocation failed.
@@ -54,12 +58,30 @@ impl Lines {
         name: &str,
         ty: &AsnType,
         constraint: &Constraint,
+        contents: &Contents,
+        names: &[&str],
     ) -> Result<(), PublishedFault> {
-        if let Constraint::Free = constraint {
+        let is_free = matches!(constraint, Constraint::Free);
+        if is_free && is_nowhere(contents) {
             return Ok(());
         }
         let name = String::from_str(alloc, name)?;
-        let text = constraint_text(alloc, ty, constraint)?;
+        let octets = octets_of_names(alloc, contents, names)?;
+        if self.octets.saturating_add(octets) > MOST_OCTETS as usize {
+            return Err(PublishedFault::TooLarge {
+                most: MOST_OCTETS,
+                name,
+            });
+        }
+        let mut text = if is_free {
+            String::new(alloc)
+        } else {
+            constraint_text(alloc, ty, constraint)?
+        };
+        if !is_nowhere(contents) {
+            text.push_str(if is_free { "" } else { " " })?;
+            text.push_str(contents_text(alloc, ty, contents, names)?.as_str())?;
+        }
         let line = self.counted(name, text)?;
         self.constraints.push(line)?;
         Ok(())
@@ -114,16 +136,42 @@ fn views_of(alloc: Global, lines: &[Line]) -> Result<Vec<(&str, &str)>, AllocErr
     Ok(views)
 }
 
+/// How many octets the names of types have that contents name.
+fn octets_of_names(
+    alloc: Global,
+    contents: &Contents,
+    names: &[&str],
+) -> Result<usize, AllocError> {
+    let mut types = Vec::new(alloc);
+    push_types(contents, &mut types)?;
+    let mut octets = 0usize;
+    for ty in &types {
+        if let Some(name) = names.get(*ty) {
+            octets = octets.saturating_add(name.len());
+        }
+    }
+    Ok(octets)
+}
+
 /// The lines of a module of the profile, with references written out.
 pub(crate) fn lines_of_own(
     alloc: Global,
     own: &ConstrainedModule,
 ) -> Result<Lines, PublishedFault> {
     let mut lines = Lines::new(alloc);
+    let names = names_of(alloc, own)?;
     for name in own.module.type_names() {
         if let Some(ty) = own.module.type_named(name) {
             let constraint = constraint_in(alloc, own, name)?;
-            lines.push_constraint(alloc, name, ty.get(), &constraint)?;
+            let contents = contents_in(alloc, own, name)?;
+            lines.push_constraint(
+                alloc,
+                name,
+                ty.get(),
+                &constraint,
+                &contents,
+                names.as_slice(),
+            )?;
             if let Some(words) = own.difference_named(alloc, name)? {
                 lines.push_difference(alloc, name, String::from_str(alloc, words)?)?;
             }
@@ -139,6 +187,14 @@ pub(crate) fn lines_of_flattened(
     own: &Option<ConstrainedModule>,
 ) -> Result<Lines, PublishedFault> {
     let mut lines = Lines::new(alloc);
+    let mut names = Vec::new(alloc);
+    for one in &flattened.report {
+        names.push(one.name.as_str())?;
+    }
+    let places = match own {
+        Some(own) => places_in_report(alloc, own, names.as_slice())?,
+        None => Vec::new(alloc),
+    };
     for (index, one) in flattened.report.iter().enumerate() {
         let name = one.name.as_str();
         if let Some(ty) = flattened.module.type_named(name) {
@@ -147,7 +203,18 @@ pub(crate) fn lines_of_flattened(
                 Some(own) => both(alloc, constraint_in(alloc, own, name)?, published)?,
                 None => published,
             };
-            lines.push_constraint(alloc, name, ty.get(), &constraint)?;
+            let contents = match own {
+                Some(own) => moved(alloc, &contents_in(alloc, own, name)?, places.as_slice())?,
+                None => flattened.contents_at(alloc, index)?,
+            };
+            lines.push_constraint(
+                alloc,
+                name,
+                ty.get(),
+                &constraint,
+                &contents,
+                names.as_slice(),
+            )?;
             if let Some(words) = difference_of(alloc, one, own)? {
                 lines.push_difference(alloc, name, words)?;
             }
@@ -168,6 +235,38 @@ fn difference_of(
         }
     }
     difference_in(alloc, one)
+}
+
+/// The names of a module by their positions.
+fn names_of<'m>(alloc: Global, own: &'m ConstrainedModule) -> Result<Vec<&'m str>, AllocError> {
+    let mut names = Vec::new(alloc);
+    for _ in 0..u64::MAX {
+        match own.name_at(names.len()) {
+            Some(name) => names.push(name)?,
+            None => break,
+        }
+    }
+    Ok(names)
+}
+
+/// The positions of the names of a module among these names.
+fn places_in_report(
+    alloc: Global,
+    own: &ConstrainedModule,
+    names: &[&str],
+) -> Result<Vec<Option<usize>>, AllocError> {
+    let mut indices = HashMap::new(alloc);
+    for (index, name) in names.iter().enumerate() {
+        let _before = indices.insert(*name, index)?;
+    }
+    let mut places = Vec::new(alloc);
+    for name in &names_of(alloc, own)? {
+        places.push(match indices.get(*name) {
+            Some(index) => Some(*index),
+            None => None,
+        })?;
+    }
+    Ok(places)
 }
 
 /// Both constraints, or one where the other is free.
@@ -192,11 +291,66 @@ pub(crate) fn constraint_in(
 ) -> Result<Constraint, PublishedFault> {
     match own.constraint_named(alloc, name) {
         Ok(constraint) => Ok(constraint.unwrap_or(Constraint::Free)),
-        Err(WholeFault::TooLarge) => Err(PublishedFault::TooLarge {
-            most: u32::try_from(MOST_PARTS).unwrap_or(u32::MAX),
+        Err(fault) => Err(fault_of_whole(alloc, fault, name, MOST_PARTS)?),
+    }
+}
+
+/// The same, of which the parts are taken from `room`, which was so large.
+pub(crate) fn constraint_within(
+    alloc: Global,
+    own: &ConstrainedModule,
+    name: &str,
+    room: &mut usize,
+    most: usize,
+) -> Result<Constraint, PublishedFault> {
+    match own.constraint_within(alloc, name, room) {
+        Ok(constraint) => Ok(constraint.unwrap_or(Constraint::Free)),
+        Err(fault) => Err(fault_of_whole(alloc, fault, name, most)?),
+    }
+}
+
+/// Which octets of the values of the type of a name are encodings; none where there is no such type.
+///
+/// # Errors
+/// As of `constraint_in`.
+pub(crate) fn contents_in(
+    alloc: Global,
+    own: &ConstrainedModule,
+    name: &str,
+) -> Result<Contents, PublishedFault> {
+    match own.contents_named(alloc, name) {
+        Ok(contents) => Ok(contents.unwrap_or(Contents::Nowhere)),
+        Err(fault) => Err(fault_of_whole(alloc, fault, name, MOST_PARTS)?),
+    }
+}
+
+/// The same, of which the parts are taken from `room`, which was so large.
+pub(crate) fn contents_within(
+    alloc: Global,
+    own: &ConstrainedModule,
+    name: &str,
+    room: &mut usize,
+    most: usize,
+) -> Result<Contents, PublishedFault> {
+    match own.contents_within(alloc, name, room) {
+        Ok(contents) => Ok(contents.unwrap_or(Contents::Nowhere)),
+        Err(fault) => Err(fault_of_whole(alloc, fault, name, most)?),
+    }
+}
+
+/// Why the constraint of a name is not put together, where it may have so many parts.
+fn fault_of_whole(
+    alloc: Global,
+    fault: WholeFault,
+    name: &str,
+    most: usize,
+) -> Result<PublishedFault, AllocError> {
+    match fault {
+        WholeFault::TooLarge => Ok(PublishedFault::TooLarge {
+            most: u32::try_from(most).unwrap_or(u32::MAX),
             name: String::from_str(alloc, name)?,
         }),
-        Err(WholeFault::Memory) => Err(PublishedFault::Memory),
+        WholeFault::Memory => Ok(PublishedFault::Memory),
     }
 }
 

@@ -2,6 +2,7 @@
 //! the profile; and why a module is refused.
 #![tactic(auto)]
 
+mod contained;
 mod differences;
 mod flattening;
 mod kept;
@@ -13,6 +14,7 @@ mod telling;
 mod terminal;
 mod texts;
 
+pub use contained::{ContainedType, Containing};
 pub use flattening::flatten_files;
 pub use kept::Lines;
 pub use published::Published;

@@ -12,11 +12,6 @@ The text is one of several: it imports types from modules that are not given. Gi
 the other in front of the line ====, or as files, --module FILE FILE ..
 ";
 
-/// What is said where named bits without a fixed size are refused.
-const PLAIN_BITS: &str = "\
-With --plain-bits named bits without a fixed size are a BIT STRING, whose writer trims the last zeros.
-";
-
 /// What is said where a recursive type is refused.
 const LEVELS: &str = "\
 With --levels N a recursive type has N levels: messages are read in which it stands in itself N - 1 times.
@@ -28,12 +23,8 @@ With --octets OBJECT IDENTIFIER, REAL and strings of other characters are an OCT
 ";
 
 /// The ends of remarks, and what is said, once, where one of them stands among the remarks on published modules.
-const ADVICE: [(&str, &str); 6] = [
+const ADVICE: [(&str, &str); 5] = [
     (": a module that is not given\n", ONE_OF_SEVERAL),
-    (
-        ": named bits without a fixed size: PER trims zeros\n",
-        PLAIN_BITS,
-    ),
     (": recursion\n", LEVELS),
     (": OBJECT IDENTIFIER is no type of the profile\n", OCTETS),
     (": REAL is no type of the profile\n", OCTETS),

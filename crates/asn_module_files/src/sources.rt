@@ -83,7 +83,7 @@ fn passed_over(
     all.extend_from_slice(octets)?;
     match text_of_octets(alloc, all) {
         Ok(text) => published(alloc, text.as_str(), rest, options, job),
-        Err(_) => Ok(same(alloc, Published::free())?),
+        Err(_) => Ok(same(alloc, Published::free(alloc))?),
     }
 }
 
@@ -102,7 +102,7 @@ fn published(
         Err(fault) => Ok(Instead {
             octets: None,
             remarks: fault_line(alloc, fault)?,
-            published: Published::free(),
+            published: Published::free(alloc),
             is_whole: false,
         }),
     }
@@ -274,7 +274,7 @@ fn flattened_input(
         return Ok(Instead {
             octets: None,
             remarks,
-            published: Published::free(),
+            published: Published::free(alloc),
             is_whole,
         });
     }

@@ -12,6 +12,7 @@ use crate::marks::Marks;
 use crate::refusing::{refuse, refuse_large};
 use crate::reports::{Reported, reports_of};
 use asn_constraints::Constraint;
+use asn_contents::Contents;
 use asn_module::{MOST_SIZE, Module, read_within};
 use asn_published_report::missing::{MissingImport, missing_imports};
 use asn_published_report::way::status_named;
@@ -19,7 +20,7 @@ use asn_published_text::options::Options;
 use asn_published_types::pieces::push_pieces;
 use asn_published_types::report::{Status, TypeReport};
 use asn_published_types::steps::Marked;
-use asn_published_types::tree::constraint_at;
+use asn_published_types::tree::{constraint_at, contents_at};
 use asn_published_write::sources::Sources;
 use asn_published_write::wanted::{Wanted, write_all};
 use asn_published_write::written::{Written, whole_level};
@@ -39,6 +40,8 @@ pub struct Flattened {
     /// The nodes of the types that are written, and of each type of the report which of these it is.
     pub(crate) marked: Vec<Marked>,
     pub(crate) places: Vec<usize>,
+    /// Of each type of the texts its index in the report.
+    pub(crate) in_report: Vec<Option<usize>>,
     /// How many levels a recursive type has.
     pub(crate) levels: u32,
 }
@@ -79,6 +82,38 @@ impl Flattened {
         match self.places.get(index) {
             Some(place) => constraint_at(alloc, self.marked.as_slice(), *place),
             None => Ok(Constraint::Free),
+        }
+    }
+
+    /// Which octets of the values of the type of a name are encodings (X.682, "contents constraint"), by the index of their type
+    /// in the report; `Nowhere` where none are, or there is no such type.
+    ///
+    /// # Errors
+    /// `AllocError` where an allocation failed.
+    pub fn contents_of(&self, alloc: Global, name: &str) -> Result<Contents, AllocError> {
+        let found = self
+            .report
+            .iter()
+            .position(|one| *one.name.as_str() == *name);
+        match found {
+            Some(at) => self.contents_at(alloc, at),
+            None => Ok(Contents::Nowhere),
+        }
+    }
+
+    /// The same of the type at an index of the report.
+    ///
+    /// # Errors
+    /// `AllocError` where an allocation failed.
+    pub fn contents_at(&self, alloc: Global, index: usize) -> Result<Contents, AllocError> {
+        match self.places.get(index) {
+            Some(place) => contents_at(
+                alloc,
+                self.marked.as_slice(),
+                *place,
+                self.in_report.as_slice(),
+            ),
+            None => Ok(Contents::Nowhere),
         }
     }
 
@@ -125,19 +160,20 @@ pub(crate) fn first_line(alloc: Global, sources: &Sources<'_>) -> Result<String,
     Ok(text)
 }
 
-/// The text of the module of the types that are written: of the one that is wanted alone, if one is.
+/// The text of the module of the types that are written: of the one that is wanted alone, if one is, and those that octets
+/// contain then.
 fn text_written(
     alloc: Global,
     sources: &Sources<'_>,
     written: &Written,
-    wanted: Option<Wanted>,
 ) -> Result<String, AllocError> {
     let mut text = first_line(alloc, sources)?;
-    if let (Some(line), Some(wanted)) = (&written.alone, wanted) {
-        if let Some(name) = sources.names.get(wanted.entry) {
-            push_pieces(&mut text, &[name.as_str(), " ::=", line.as_str(), "\n"])?;
+    for one in &written.alone {
+        if let Some(name) = sources.names.get(one.entry) {
+            push_pieces(&mut text, &[name.as_str(), " ::=", one.text.as_str(), "\n"])?;
         }
-    } else {
+    }
+    if written.alone.is_empty() {
         for line in &written.levels {
             text.push_str(line.as_str())?;
         }
@@ -177,12 +213,13 @@ fn attempt(
     ensures within { IfOk result (λ f. types_size (types_view f.module).types ≤ most) }
 {
     let written = write_all(alloc, sources, options, refused, wanted)?;
-    let text = text_written(alloc, sources, &written, wanted)?;
+    let text = text_written(alloc, sources, &written)?;
     let (text, module) = read_back(alloc, text.as_str(), most)?;
     let Reported {
         report,
         marked,
         places,
+        in_report,
     } = reports_of(alloc, written)?;
     Ok(Flattened {
         text,
@@ -191,6 +228,7 @@ fn attempt(
         missing: missing_imports(alloc, &sources.world)?,
         marked,
         places,
+        in_report,
         levels: whole_level(options),
     })
 }

@@ -4,7 +4,8 @@ ghost use Rattle.asn_published.specs.Told.{IsNarrower, IsSaidOfAll, told_of};
 
 use crate::looking::Search;
 use crate::told::{Said, is_narrower, said_of_all};
-use asn_published_types::steps::Marked;
+use asn_published_types::report::{ARE_CONTENTS_JUDGED, Remark};
+use asn_published_types::steps::{Marked, Trail};
 use asn_values::{Checked, Value};
 use std::alloc::{AllocError, Global};
 
@@ -70,6 +71,23 @@ impl Marks {
             levels: 0,
             told: Some(String::from_str(alloc, words)?),
         }))
+    }
+
+    /// The mark of a type of the profile of whose values some octets are encodings; `None` if these are judged.
+    ///
+    /// # Errors
+    /// `AllocError` where an allocation failed.
+    pub fn of_contents(alloc: Global) -> Result<Option<Marks>, AllocError> {
+        if ARE_CONTENTS_JUDGED {
+            return Ok(None);
+        }
+        let mut trail = Trail::new(alloc);
+        trail.enter(alloc, 0, 1)?;
+        trail.mark(0, Remark::Contents)?;
+        let mut types = Vec::new(alloc);
+        let marked = trail.finish(alloc, types.as_slice());
+        types.push(marked)?;
+        Ok(Marks::of(types, 0, 0))
     }
 
     /// How many levels a recursive type has, where recursion ends in the type.

@@ -6,7 +6,6 @@ use asn_values::{AsnType, Field, Need, Value, same};
 /// Whether a value that is encoded could be none of the published type, or its octets no encoding of it, as the remark says.
 pub(crate) fn is_met(remark: Remark, ty: &AsnType, value: &Value, is_oer: bool) -> bool {
     match remark {
-        Remark::EmptyGroup => !has_spelt(ty, value),
         Remark::TrimmedBits => !is_trimmed(ty, value),
         Remark::SizeToMax => length_of(value) > MAX_SIZE_BOUND as usize,
         Remark::OerTags => is_oer,
@@ -18,7 +17,7 @@ pub(crate) fn is_met(remark: Remark, ty: &AsnType, value: &Value, is_oer: bool) 
         | Remark::Dropped
         | Remark::Default
         | Remark::Characters
-        | Remark::Time
+        | Remark::Contents
         | Remark::OpenType
         | Remark::Content(_)
         | Remark::Real => true,
@@ -34,16 +33,6 @@ pub(crate) fn is_spelt(field: &Field, entry: &Option<Value>) -> bool {
         },
         None => false,
     }
-}
-
-/// Whether a component of a group has an encoding.
-fn has_spelt(ty: &AsnType, value: &Value) -> bool {
-    let (AsnType::Seq { root, .. }, Value::Seq(entries)) = (ty, value) else {
-        return false;
-    };
-    root.iter()
-        .zip(entries.iter())
-        .any(|(field, entry)| is_spelt(field, entry))
 }
 
 /// Whether named bits are as short as their size lets them be.

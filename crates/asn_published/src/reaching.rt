@@ -4,7 +4,7 @@ use asn_published_types::building::Forest;
 use asn_published_types::order::{Order, order_of};
 use std::alloc::{AllocError, Global};
 
-/// Appends the types to which the nodes of a type refer.
+/// Appends the types to which the nodes of a type refer, and those that octets of its values contain.
 fn push_references(
     todo: &mut Vec<usize>,
     forest: &Forest<'_>,
@@ -13,8 +13,9 @@ fn push_references(
     let (first, end) = nodes;
     for index in first..end {
         if let Some(node) = forest.node(index) {
-            if let Shape::Reference { to } = node.shape {
-                todo.push(to)?;
+            match node.shape {
+                Shape::Reference { to } | Shape::Contained { to } => todo.push(to)?,
+                _ => {}
             }
         }
     }

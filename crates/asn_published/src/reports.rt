@@ -41,6 +41,8 @@ pub(crate) struct Reported {
     pub report: Vec<TypeReport>,
     pub marked: Vec<Marked>,
     pub places: Vec<usize>,
+    /// Of each type its index in the report, where it has one.
+    pub in_report: Vec<Option<usize>>,
 }
 
 /// The reports of all types.
@@ -56,6 +58,7 @@ pub(crate) fn reports_of(alloc: Global, written: Written) -> Result<Reported, Al
         report: Vec::new(alloc),
         marked,
         places: Vec::new(alloc),
+        in_report: Vec::new(alloc),
     };
     for (report, place) in reports.into_iter().zip(places) {
         if let Some(mut report) = report {
@@ -64,5 +67,6 @@ pub(crate) fn reports_of(alloc: Global, written: Written) -> Result<Reported, Al
             reported.places.push(place)?;
         }
     }
+    reported.in_report = in_report;
     Ok(reported)
 }

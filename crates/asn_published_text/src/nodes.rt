@@ -64,6 +64,10 @@ pub enum Shape {
         of: usize,
         at: usize,
     },
+    /// The type that the octets of the values of the node around it contain, by its index among all of them.
+    Contained {
+        to: usize,
+    },
     /// The octets of a value that is not looked at: an open type.
     Open,
     /// The octets of a value of this type, where the caller asks for them.

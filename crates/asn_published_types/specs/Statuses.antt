@@ -5,14 +5,15 @@ use Rattle.asn_published_types.specs.declared.report.Status.TheVariants as statu
 use Rattle.asn_published_types.specs.declared.report.Remark.{Remark}
 use Rattle.asn_published_types.specs.declared.report.Remark.TheVariants as remark
 
--- others are taken too
 abbrev pub status_of : Remark → Status
+-- the octets that are encodings are known
+status_of remark.Contents = status.Same
+-- others are taken too
 status_of remark.Gap = status.Wider
 status_of remark.Dropped = status.Wider
 status_of remark.Default = status.Wider
 status_of remark.SizeToMax = status.Wider
 status_of remark.Characters = status.Wider
-status_of remark.Time = status.Wider
 status_of remark.OpenType = status.Wider
 status_of remark.Level = status.Wider
 status_of (remark.Content what) = status.Wider
@@ -20,7 +21,6 @@ status_of (remark.Content what) = status.Wider
 status_of remark.Unbounded = status.Narrower
 -- the writer keeps a rule
 status_of remark.TrimmedBits = status.Owed
-status_of remark.EmptyGroup = status.Owed
 status_of remark.LeftOut = status.Owed
 -- OER has other encodings
 status_of remark.OerTags = status.PerOnly

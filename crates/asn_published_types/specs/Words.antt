@@ -12,12 +12,11 @@ words_of remark.Dropped = codes "a constraint is not looked at"
 words_of remark.Default = codes "the default may be written out"
 words_of remark.SizeToMax = codes "sizes have no highest"
 words_of remark.Characters = codes "other characters are taken too"
-words_of remark.Time = codes "the time is not looked at"
+words_of remark.Contents = codes "contents"
 words_of remark.OpenType = codes "the value of the open type is not looked at"
 words_of (remark.Content what) = codes "the " ++ (what.now ++ codes " is not looked at")
 words_of remark.Real = codes "the REAL is not looked at, and OER may have no length"
 words_of remark.TrimmedBits = codes "last zeros of named bits: the writer trims them"
-words_of remark.EmptyGroup = codes "a group without components is absent: the writer leaves it out"
 words_of remark.LeftOut =
     codes "an addition that is not OPTIONAL may be absent before another: the writer gives it"
 words_of remark.Unbounded = codes "numbers below -2^63 and above 2^64 - 1 are refused"

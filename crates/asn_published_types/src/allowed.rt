@@ -1,30 +1,21 @@
 //! What a constraint allows (X.680, "subtype elements"): sets of numbers, lengths, characters and items, and a tree of the
 //! rest.
-use crate::intervals::{EVERY, covers, joined, met, outside};
+use crate::among::{INTEGERS, items_among, lengths_among, letters_among, numbers_among};
+use crate::intervals::{EVERY, joined, met, outside};
 use crate::joining::{both, either};
-use asn_constraints::{Constraint, Interval, Lengths};
-use asn_values::profile::{HIGHEST_INTEGER, LOWEST_INTEGER};
+use asn_constraints::{Constraint, Interval};
+use asn_contents::{Contents, are_same, both_contents, contents_of_elements, is_nowhere};
 use std::alloc::{AllocError, Global};
+use std::mem;
 
 /// How deep what is not a set may be.
 const MOST_DEPTH: u32 = 200;
-
-/// The integers of the profile, and the codes of the characters of its strings that have codes of one octet.
-const INTEGERS: Interval = Interval {
-    low: LOWEST_INTEGER,
-    high: HIGHEST_INTEGER,
-};
-
-const CODES: Interval = Interval { low: 0, high: 127 };
 
 /// The lengths of strings and lists.
 pub const LENGTHS: Interval = Interval {
     low: 0,
     high: u32::MAX as i128,
 };
-
-/// How many positions of items are looked at: more than an ENUMERATED has.
-const MOST_POSITIONS: u32 = 512;
 
 /// What a constraint allows: the values that are in each set that is given, and meet the others. `None` is every value.
 #[derive(Drop)]
@@ -38,6 +29,8 @@ pub struct Allowed {
     /// The positions of items.
     pub items: Option<Vec<Interval>>,
     pub others: Constraint,
+    /// Which octets of the values are encodings of other types.
+    pub contents: Contents,
     /// How deep the others are.
     pub depth: u32,
     /// The constraint has an extension marker: it is no constraint, unless another follows it.
@@ -77,6 +70,34 @@ enum Given {
     More,
 }
 
+/// What both allow, or the first alone.
+fn first_or_both(
+    alloc: Global,
+    one: Constraint,
+    other: Constraint,
+    is_first: bool,
+) -> Result<Constraint, AllocError> {
+    if is_first {
+        Ok(one)
+    } else {
+        both(alloc, one, other)
+    }
+}
+
+/// The octets of both, or of the first alone.
+fn first_or_both_contents(
+    alloc: Global,
+    one: Contents,
+    other: Contents,
+    is_first: bool,
+) -> Result<Contents, AllocError> {
+    if is_first {
+        Ok(one)
+    } else {
+        both_contents(alloc, one, other)
+    }
+}
+
 impl Allowed {
     /// Every value.
     pub fn all() -> Allowed {
@@ -86,6 +107,7 @@ impl Allowed {
             letters: None,
             items: None,
             others: Constraint::Free,
+            contents: Contents::Nowhere,
             depth: 0,
             is_marked: false,
             is_missing: false,
@@ -112,6 +134,20 @@ impl Allowed {
         }
     }
 
+    /// The values in which octets are encodings.
+    pub fn containing(contents: Contents) -> Allowed {
+        Allowed {
+            contents,
+            depth: 1,
+            ..Allowed::all()
+        }
+    }
+
+    /// Which octets are encodings, which are then no longer said to be.
+    pub fn take_contents(&mut self) -> Contents {
+        mem::replace(&mut self.contents, Contents::Nowhere)
+    }
+
     /// Which set alone is given.
     fn given(&self) -> Given {
         let count = u32::from(self.numbers.is_some())
@@ -135,8 +171,9 @@ impl Allowed {
 
     /// The values that both allow. Neither is taken to have a marker.
     pub fn and(self, alloc: Global, other: Allowed) -> Result<Allowed, AllocError> {
-        let are_both = !matches!(&self.others, Constraint::Free)
-            && !matches!(&other.others, Constraint::Free);
+        let are_both = (!matches!(&self.others, Constraint::Free)
+            && !matches!(&other.others, Constraint::Free))
+            || (!is_nowhere(&self.contents) && !is_nowhere(&other.contents));
         let depth = self
             .depth
             .max(other.depth)
@@ -148,11 +185,8 @@ impl Allowed {
             lengths: both_sets(alloc, self.lengths, other.lengths)?,
             letters: both_sets(alloc, self.letters, other.letters)?,
             items: both_sets(alloc, self.items, other.items)?,
-            others: if is_deep {
-                self.others
-            } else {
-                both(alloc, self.others, other.others)?
-            },
+            others: first_or_both(alloc, self.others, other.others, is_deep)?,
+            contents: first_or_both_contents(alloc, self.contents, other.contents, is_deep)?,
             depth: if is_deep { self.depth } else { depth },
             is_marked: false,
             is_missing: is_missing || is_deep,
@@ -160,7 +194,23 @@ impl Allowed {
     }
 
     /// The values that one of both allows. Neither is taken to have a marker.
+    ///
+    /// Octets are encodings where both say so: where one alone does, that is not looked at.
     pub fn or(self, alloc: Global, other: Allowed) -> Result<Allowed, AllocError> {
+        let mut one = self;
+        let mut two = other;
+        let (contents, contents_too) = (one.take_contents(), two.take_contents());
+        let mut allowed = one.or_other(alloc, two)?;
+        if are_same(&contents, &contents_too) {
+            allowed.contents = contents;
+        } else {
+            allowed.is_missing = true;
+        }
+        Ok(allowed)
+    }
+
+    /// The same of values of which no octets are encodings.
+    fn or_other(self, alloc: Global, other: Allowed) -> Result<Allowed, AllocError> {
         let depth = self.depth.max(other.depth).saturating_add(2);
         let is_missing = self.is_missing || other.is_missing;
         let (given, given_too) = (self.given(), other.given());
@@ -189,7 +239,8 @@ impl Allowed {
 
     /// The values that this allows, without those that the other does (X.680, "EXCEPT"). What is taken out is a set.
     pub fn except(self, alloc: Global, other: Allowed) -> Result<Allowed, AllocError> {
-        let is_set = !matches!(other.given(), Given::Nothing | Given::More);
+        let is_set = !matches!(other.given(), Given::Nothing | Given::More)
+            && matches!(&other.contents, Contents::Nowhere);
         if !is_set || other.is_missing || other.is_marked {
             return Ok(Allowed {
                 is_missing: true,
@@ -208,7 +259,7 @@ impl Allowed {
         self.and(alloc, others)
     }
 
-    /// The constraint on values of which encodings show so much.
+    /// The constraint on values of which encodings show so much, without which octets are encodings.
     pub fn into_constraint(self, alloc: Global, shown: Shown) -> Result<Constraint, AllocError> {
         let Allowed {
             numbers,
@@ -216,6 +267,7 @@ impl Allowed {
             letters,
             items,
             others,
+            contents: _,
             depth: _,
             is_marked: _,
             is_missing: _,
@@ -232,14 +284,17 @@ impl Allowed {
 
     /// What is allowed of a list whose elements are allowed so.
     pub fn elements(self, alloc: Global) -> Result<Allowed, AllocError> {
-        let depth = self.depth.saturating_add(2);
-        let is_missing = self.is_missing;
-        let inner = self.into_constraint(alloc, Shown::nothing())?;
+        let mut inside = self;
+        let depth = inside.depth.saturating_add(2);
+        let is_missing = inside.is_missing;
+        let contents = inside.take_contents();
+        let inner = inside.into_constraint(alloc, Shown::nothing())?;
         let constraint = match inner {
             Constraint::Free => Constraint::Free,
             inner => Constraint::Elements(Box::new(alloc, inner)?),
         };
         let mut allowed = Allowed::others(constraint, depth);
+        allowed.contents = contents_of_elements(alloc, contents)?;
         allowed.is_missing |= is_missing;
         Ok(allowed)
     }
@@ -247,6 +302,26 @@ impl Allowed {
     /// How deep the constraint is that it becomes.
     pub(crate) fn depth(&self) -> u32 {
         self.depth.saturating_add(5)
+    }
+}
+
+/// What a constraint inside SIZE allows.
+pub(crate) fn sizes_of(inner: Allowed) -> Allowed {
+    Allowed {
+        lengths: inner.numbers,
+        is_marked: inner.is_marked,
+        is_missing: inner.is_missing,
+        ..Allowed::all()
+    }
+}
+
+/// What a constraint inside FROM allows.
+pub(crate) fn letters_of(inner: Allowed) -> Allowed {
+    Allowed {
+        letters: inner.numbers,
+        is_marked: inner.is_marked,
+        is_missing: inner.is_missing,
+        ..Allowed::all()
     }
 }
 
@@ -289,90 +364,4 @@ fn outside_set(
         None => Ok(None),
         Some(set) => Ok(Some(outside(alloc, set.as_slice())?)),
     }
-}
-
-/// That a number is in a set, unless it has each that encodings show.
-fn numbers_among(
-    alloc: Global,
-    set: Option<Vec<Interval>>,
-    shown: Interval,
-) -> Result<Constraint, AllocError> {
-    match set {
-        Some(set) if !covers(set.as_slice(), shown) => {
-            let numbers = met(alloc, set.as_slice(), &[INTEGERS])?;
-            Ok(Constraint::Numbers(numbers))
-        }
-        _ => Ok(Constraint::Free),
-    }
-}
-
-/// That a length is in a set, unless it has each that encodings show.
-fn lengths_among(
-    alloc: Global,
-    set: Option<Vec<Interval>>,
-    shown: Interval,
-) -> Result<Constraint, AllocError> {
-    match set {
-        Some(set) if !covers(set.as_slice(), shown) => {
-            let lengths = lengths_of(alloc, set.as_slice())?;
-            Ok(Constraint::Lengths(lengths))
-        }
-        _ => Ok(Constraint::Free),
-    }
-}
-
-/// That characters have codes in a set, unless it has each.
-fn letters_among(alloc: Global, set: Option<Vec<Interval>>) -> Result<Constraint, AllocError> {
-    match set {
-        Some(set) if !covers(set.as_slice(), CODES) => {
-            let letters = met(alloc, set.as_slice(), &[CODES])?;
-            Ok(Constraint::Characters(letters))
-        }
-        _ => Ok(Constraint::Free),
-    }
-}
-
-/// That an item has a position in a set, unless it has each that encodings show.
-fn items_among(
-    alloc: Global,
-    set: Option<Vec<Interval>>,
-    shown: Interval,
-) -> Result<Constraint, AllocError> {
-    match set {
-        Some(set) if !covers(set.as_slice(), shown) => {
-            let positions = positions_of(alloc, set.as_slice())?;
-            Ok(Constraint::Items(positions))
-        }
-        _ => Ok(Constraint::Free),
-    }
-}
-
-/// A set of numbers as lengths.
-fn lengths_of(alloc: Global, set: &[Interval]) -> Result<Vec<Lengths>, AllocError> {
-    let mut lengths = Vec::new(alloc);
-    for interval in set {
-        let low = u32::try_from(interval.low.max(0));
-        if let (Ok(low), true) = (low, interval.high >= 0) {
-            lengths.push(Lengths {
-                low,
-                high: match u32::try_from(interval.high) {
-                    Ok(high) => Some(high),
-                    Err(_) => None,
-                },
-            })?;
-        }
-    }
-    Ok(lengths)
-}
-
-/// A set of positions, one by one.
-fn positions_of(alloc: Global, set: &[Interval]) -> Result<Vec<u32>, AllocError> {
-    let mut positions = Vec::new(alloc);
-    for position in 0..MOST_POSITIONS {
-        let at = i128::from(position);
-        if covers(set, Interval { low: at, high: at }) {
-            positions.push(position)?;
-        }
-    }
-    Ok(positions)
 }

@@ -1,6 +1,8 @@
 //! Builds the nodes of a type: one after the other from a stack, however deep they are nested.
+use crate::containing::ContentPlace;
 use crate::expansion::Expansion;
 use crate::instances::Instances;
+use crate::selecting::Table;
 use asn_published_text::extents::{Rest, after_constraints, after_tags, rest_of};
 use asn_published_text::instructions::has_own_instruction;
 use asn_published_text::modules::World;
@@ -9,6 +11,7 @@ use asn_published_text::refusal::Why;
 use asn_published_text::tokens::{Tokens, next};
 use asn_published_text::wrong::TextFault;
 use std::alloc::Global;
+use std::collections::HashMap;
 
 /// The nodes of all types, their members, and the instances of parameterized assignments.
 #[derive(Drop)]
@@ -16,6 +19,14 @@ pub struct Forest<'t> {
     pub nodes: Vec<Node<'t>>,
     pub members: Vec<Member<'t>>,
     pub instances: Instances,
+    /// The types that octets contain, where CONTAINING is.
+    pub(crate) contained: HashMap<ContentPlace, usize>,
+    /// The tables of components, by their nodes.
+    pub(crate) tables: HashMap<usize, Table<'t>>,
+    /// How many elements of sets were looked at for them.
+    pub(crate) elements: u32,
+    /// The assignment whose type is built.
+    pub(crate) assignment: usize,
     expansion: Expansion,
 }
 
@@ -43,6 +54,10 @@ impl<'t> Forest<'t> {
             nodes: Vec::new(alloc),
             members: Vec::new(alloc),
             instances: Instances::new(alloc),
+            contained: HashMap::new(alloc),
+            tables: HashMap::new(alloc),
+            elements: 0,
+            assignment: 0,
             expansion: Expansion::none(),
         }
     }
@@ -76,8 +91,9 @@ impl<'t> Forest<'t> {
         let Some(it) = world.assignment(assignment) else {
             return Ok(first);
         };
+        self.assignment = assignment;
         let room = self.expansion.room(world, it, instance.is_some());
-        self.nodes.push(Node {
+        let root = Node {
             shape: Shape::Refused(Why::NoType),
             module: it.module,
             at: it.start,
@@ -89,15 +105,18 @@ impl<'t> Forest<'t> {
             tag: None,
             is_field: false,
             is_constrained: false,
-        })?;
+        };
+        let root = self.written_in_place(root);
+        let end = root.end;
+        self.nodes.push(root)?;
         let members = self.members.len();
         let is_built = self.build_within(alloc, world, first, room.nodes)?;
         self.expansion
             .take(self.nodes.len().saturating_sub(first), room);
         if !is_built {
+            self.forget_tables(first);
             self.members.truncate(members);
             self.nodes.truncate(next(first));
-            let end = it.end;
             self.settle(first, Shape::Refused(Why::Expanded(room.most)), end);
         }
         Ok(first)
@@ -223,7 +242,8 @@ impl<'t> Forest<'t> {
             return Ok(());
         };
         self.settle(index, shape, constraints);
-        self.contained_types(world, tokens, index)
+        self.contained_types(world, tokens, index)?;
+        Ok(self.take_contents(alloc, world, tokens, index)?)
     }
 
     /// Gives a node its shape, and the index of its constraints.

@@ -86,6 +86,27 @@ fn field_of_class(
     }
 }
 
+/// The class of the field that stands at `at`; `first` and `name` as of `field_at`. `None` where it is that of an object.
+pub(crate) fn class_at_field(
+    world: &World<'_>,
+    tokens: &Tokens<'_>,
+    at: usize,
+    first: Result<usize, Why>,
+    name: &str,
+) -> Option<ClassName> {
+    let sign = sign_of_field(tokens, at)?;
+    if tokens.is_identifier(at) {
+        return None;
+    }
+    let second = next(next(at));
+    let class = if sign == second {
+        first
+    } else {
+        world.find_in(tokens.text(at), tokens.text(second))
+    };
+    class_of(world, class, name).ok()
+}
+
 /// The class to which a name leads, of which `first` is the assignment.
 fn class_of(world: &World<'_>, first: Result<usize, Why>, name: &str) -> Result<ClassName, Why> {
     let class = match first {

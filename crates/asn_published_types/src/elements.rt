@@ -1,6 +1,6 @@
 //! Reads the elements of constraints, and unions, intersections and exceptions of them (X.680, "element set
 //! specification").
-use crate::allowed::Allowed;
+use crate::allowed::{Allowed, letters_of, sizes_of};
 use crate::intervals::{between, of_ranges, only};
 use crate::numbers::Scope;
 use crate::places::{after_table, after_unseen, mark_at, root_end};
@@ -244,6 +244,9 @@ impl<'a, 't> Subtypes<'a, 't> {
         if tokens.is_word(at, "SIZE") || tokens.is_word(at, "FROM") {
             return Ok(Some((Allowed::missing(), tokens.after(second))));
         }
+        if let Some(found) = self.containing_of(around, at) {
+            return Ok(Some(found));
+        }
         match after_unseen(tokens, at) {
             Some(behind) => Ok(Some((Allowed::missing(), behind))),
             None => Ok(None),
@@ -374,25 +377,5 @@ fn only_value(alloc: Global, value: Value) -> Result<Allowed, AllocError> {
             ..Allowed::all()
         }),
         _ => Ok(Allowed::missing()),
-    }
-}
-
-/// What a constraint inside SIZE allows.
-fn sizes_of(inner: Allowed) -> Allowed {
-    Allowed {
-        lengths: inner.numbers,
-        is_marked: inner.is_marked,
-        is_missing: inner.is_missing,
-        ..Allowed::all()
-    }
-}
-
-/// What a constraint inside FROM allows.
-fn letters_of(inner: Allowed) -> Allowed {
-    Allowed {
-        letters: inner.numbers,
-        is_marked: inner.is_marked,
-        is_missing: inner.is_missing,
-        ..Allowed::all()
     }
 }

@@ -1,4 +1,5 @@
-//! Parameterized assignments as they are referred to (X.683): the actual parameter of each dummy one.
+//! Parameterized assignments as they are referred to (X.683): the actual parameter of each dummy one. Types that are written
+//! in a constraint are counted among them.
 use crate::pieces::push_pieces;
 use asn_published_text::modules::World;
 use asn_published_text::refusal::Why;
@@ -29,6 +30,8 @@ pub struct Instance {
     /// The instance in which the reference stands, whose parameters the actual ones may name.
     pub(crate) outer: Option<usize>,
     pub level: u32,
+    /// Of a type that is written in a constraint of the assignment, the index after it: it begins at `braces`.
+    pub end: Option<usize>,
 }
 
 /// All instances, by what distinguishes them.
@@ -159,6 +162,9 @@ impl Instances {
         ) else {
             return Ok(None);
         };
+        if it.end.is_some() {
+            return Ok(None);
+        }
         let Some(parameters) = assignment.parameters else {
             return Ok(None);
         };
@@ -228,6 +234,9 @@ fn key_of(alloc: Global, world: &World<'_>, asked: Instance) -> Result<String, A
         None => 0,
     };
     let place = asked.braces;
+    if asked.end.is_some() {
+        return format!(in alloc; "{module} {outer} in {place}");
+    }
     let Some(tokens) = world.tokens_of(asked.module) else {
         return format!(in alloc; "{assignment} {module} {outer}");
     };

@@ -38,6 +38,30 @@ pub fn of_ranges(alloc: Global, ranges: &Ranges) -> Result<Vec<Interval>, AllocE
     Ok(set)
 }
 
+/// The set of these numbers.
+pub fn of_numbers(alloc: Global, numbers: Vec<i128>) -> Result<Vec<Interval>, AllocError> {
+    let mut numbers = numbers;
+    numbers.sort()?;
+    let mut set: Vec<Interval> = Vec::new(alloc);
+    for number in numbers {
+        let is_next = match set.last() {
+            Some(last) => number <= last.high.saturating_add(1),
+            None => false,
+        };
+        if is_next {
+            if let Some(last) = set.last_mut() {
+                last.high = number;
+            }
+        } else {
+            set.push(Interval {
+                low: number,
+                high: number,
+            })?;
+        }
+    }
+    Ok(set)
+}
+
 /// Whether a number is left between the end of one interval and the begin of another.
 fn is_before(one: Interval, other: Interval) -> bool {
     one.high.saturating_add(1) < other.low

@@ -2,12 +2,14 @@
 #![tactic(auto)]
 
 pub mod allowed;
+mod among;
 mod bounding;
 pub mod bounds;
 pub mod building;
 mod classes;
 mod constraints;
 mod contained;
+mod containing;
 mod elements;
 mod expansion;
 pub mod info;
@@ -31,6 +33,8 @@ mod quoted;
 pub mod ranges;
 pub mod report;
 pub mod seen;
+pub mod selecting;
+mod set_places;
 mod shapes;
 pub mod steps;
 pub mod subtypes;

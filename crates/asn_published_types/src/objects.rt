@@ -1,4 +1,5 @@
 //! What objects give for the fields of their classes (X.681, "information from objects").
+use asn_published_text::class_names::ClassName;
 use asn_published_text::classes::{ClassTable, FieldKind};
 use asn_published_text::extents::type_end;
 use asn_published_text::modules::{Assignment, What, World};
@@ -42,7 +43,11 @@ pub(crate) fn object_field_at(tokens: &Tokens<'_>, at: usize) -> Option<usize> {
 }
 
 /// The assignment of the braces of an object to which a name leads.
-fn object_named<'t>(world: &World<'t>, module: usize, name: &str) -> Result<Assignment<'t>, Why> {
+pub(crate) fn object_named<'t>(
+    world: &World<'t>,
+    module: usize,
+    name: &str,
+) -> Result<Assignment<'t>, Why> {
     let mut to = world.find(module, name)?;
     for _ in 0..MOST_LEADS {
         let object = match world.assignment(to) {
@@ -155,23 +160,32 @@ pub(crate) fn given_by(
     field: &str,
 ) -> Result<Given, Why> {
     let it = object_named(world, module, object)?;
-    let Some(tokens) = world.tokens_of(it.module) else {
+    let class = world.class_named(it.module, it.governor, before(it.start));
+    match class {
+        Some(class) if world.classes.of(class).is_some() => {
+            given_in(world, class, it.module, it.start, field)
+        }
+        _ => Err(why_no_class(world, &it)),
+    }
+}
+
+/// What the object in the braces at `braces` gives for a field of its class.
+pub(crate) fn given_in(
+    world: &World<'_>,
+    class: ClassName,
+    module: usize,
+    braces: usize,
+    field: &str,
+) -> Result<Given, Why> {
+    let (Some(tokens), Some(table)) = (world.tokens_of(module), world.classes.of(class)) else {
         return Err(Why::ClassField);
     };
-    let class = world.class_named(it.module, it.governor, before(it.start));
-    let table = match class {
-        Some(class) => world.classes.of(class),
-        None => None,
-    };
-    let Some(table) = table else {
-        return Err(why_no_class(world, &it));
-    };
     let items = match &table.syntax {
-        Some(syntax) => given_by_syntax((table, syntax), tokens, it.start, field)?,
-        None => given_by_names(tokens, it.start, field)?,
+        Some(syntax) => given_by_syntax((table, syntax), tokens, braces, field)?,
+        None => given_by_names(tokens, braces, field)?,
     };
     Ok(Given {
-        module: it.module,
+        module,
         start: items.start,
         end: items.end,
     })

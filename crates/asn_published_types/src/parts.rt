@@ -5,10 +5,12 @@ use crate::layout::{Layout, TagOrder, layout_of, sort_by_tags};
 use crate::subtypes::Subtypes;
 use crate::tags::is_automatic;
 use asn_constraints::{Constraint, judge};
+use asn_contents::{Contents, contents_of_parts};
 use asn_published_text::nodes::{Holder, MemberKind, Need, Shape};
 use asn_published_text::refusal::Refusal;
 use asn_values::Value;
 use std::alloc::{AllocError, Global};
+use std::mem;
 
 /// What is said of the presence of a part.
 #[derive(Clone, Copy, PartialEq, Eq)]
@@ -32,6 +34,7 @@ pub(crate) struct Part<'t> {
     pub is_listed: bool,
     pub said: Said,
     pub constraint: Constraint,
+    pub contents: Contents,
     /// The constraint does not allow its DEFAULT.
     pub is_default_barred: bool,
 }
@@ -178,6 +181,7 @@ impl<'t> Parts<'t> {
             is_listed: false,
             said: Said::Nothing,
             constraint: Constraint::Free,
+            contents: Contents::Nowhere,
             is_default_barred: false,
         })?;
         Ok(())
@@ -233,11 +237,14 @@ impl<'t> Parts<'t> {
     ) -> Result<(), AllocError> {
         self.depth = self.depth.max(allowed.depth());
         self.is_missing |= allowed.is_missing;
+        let mut allowed = allowed;
+        let contents = allowed.take_contents();
         let constraint = allowed.into_constraint(alloc, Shown::nothing())?;
         if let Some(part) = self.parts.get_mut(index) {
             part.is_listed = true;
             part.said = said;
             part.constraint = constraint;
+            part.contents = contents;
         }
         Ok(())
     }
@@ -266,6 +273,33 @@ impl<'t> Parts<'t> {
 
     /// What is allowed.
     pub fn allowed(self, alloc: Global) -> Result<Allowed, AllocError> {
+        let mut parts = self;
+        let contents = parts.take_contents(alloc)?;
+        parts.allowed_without(alloc, contents)
+    }
+
+    /// Which octets are encodings, which is then no longer said of the parts.
+    fn take_contents(&mut self, alloc: Global) -> Result<Contents, AllocError> {
+        let mut all = nowhere(alloc, self.count)?;
+        for group in &self.groups {
+            let mut inner = nowhere(alloc, group.count)?;
+            for part in &mut self.parts {
+                if let (Some(inside), true) = (part.inside, part.place == group.place) {
+                    put_contents(&mut inner, inside, take(part));
+                }
+            }
+            put_contents(&mut all, group.place, contents_of_parts(inner, false));
+        }
+        for part in &mut self.parts {
+            if part.inside.is_none() {
+                put_contents(&mut all, part.place, take(part));
+            }
+        }
+        Ok(contents_of_parts(all, self.is_choice))
+    }
+
+    /// What is allowed, with which octets are encodings.
+    fn allowed_without(self, alloc: Global, contents: Contents) -> Result<Allowed, AllocError> {
         let depth = self.depth.saturating_add(3);
         let mut is_missing = self.is_missing;
         let constraint = if self.is_choice {
@@ -278,7 +312,29 @@ impl<'t> Parts<'t> {
             self.components(alloc)?
         };
         let mut allowed = Allowed::others(constraint, depth);
+        allowed.contents = contents;
         allowed.is_missing |= is_missing;
         Ok(allowed)
     }
+}
+
+/// Parts without octets that are encodings.
+fn nowhere(alloc: Global, count: usize) -> Result<Vec<Contents>, AllocError> {
+    let mut all = Vec::new(alloc);
+    for _ in 0..count {
+        all.push(Contents::Nowhere)?;
+    }
+    Ok(all)
+}
+
+/// Takes which octets of a part are encodings.
+fn put_contents(all: &mut Vec<Contents>, place: usize, contents: Contents) {
+    if let Some(one) = all.get_mut(place) {
+        *one = contents;
+    }
+}
+
+/// Which octets of a part are encodings, which is then no longer said of it.
+fn take(part: &mut Part<'_>) -> Contents {
+    mem::replace(&mut part.contents, Contents::Nowhere)
 }

@@ -40,6 +40,10 @@ impl fmt::Display for Status {
     }
 }
 
+/// Whether octets that are encodings are judged wherever the constraint of a type is. If they are not, `Remark::Contents` is said
+/// of each value that has such octets.
+pub const ARE_CONTENTS_JUDGED: bool = true;
+
 /// What is to be said of a component.
 #[derive(Clone, Copy, PartialEq, Eq)]
 pub enum Remark {
@@ -48,12 +52,11 @@ pub enum Remark {
     Default,
     SizeToMax,
     Characters,
-    Time,
+    Contents,
     OpenType,
     Content(&'static str),
     Real,
     TrimmedBits,
-    EmptyGroup,
     LeftOut,
     Unbounded,
     OerTags,
@@ -79,11 +82,10 @@ impl fmt::Display for Remark {
             Remark::Default => "the default may be written out",
             Remark::SizeToMax => "sizes have no highest",
             Remark::Characters => "other characters are taken too",
-            Remark::Time => "the time is not looked at",
+            Remark::Contents => "contents",
             Remark::OpenType => "the value of the open type is not looked at",
             Remark::Real => "the REAL is not looked at, and OER may have no length",
             Remark::TrimmedBits => "last zeros of named bits: the writer trims them",
-            Remark::EmptyGroup => "a group without components is absent: the writer leaves it out",
             Remark::LeftOut =>
                 "an addition that is not OPTIONAL may be absent before another: the writer gives it",
             Remark::Unbounded => "numbers below -2^63 and above 2^64 - 1 are refused",
@@ -106,12 +108,12 @@ impl Remark {
             | Remark::Default
             | Remark::SizeToMax
             | Remark::Characters
-            | Remark::Time
             | Remark::OpenType
             | Remark::Level
             | Remark::Content(_) => Status::Wider,
+            Remark::Contents => Status::Same,
             Remark::Unbounded => Status::Narrower,
-            Remark::TrimmedBits | Remark::EmptyGroup | Remark::LeftOut => Status::Owed,
+            Remark::TrimmedBits | Remark::LeftOut => Status::Owed,
             Remark::OerTags | Remark::OerItems | Remark::Real => Status::PerOnly,
             Remark::Holds(status) => status,
             Remark::Refused(_) => Status::Refused,

@@ -1,10 +1,11 @@
 //! What a type is that begins with a word: a reserved one, a reference, a parameter, or the field of a class.
 use crate::building::{Forest, Task};
-use crate::classes::{Field, field_at};
+use crate::classes::{Field, class_at_field, field_at};
+use crate::containing::content_end;
 use crate::instances::{Actual, Instance, are_as_many};
 use crate::places::{after_table, after_unseen, root_end};
 use crate::tags::is_tag;
-use asn_published_text::class_fields::is_class_field;
+use asn_published_text::class_fields::{is_class_field, sign_of_field};
 use asn_published_text::modules::{What, World};
 use asn_published_text::nodes::{Holder, Node, Shape};
 use asn_published_text::refusal::Why;
@@ -43,7 +44,7 @@ impl<'t> Forest<'t> {
             return Ok(Some(self.braced(tokens, todo, node, holder, second)?));
         }
         if is_class_field(tokens, at) {
-            return self.field_shape(world, tokens, todo, node, at);
+            return self.field_shape(alloc, world, tokens, todo, node, at);
         }
         self.named_shape(alloc, world, tokens, todo, node, at)
     }
@@ -51,6 +52,7 @@ impl<'t> Forest<'t> {
     /// What the field of a class at `at` is: an open type, or the type of its values, of which the node is built next.
     fn field_shape(
         &mut self,
+        alloc: Global,
         world: &World<'t>,
         tokens: &Tokens<'t>,
         todo: &mut Vec<Task>,
@@ -67,8 +69,16 @@ impl<'t> Forest<'t> {
             Ok(found) => found,
             Err(why) => return Ok(Some(Shape::Refused(why))),
         };
+        let class = class_at_field(world, tokens, at, first, name);
+        let field = match sign_of_field(tokens, at) {
+            Some(sign) => tokens.text(next(sign)),
+            None => "",
+        };
         match field_at(world, tokens, it.module, at, first, name) {
-            Ok(Field::Open) => Ok(Some(Shape::Open)),
+            Ok(Field::Open) => {
+                self.take_types(alloc, world, tokens, index, class, field)?;
+                Ok(Some(Shape::Open))
+            }
             Ok(Field::Identifier | Field::Type { .. })
                 if !are_unseen(tokens, it.constraints, it.end) => {
                 Ok(Some(Shape::Refused(Why::Constraint)))
@@ -84,6 +94,7 @@ impl<'t> Forest<'t> {
                     end,
                     outer: None,
                 };
+                self.take_numbers(alloc, world, tokens, index, class, field)?;
                 self.take_field(index, it.constraints < it.end);
                 self.build_as(tokens, todo, index, type_of_values)?;
                 Ok(None)
@@ -215,6 +226,7 @@ impl<'t> Forest<'t> {
             braces: end,
             outer: node.instance,
             level: 0,
+            end: None,
         };
         match self.instances.index_for(alloc, world, asked)? {
             Ok(index) => Ok(Shape::Reference {
@@ -240,6 +252,11 @@ impl<'t> Forest<'t> {
         for _ in 0..tokens.len() {
             if at >= node.end {
                 break;
+            }
+            if let Some(end) = content_end(tokens, at) {
+                at = end;
+                may_begin = false;
+                continue;
             }
             if tokens.is(at, Sign::Becomes) {
                 // a value set, in braces

@@ -3,6 +3,7 @@
 use crate::joining::both;
 use crate::report::Remark;
 use asn_constraints::Constraint;
+use asn_contents::{Contents, both_contents, is_nowhere};
 use std::alloc::{AllocError, Global};
 use std::mem;
 
@@ -26,6 +27,8 @@ pub struct Step {
     pub remarks: Vec<Remark>,
     /// Which of its values the published type has, as far as no encoding shows it.
     pub constraint: Constraint,
+    /// Which octets of its values are encodings, by the index of their type among all types.
+    pub contents: Contents,
     /// Whether the constraint has that of the type that it names.
     pub is_whole: bool,
     pub holds: Holds,
@@ -35,7 +38,7 @@ pub struct Step {
     pub is_bottom: bool,
     /// Whether nothing is to be said of its values, nor of what they hold.
     pub is_clean: bool,
-    /// Whether neither its values nor what they hold have a constraint.
+    /// Whether neither its values nor what they hold have a constraint, or octets that are encodings.
     pub is_free: bool,
 }
 
@@ -64,7 +67,7 @@ impl Marked {
         }
     }
 
-    /// Whether its values have a constraint.
+    /// Whether its values have a constraint, or octets that are encodings.
     pub fn is_constrained(&self) -> bool {
         match self.steps.first() {
             Some(step) => !step.is_free,
@@ -137,6 +140,7 @@ impl Trail {
             end: 0,
             remarks: Vec::new(alloc),
             constraint: Constraint::Free,
+            contents: Contents::Nowhere,
             is_whole: false,
             holds: Holds::Nothing,
             to: None,
@@ -194,6 +198,26 @@ impl Trail {
             Some(step) => {
                 let before = mem::replace(&mut step.constraint, Constraint::Free);
                 step.constraint = both(alloc, before, constraint)?;
+                Ok(())
+            }
+            None => Ok(()),
+        }
+    }
+
+    /// Takes that octets of the values of a node that was written are encodings.
+    pub fn contain(
+        &mut self,
+        alloc: Global,
+        node: usize,
+        contents: Contents,
+    ) -> Result<(), AllocError> {
+        let Some(at) = self.place_of(node) else {
+            return Ok(());
+        };
+        match self.steps.get_mut(at) {
+            Some(step) => {
+                let before = mem::replace(&mut step.contents, Contents::Nowhere);
+                step.contents = both_contents(alloc, before, contents)?;
                 Ok(())
             }
             None => Ok(()),
@@ -280,7 +304,7 @@ fn ending_of(steps: &[Step], index: usize, types: &[Marked]) -> Ending {
         };
     };
     let mut is_clean = step.remarks.is_empty() && !step.is_bottom;
-    let mut is_free = matches!(&step.constraint, Constraint::Free);
+    let mut is_free = matches!(&step.constraint, Constraint::Free) && is_nowhere(&step.contents);
     if let Some(to) = step.to {
         is_clean &= !is_marked(types, to);
         is_free &= step.is_whole || !is_constrained(types, to);

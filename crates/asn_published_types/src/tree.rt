@@ -1,8 +1,9 @@
-//! The constraint of a whole type, of those of its nodes.
+//! The constraint of a whole type, and which octets of its values are encodings, of those of its nodes.
 use crate::joining::both;
 use crate::limits::MOST_LEVELS;
 use crate::steps::{Holds, Marked, Step};
 use asn_constraints::{Component, Constraint, Presence};
+use asn_contents::{Contents, both_contents, contents_of_elements, contents_of_parts, moved};
 use std::alloc::{AllocError, Global};
 
 /// A node of a type among those that are written.
@@ -162,4 +163,130 @@ fn components_of(alloc: Global, constraints: Vec<Constraint>) -> Result<Constrai
         }
     }
     Ok(Constraint::Components(components))
+}
+
+/// Which octets of the values of the type at an index among those that are written are encodings. `places` has the
+/// positions of their types.
+pub fn contents_at(
+    alloc: Global,
+    types: &[Marked],
+    index: usize,
+    places: &[Option<usize>],
+) -> Result<Contents, AllocError> {
+    let levels = MOST_LEVELS.saturating_mul(2).saturating_add(2);
+    let contents = contents_of_node(alloc, types, Place { index, step: 0 }, places, levels)?;
+    Ok(contents)
+}
+
+/// The same of a node with what it holds and with the types that it names, which are no deeper than `levels` calls.
+#[cycle(contents)]
+fn contents_of_node(
+    alloc: Global,
+    types: &[Marked],
+    place: Place,
+    places: &[Option<usize>],
+    levels: usize,
+) -> Result<Contents, AllocError> {
+    if levels == 0 {
+        return Ok(Contents::Nowhere);
+    }
+    let mut total = Contents::Nowhere;
+    let mut at = place;
+    for _ in 0..=types.len() {
+        let Some(step) = at.step(types) else {
+            return Ok(total);
+        };
+        let own = moved(alloc, &step.contents, places)?;
+        total = both_contents(alloc, total, own)?;
+        let inside = at.step.saturating_add(1);
+        if step.end > inside {
+            let names = contents_of_names(alloc, types, step.to, places)?;
+            total = both_contents(alloc, total, names)?;
+            let first = Place {
+                index: at.index,
+                step: inside,
+            };
+            let held = contents_held(
+                alloc,
+                types,
+                first,
+                step.end,
+                step.holds,
+                places,
+                levels - 1,
+            )?;
+            return both_contents(alloc, total, held);
+        }
+        match step.to {
+            Some(index) => at = Place { index, step: 0 },
+            None => return Ok(total),
+        }
+    }
+    Ok(total)
+}
+
+/// The same of a type that is written once more where it is named: of the node of the type itself alone.
+fn contents_of_names(
+    alloc: Global,
+    types: &[Marked],
+    to: Option<usize>,
+    places: &[Option<usize>],
+) -> Result<Contents, AllocError> {
+    let mut total = Contents::Nowhere;
+    let mut to = to;
+    for _ in 0..=types.len() {
+        let Some(index) = to else {
+            break;
+        };
+        let Some(step) = (Place { index, step: 0 }).step(types) else {
+            break;
+        };
+        let own = moved(alloc, &step.contents, places)?;
+        total = both_contents(alloc, total, own)?;
+        to = step.to;
+    }
+    Ok(total)
+}
+
+/// The same of what a node holds: of the nodes from one on, to before another in the same type.
+#[cycle(contents)]
+fn contents_held(
+    alloc: Global,
+    types: &[Marked],
+    first: Place,
+    end: usize,
+    holds: Holds,
+    places: &[Option<usize>],
+    levels: usize,
+) -> Result<Contents, AllocError> {
+    if levels == 0 {
+        return Ok(Contents::Nowhere);
+    }
+    let Some(one) = types.get(first.index) else {
+        return Ok(Contents::Nowhere);
+    };
+    let mut parts = Vec::new(alloc);
+    let mut at = first.step;
+    for _ in first.step..end {
+        let step = match one.steps.get(at) {
+            Some(step) if at < end => step,
+            _ => break,
+        };
+        let place = Place {
+            index: first.index,
+            step: at,
+        };
+        let contents = contents_of_node(alloc, types, place, places, levels - 1)?;
+        parts.push(contents)?;
+        at = step.end;
+    }
+    match holds {
+        Holds::Nothing => Ok(Contents::Nowhere),
+        Holds::Components => Ok(contents_of_parts(parts, false)),
+        Holds::Element => match parts.pop() {
+            Some(contents) => contents_of_elements(alloc, contents),
+            None => Ok(Contents::Nowhere),
+        },
+        Holds::Alternatives => Ok(contents_of_parts(parts, true)),
+    }
 }

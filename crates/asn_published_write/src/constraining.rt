@@ -3,12 +3,13 @@ use crate::known::Known;
 use crate::letters::letters_of;
 use crate::writer::Writer;
 use asn_constraints::{Constraint, Interval};
+use asn_contents::{Contents, is_nowhere, push_types};
 use asn_published_text::nodes::Letters;
 use asn_published_text::refusal::Refusal;
 use asn_published_types::allowed::{Allowed, LENGTHS, Shown};
 use asn_published_types::bounds::{Numbers, lengths_between, numbers_between};
 use asn_published_types::intervals::{covers, met};
-use asn_published_types::report::Remark;
+use asn_published_types::report::{ARE_CONTENTS_JUDGED, Remark, Status};
 use asn_published_types::seen::Seen;
 use asn_values::profile::{HIGHEST_INTEGER, LOWEST_INTEGER};
 use std::alloc::{AllocError, Global};
@@ -62,6 +63,7 @@ pub(crate) fn with_letters(
         letters,
         items,
         others,
+        contents,
         depth,
         is_marked,
         is_missing,
@@ -84,6 +86,7 @@ pub(crate) fn with_letters(
         letters,
         items,
         others,
+        contents,
         depth,
         is_marked,
         is_missing,
@@ -113,19 +116,57 @@ impl<'t> Writer<'t> {
                 high: (count as i128).saturating_sub(1),
             };
         }
-        self.constrain(alloc, index, allowed, shown)
+        self.constrain(alloc, known, index, allowed, shown)
     }
 
     /// Takes what is allowed of the values of a node, of which encodings show so much.
     pub fn constrain(
         &mut self,
         alloc: Global,
+        known: &Known<'_, 't>,
         index: usize,
         allowed: Allowed,
         shown: Shown,
     ) -> Result<(), Refusal> {
+        let mut allowed = allowed;
+        let contents = allowed.take_contents();
+        self.take_contents(alloc, known, index, contents)?;
         let constraint = allowed.into_constraint(alloc, shown)?;
         Ok(self.trail.constrain(alloc, index, constraint)?)
+    }
+
+    /// Takes which octets of the values of a node are encodings. Where one of their types is refused, that is not looked at.
+    fn take_contents(
+        &mut self,
+        alloc: Global,
+        known: &Known<'_, 't>,
+        index: usize,
+        contents: Contents,
+    ) -> Result<(), Refusal> {
+        if is_nowhere(&contents) {
+            return Ok(());
+        }
+        let mut types = Vec::new(alloc);
+        push_types(&contents, &mut types)?;
+        let mut status = Status::Same;
+        for to in &types {
+            if let Some(one) = known.types.statuses.get(*to) {
+                status = status.worse(*one);
+            }
+        }
+        if status == Status::Refused {
+            return self.remark(alloc, known, index, Remark::Dropped);
+        }
+        for to in &types {
+            self.told.uses.push(*to)?;
+        }
+        if status != Status::Same {
+            self.note(alloc, known, index, Remark::Holds(status))?;
+        }
+        if status != Status::Same || !ARE_CONTENTS_JUDGED {
+            self.trail.mark(index, Remark::Contents)?;
+        }
+        Ok(self.trail.contain(alloc, index, contents)?)
     }
 
     /// Takes the DEFAULT of a component that is written as OPTIONAL: its value is any but the DEFAULT.

@@ -54,6 +54,9 @@ impl<'t> Writer<'t> {
             // (without components it is absent)
             self.trail.constrain(alloc, index, Constraint::SomePresent)?;
         }
+        if holder != Holder::Choice {
+            self.take_selections(alloc, known, index, &layout)?;
+        }
         self.trail.hold(if holder == Holder::Choice {
             Holds::Alternatives
         } else {

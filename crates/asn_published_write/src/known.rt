@@ -7,6 +7,7 @@ use asn_published_types::info::State;
 use asn_published_types::numbers::{Scope, Values};
 use asn_published_types::order::Order;
 use asn_published_types::pieces::push_pieces;
+use asn_published_types::report::Status;
 use asn_published_types::subtypes::Subtypes;
 use asn_published_types::tags::Tagging;
 use std::alloc::{AllocError, Global};
@@ -22,6 +23,8 @@ pub(crate) struct Types<'a> {
     pub level_mark: &'a str,
     /// In which cycle of references types lie, and where they contain themselves.
     pub order: &'a Order,
+    /// Of each type the status that it has where octets contain it.
+    pub statuses: &'a [Status],
 }
 
 /// The type that is written.

@@ -3,6 +3,7 @@
 
 mod checking;
 mod constraining;
+mod contained;
 mod defaults;
 mod holding;
 mod known;
@@ -14,6 +15,7 @@ mod settling;
 pub mod sources;
 mod spliced;
 mod strings;
+mod tables;
 mod totals;
 pub mod wanted;
 mod weights;

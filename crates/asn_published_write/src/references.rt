@@ -68,7 +68,7 @@ impl<'t> Writer<'t> {
             is_empty: self.put_size(alloc, known, index, &left, line)?,
         };
         self.trail.hold(Holds::Element);
-        let sizes = self.constrain_list(alloc, index, left, line)?;
+        let sizes = self.constrain_list(alloc, known, index, left, line)?;
         self.held.sizes.push(sizes)?;
         self.ask_for_element(element, end, depth)
     }
@@ -77,6 +77,7 @@ impl<'t> Writer<'t> {
     fn constrain_list(
         &mut self,
         alloc: Global,
+        known: &Known<'_, 't>,
         index: usize,
         left: Left,
         line: u32,
@@ -86,7 +87,7 @@ impl<'t> Writer<'t> {
             lengths: lengths_shown(&seen, line)?,
             ..Shown::nothing()
         };
-        self.constrain(alloc, index, allowed, shown)?;
+        self.constrain(alloc, known, index, allowed, shown)?;
         Ok(seen.sizes)
     }
 
@@ -297,7 +298,7 @@ impl<'t> Writer<'t> {
             self.last.no_bits = self.put_size(alloc, known, index, &both, line)?;
             self.last.marked = both.seen.marked;
         }
-        self.last.left = self.constrain_list(alloc, index, both, line)?;
+        self.last.left = self.constrain_list(alloc, known, index, both, line)?;
         Ok(())
     }
 }

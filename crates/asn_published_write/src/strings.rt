@@ -115,7 +115,7 @@ impl<'t> Writer<'t> {
             numbers: numbers_shown(&seen, line)?,
             ..Shown::nothing()
         };
-        self.constrain(alloc, index, allowed, shown)?;
+        self.constrain(alloc, known, index, allowed, shown)?;
         if !is_bounded(&seen, line)? {
             self.remark(alloc, known, index, Remark::Unbounded)?;
         }
@@ -178,7 +178,7 @@ impl<'t> Writer<'t> {
             lengths: lengths_shown(&seen, line)?,
             ..Shown::nothing()
         };
-        self.constrain(alloc, index, allowed, shown)?;
+        self.constrain(alloc, known, index, allowed, shown)?;
         self.last = string_info(base, seen, no_bits);
         Ok(())
     }

@@ -1,5 +1,5 @@
 //! How large the types are that are written, together: as `asn_module::read_within` counts a module, each type one, each
-//! item of an ENUMERATED one, and each name in them its octets, with references followed. Their constraints count too.
+//! item of an ENUMERATED one, and each name in them its octets, with references followed. Their constraints and contents count too.
 use crate::settling::Settled;
 use crate::spliced::{is_other_word, is_own_word, without_comma};
 use crate::weights::weight_of;
@@ -45,6 +45,22 @@ impl Totals {
             sizes: Vec::new(alloc),
             by_name: HashMap::new(alloc),
             limit: None,
+        }
+    }
+
+    /// The same before a type was written.
+    pub fn again(&self, alloc: Global) -> Totals {
+        Totals {
+            limit: self.limit,
+            ..Totals::new(alloc)
+        }
+    }
+
+    /// The size of the type of a name; 0 where it is not written.
+    pub fn size_named(&self, name: &str) -> usize {
+        match self.by_name.get(name) {
+            Some(size) => *size,
+            None => 0,
         }
     }
 
@@ -146,18 +162,20 @@ impl Totals {
         None
     }
 
-    /// Takes a type of a name that was written, which is assigned on a line. It is refused where it passes the limit.
+    /// Takes a type of a name that was written, which is assigned on a line, `names` being those of all types. It is refused
+    /// where it passes the limit.
     pub fn taken(
         &mut self,
         alloc: Global,
         name: String,
         line: u32,
         settled: Settled,
+        names: &[String],
     ) -> Result<Settled, AllocError> {
         let Some(size) = self.size_written(&settled.line) else {
             return Ok(settled);
         };
-        let size = size.saturating_add(weight_of(alloc, settled.trail.steps())?);
+        let size = size.saturating_add(weight_of(alloc, settled.trail.steps(), names)?);
         if let Some(limit) = self.past(size) {
             return limit.refused(alloc, line, size, settled);
         }

@@ -1,6 +1,7 @@
-//! How much the constraints of a type count towards what all types may come to: about as much as types count that take as
-//! much memory.
+//! How much the constraints and contents of a type count towards what all types may come to: about as much as types count
+//! that take as much memory.
 use asn_constraints::Constraint;
+use asn_contents::{Contents, SelectedType};
 use asn_published_types::steps::Step;
 use asn_values::Value;
 use std::alloc::{AllocError, Global};
@@ -8,7 +9,7 @@ use std::alloc::{AllocError, Global};
 /// How many octets of a string count one.
 const OCTETS: usize = 8;
 
-/// How much an interval counts.
+/// How much an interval, or a row of a table, counts.
 const INTERVAL: usize = 4;
 
 /// What is still to be counted.
@@ -16,12 +17,15 @@ const INTERVAL: usize = 4;
 enum Part<'a> {
     Of(&'a Constraint),
     Value(&'a Value),
+    Contents(&'a Contents),
 }
 
-/// Constraints that are being counted.
+/// Constraints and contents that are being counted.
 #[derive(Drop)]
 struct Weighing<'a> {
     parts: Vec<Part<'a>>,
+    /// Of each type its name, which the text of contents has.
+    names: &'a [String],
     total: usize,
 }
 
@@ -34,6 +38,52 @@ impl<'a> Weighing<'a> {
     /// Counts the octets of a string.
     fn add_octets(&mut self, count: usize) {
         self.total = self.total.saturating_add(count / OCTETS);
+    }
+
+    /// Counts the name of a type.
+    fn add_name(&mut self, ty: usize) {
+        if let Some(name) = self.names.get(ty) {
+            self.add_octets(name.len());
+        }
+    }
+
+    /// Counts the rows of a table.
+    fn add_rows(&mut self, rows: &[SelectedType]) {
+        self.add(rows.len(), INTERVAL);
+        for row in rows {
+            self.add_name(row.ty);
+        }
+    }
+
+    /// Counts contents, without those inside them.
+    fn take_contents(&mut self, contents: &'a Contents) -> Result<(), AllocError> {
+        match contents {
+            Contents::Nowhere => Ok(()),
+            Contents::Octets(ty) => {
+                self.add(1, 1);
+                Ok(self.add_name(*ty))
+            }
+            Contents::Components(parts) | Contents::Alternatives(parts) => {
+                self.add(parts.len(), 1);
+                for part in parts {
+                    self.parts.push(Part::Contents(part))?;
+                }
+                Ok(())
+            }
+            Contents::Elements(inner) => {
+                self.add(1, 1);
+                Ok(self.parts.push(Part::Contents(inner))?)
+            }
+            Contents::Both(one, other) => {
+                self.add(2, 1);
+                self.parts.push(Part::Contents(one))?;
+                Ok(self.parts.push(Part::Contents(other))?)
+            }
+            Contents::Selected(selection) => {
+                self.add(1, 1);
+                Ok(self.add_rows(selection.rows.as_slice()))
+            }
+        }
     }
 
     /// Counts a constraint, without those inside it.
@@ -101,18 +151,25 @@ impl<'a> Weighing<'a> {
     }
 }
 
-/// How much the constraints of the nodes of a type count.
-pub(crate) fn weight_of(alloc: Global, steps: &[Step]) -> Result<usize, AllocError> {
+/// How much the constraints and contents of the nodes of a type count. `names` has the names of all types.
+pub(crate) fn weight_of(
+    alloc: Global,
+    steps: &[Step],
+    names: &[String],
+) -> Result<usize, AllocError> {
     let mut weighing = Weighing {
         parts: Vec::new(alloc),
+        names,
         total: 0,
     };
     for step in steps {
         weighing.parts.push(Part::Of(&step.constraint))?;
+        weighing.parts.push(Part::Contents(&step.contents))?;
         for _ in 0..u64::MAX {
             match weighing.parts.pop() {
                 Some(Part::Of(constraint)) => weighing.take(constraint)?,
                 Some(Part::Value(value)) => weighing.take_value(value)?,
+                Some(Part::Contents(contents)) => weighing.take_contents(contents)?,
                 None => break,
             }
         }

@@ -14,6 +14,7 @@ use asn_published_types::report::{Note, Remark, Status};
 use asn_published_types::steps::Trail;
 use asn_published_types::subtypes::Work;
 use std::alloc::Global;
+use std::collections::HashSet;
 use std::fmt::Write;
 
 /// What is still to be written.
@@ -103,6 +104,8 @@ pub(crate) struct Writer<'t> {
     pub held: Held,
     /// The nodes that are written, and what is not looked at there.
     pub trail: Trail,
+    /// The open types whose types are selected.
+    pub selected: HashSet<usize>,
 }
 
 impl<'t> Writer<'t> {
@@ -131,6 +134,7 @@ impl<'t> Writer<'t> {
                 sizes: Vec::new(alloc),
             },
             trail: Trail::new(alloc),
+            selected: HashSet::new(alloc),
         }
     }
 

@@ -29,7 +29,7 @@ impl<'t> Writer<'t> {
         self.count(1, depth, line);
         self.trail.enter(alloc, index, depth)?;
         if node.is_constrained {
-            self.remark(alloc, known, index, Remark::Dropped)?;
+            self.take_table_numbers(alloc, known, index)?;
         }
         match node.shape {
             Shape::List { .. } => self.write_list(alloc, known, index, &node, depth),
@@ -60,6 +60,7 @@ impl<'t> Writer<'t> {
             }
             Shape::Utf8 => self.write_plain(alloc, known, index, "UTF8String", Base::Other),
             Shape::Time => self.write_time(alloc, known, index, node),
+            Shape::Open if self.selected.contains(&index) => self.put_octets(),
             Shape::Open => self.write_octets(alloc, known, index, Remark::OpenType),
             Shape::Content(what) => self.write_content(alloc, known, index, node, what),
             Shape::Integer { named } => self.write_integer(alloc, known, index, node, named),
@@ -109,6 +110,11 @@ impl<'t> Writer<'t> {
         remark: Remark,
     ) -> Result<(), Refusal> {
         self.remark(alloc, known, index, remark)?;
+        self.put_octets()
+    }
+
+    /// Writes OCTET STRING.
+    fn put_octets(&mut self) -> Result<(), Refusal> {
         self.out.push_str(" OCTET STRING")?;
         self.last = Info::of(Base::Other);
         Ok(())

@@ -22,12 +22,20 @@ pub struct Written {
     pub lines: Vec<Option<String>>,
     /// The assignments of types of cycles with fewer levels than are asked for.
     pub levels: Vec<String>,
-    /// The type that is wanted alone, with those that it refers to written out in it.
-    pub alone: Option<String>,
+    /// The type that is wanted alone, with those that it refers to written out in it, and behind it those that octets contain
+    /// then; nothing where all types are written.
+    pub alone: Vec<Alone>,
     pub reports: Vec<Option<TypeReport>>,
     /// The types that are written, those with fewer levels too, and which of them each type is.
     pub marked: Vec<Marked>,
     pub places: Vec<usize>,
+}
+
+/// A type and its text, in which those that it refers to are written out.
+#[derive(Drop)]
+pub struct Alone {
+    pub entry: usize,
+    pub text: String,
 }
 
 /// How many levels of a recursive type are written at the most.
@@ -44,7 +52,7 @@ fn nothing_written(alloc: Global, count: usize) -> Result<Written, AllocError> {
         states: Vec::new(alloc),
         lines: Vec::new(alloc),
         levels: Vec::new(alloc),
-        alone: None,
+        alone: Vec::new(alloc),
         reports: Vec::new(alloc),
         marked: Vec::new(alloc),
         places: Vec::new(alloc),
@@ -77,6 +85,8 @@ struct Writing {
     /// What was counted of the types that are written.
     spent: Spent,
     totals: Totals,
+    /// Of each type the status that it has where octets contain it.
+    statuses: Vec<Status>,
 }
 
 /// What became of a type, and its index among those that are written.
@@ -122,6 +132,7 @@ fn known_of<'a, 't>(
             names: sources.names.as_slice(),
             level_mark: sources.level_mark.as_str(),
             order: &sources.order,
+            statuses: writing.statuses.as_slice(),
         },
         own: Own {
             entry,
@@ -168,7 +179,9 @@ impl Writing {
             uses,
             spent: _,
             trail,
-        } = self.totals.taken(alloc, name, own_line, settled)?;
+        } = self
+            .totals
+            .taken(alloc, name, own_line, settled, sources.names.as_slice())?;
         let marked = trail.finish(alloc, self.written.marked.as_slice());
         self.written.marked.push(marked)?;
         Ok(Some(Finished {
@@ -335,13 +348,14 @@ fn is_own_refusal(remark: Remark) -> bool {
 }
 
 /// Writes all types but those that are refused, and those that pass a limit on what they come to; and gives the sizes of
-/// what is written.
+/// what is written. Where octets contain a type, it has one of these statuses.
 pub(crate) fn write_with(
     alloc: Global,
     sources: &Sources<'_>,
     options: Options,
     refused: &[bool],
     totals: Totals,
+    statuses: Vec<Status>,
 ) -> Result<(Written, Totals), AllocError> {
     let count = sources.firsts.len();
     let mut writing = Writing {
@@ -354,6 +368,7 @@ pub(crate) fn write_with(
             work: Work::of(sources.forest.nodes.len()),
         },
         totals,
+        statuses,
     };
     for _ in 0..count {
         writing.below.push(State::Open)?;
@@ -377,6 +392,7 @@ pub(crate) fn write_with(
         refusals: _,
         spent: _,
         totals,
+        statuses: _,
     } = writing;
     Ok((written, totals))
 }

@@ -8,8 +8,8 @@ use asn_convert::{Job, Order, RuleName, RunFault, answer_line};
 use asn_jobs::{CountFault, OctetForm, Place, Progress, octets_in};
 use asn_json_layout::Layout;
 use asn_look::{
-    Counts, MOST_ENTRIES, TakenBack, json_over, laid_text, newer_line, over_words, taken_back,
-    why_refused, widest_of,
+    Counts, MOST_ENTRIES, MessageType, TakenBack, json_over, laid_text, newer_line, over_words,
+    taken_back, why_refused, widest_of,
 };
 use asn_request::asking::{Asking, Forms, Versions};
 use asn_rules::Counted;
@@ -20,8 +20,8 @@ use std::io::Write;
 /// What is made of messages.
 #[derive(Clone, Copy)]
 pub struct Asked<'t> {
-    /// The type of the messages, with its plan and its constraint.
-    pub constrained: &'t ConstrainedType,
+    /// The type of the messages, with its plan, its constraint and its contents.
+    pub messages: &'t MessageType,
     pub order: Order,
     pub rules: RuleName,
     pub forms: Forms,
@@ -46,14 +46,14 @@ impl<'t> Asked<'t> {
     pub fn of(
         asking: &Asking<'_>,
         job: &Job,
-        constrained: &'t ConstrainedType,
+        messages: &'t MessageType,
         demands: Demands<'t>,
     ) -> Option<Asked<'t>> {
         let Job::Lines { order, rules, .. } = job else {
             return None;
         };
         Some(Asked {
-            constrained,
+            messages,
             order: *order,
             rules: *rules,
             forms: asking.forms,
@@ -64,13 +64,18 @@ impl<'t> Asked<'t> {
             budget: asking.budget,
             demands,
             is_wider_taken: asking.is_wider_taken,
-            widest: widest_of(constrained.ty().get()),
+            widest: widest_of(messages.constrained().ty().get()),
         })
+    }
+
+    /// The type of the messages under its constraint.
+    pub fn constrained(&self) -> &'t ConstrainedType {
+        self.messages.constrained()
     }
 
     /// The type of the messages.
     pub fn ty(&self) -> &'t Checked {
-        self.constrained.ty()
+        self.constrained().ty()
     }
 
     /// Whether JSON is laid out.
@@ -138,7 +143,7 @@ fn answer_line_of<W: Write>(
     if !asked.demands.is_nothing() && asked.order != Order::Newer {
         return answer_published(rt, answers, place, line, asked);
     }
-    if asked.demands.constraint.is_some() {
+    if asked.demands.constraint.is_some() || asked.demands.has_contents {
         if let Some(is_good) = judge_version(rt, answers, place, line, asked)? {
             return Ok(is_good);
         }
@@ -210,13 +215,8 @@ pub fn answer_to<W: Write>(
     line: &[u8],
     asked: Asked<'_>,
 ) -> Result<Answered, RunFault> {
-    let Asked {
-        constrained,
-        order,
-        rules,
-        ..
-    } = asked;
-    let planned = constrained.planned();
+    let Asked { order, rules, .. } = asked;
+    let planned = asked.constrained().planned();
     match asked.budget {
         Some(most) => answer_within(rt.alloc(), output, planned, most, order, rules, line),
         None => {

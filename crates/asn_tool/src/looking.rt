@@ -1,7 +1,9 @@
 //! What is shown of the module of files or of standard input.
+use crate::demands::{Demands, messages_of};
 use crate::running::run_on;
 use asn_convert::{Job, Order, cut_input, read_all};
-use asn_look::{ShowFault, show_of};
+use asn_look::{MessageType, ShowFault, show_of};
+use asn_module::Module;
 use asn_module_files::{
     Input, Published, Stop, input_given, input_of_files, module_of, tell_text, tells_of_module,
 };
@@ -145,10 +147,32 @@ fn show_or_refuse<'a, R: BufRead>(
     let Some(module) = module_of(rt.alloc(), text)? else {
         return run_on(rt, job, text);
     };
-    match show_of(rt, look, &module, published.constraint(), asking, lines) {
+    let messages = demanded(rt.alloc(), look, &module, published, asking)?;
+    match show_of(rt, look, &module, messages.as_ref(), asking, lines) {
         Ok(Some(status)) => Ok(status),
         Ok(None) => run_on(rt, job, text),
         Err(fault) => Err(stop_of(fault)),
+    }
+}
+
+/// The type that is named, with its constraint and contents, if it has some.
+fn demanded(
+    alloc: Global,
+    look: &Look,
+    module: &Module,
+    published: &Published,
+    asking: &Asking<'_>,
+) -> Result<Option<MessageType>, AllocError> {
+    let demands = Demands::of(asking, published);
+    if demands.constraint.is_none() && !demands.has_contents {
+        return Ok(None);
+    }
+    let Some(name) = &look.type_name else {
+        return Ok(None);
+    };
+    match module.type_named(name.as_str()) {
+        Some(ty) => Ok(Some(messages_of(alloc, module, ty, published)?)),
+        None => Ok(None),
     }
 }
 

@@ -6,6 +6,7 @@ use crate::marked::{answer_beside, deeper_text, refusal_beside, unlooked_words};
 use crate::writing::{put_refusal, tell, text_in};
 use asn_constrained::{ConstrainedFault, ConstrainedNewerFault};
 use asn_constraints::Broken;
+use asn_containing::{BrokenContents, ContainingFault, judge_contents};
 use asn_convert::{Order, RuleName, RunFault};
 use asn_jobs::Place;
 use asn_look::{broken_at_end, broken_words};
@@ -26,8 +27,16 @@ const TOO_DEEP: &str =
 const BROKEN: &str =
     "the octets are an encoding, but of a value that the published type does not have";
 
+/// What is said where octets in a value are not the encoding that they have to be.
+const WRONG_CONTENTS: &str =
+    "the octets are an encoding of the outer type, and octets in its value are no encoding of the type that they contain";
+
+/// What is said where octets in a value are encodings, and the message is to be converted.
+const NOT_CONVERTED: &str =
+    "the octets in the value are an encoding by the old rules; convert them by themselves";
+
 /// Answers one line of hexadecimal or JSON as it is answered for the type of the profile, and returns whether that is no
-/// refusal. A value that breaks the constraint is refused. If a part of the value has a mark, `check` says so behind its
+/// refusal. A value that breaks the constraint is refused, and one whose contents are no encodings. If a part of the value has a mark, `check` says so behind its
 /// answer, and of the others standard error does. A value that goes on where recursion ends is refused, and a refusal of such
 /// a type says that the message can be deeper.
 ///
@@ -61,6 +70,9 @@ enum Finding {
     Deeper(u32),
     /// It breaks the constraint.
     Broken(Broken),
+    /// Octets in it are not the encoding that they have to be, or are one and cannot be converted: the refusal, without its
+    /// LF, and what is said of it.
+    Refused(String, &'static str),
     /// Parts of it are not looked at.
     Looked(Looked),
     /// It is a value of the published type.
@@ -88,6 +100,9 @@ fn answer_value<W: Write>(
         Finding::Broken(broken) => {
             let refusal = refusal_of(rt.alloc(), &broken, digits.len() / 2, asked)?;
             refuse_value(rt, answers, place, refusal.as_str(), asked, BROKEN)
+        }
+        Finding::Refused(refusal, words) => {
+            refuse_value(rt, answers, place, refusal.as_str(), asked, words)
         }
         Finding::Looked(looked) => {
             let words = unlooked_words(rt.alloc(), &looked)?;
@@ -118,16 +133,43 @@ fn finding_by<R: PlanRules>(
     octets: &[u8],
     asked: Asked<'_>,
 ) -> Result<Finding, RunFault> {
+    if asked.demands.has_contents {
+        return finding_inside::<R>(alloc, octets, asked);
+    }
     if asked.demands.marks.is_none() && asked.order == Order::Check {
-        return match asked.constrained.check::<R>(alloc, octets) {
+        return match asked.constrained().check::<R>(alloc, octets) {
             Ok(()) => Ok(Finding::Good),
             Err(fault) => finding_of_fault(fault),
         };
     }
-    match asked.constrained.decode::<R>(alloc, octets) {
+    match asked.constrained().decode::<R>(alloc, octets) {
         Ok(value) => finding_of_value(alloc, &value, asked),
         Err(fault) => finding_of_fault(fault),
     }
+}
+
+/// The same of a type whose values have octets that are encodings.
+fn finding_inside<R: PlanRules>(
+    alloc: Global,
+    octets: &[u8],
+    asked: Asked<'_>,
+) -> Result<Finding, RunFault> {
+    let value = match asked.messages.ty.decode::<R>(alloc, octets) {
+        Ok(value) => value,
+        Err(ContainingFault::Contents { broken, .. }) => {
+            let refusal = contents_refusal(alloc, &broken, octets.len(), asked)?;
+            return Ok(Finding::Refused(refusal, WRONG_CONTENTS));
+        }
+        Err(ContainingFault::Type(fault)) => return finding_of_fault(fault),
+    };
+    if asked.order == Order::Convert {
+        if let Some(path) = asked.messages.first_contents(alloc, &value)? {
+            let path = path.as_str();
+            let refusal = format!(in alloc; "! contents cannot be converted yet at {path}")?;
+            return Ok(Finding::Refused(refusal, NOT_CONVERTED));
+        }
+    }
+    finding_of_value(alloc, &value, asked)
 }
 
 /// What is found of octets that are an encoding of the type of the profile.
@@ -174,6 +216,22 @@ fn refusal_of(
         }
         _ => broken_at_end(alloc, ty, broken, asked.rules, octets),
     }
+}
+
+/// The refusal, without its LF, of a value of so many octets in which octets are not the encoding that they have to be.
+fn contents_refusal(
+    alloc: Global,
+    broken: &BrokenContents,
+    octets: usize,
+    asked: Asked<'_>,
+) -> Result<String, AllocError> {
+    let octets = match asked.order {
+        Order::Encode => None,
+        _ => Some(octets),
+    };
+    asked
+        .messages
+        .contents_refusal(alloc, broken, asked.rules, octets)
 }
 
 /// Writes the answer to a message, and what is said of it.
@@ -236,10 +294,10 @@ pub fn judge_version<W: Write>(
     };
     let read = match asked.rules {
         RuleName::Per => asked
-            .constrained
+            .constrained()
             .read_newer::<Per>(rt.alloc(), octets.as_slice()),
         RuleName::Oer => asked
-            .constrained
+            .constrained()
             .read_newer::<Oer>(rt.alloc(), octets.as_slice()),
     };
     match read {
@@ -255,9 +313,44 @@ pub fn judge_version<W: Write>(
                 let told = format!(in rt.alloc(); "a newer version may allow this: {words}")?;
                 tell(rt, place, told.as_str())?;
             }
+            tell_newer_contents(rt, place, &read.newer.value, asked)?;
             Ok(None)
         }
         Err(ConstrainedNewerFault::Type(_)) => Ok(None),
+    }
+}
+
+/// Says on standard error which octets in the value of a message of some version are not the encoding that they have to be: a
+/// newer version may have other types inside.
+fn tell_newer_contents(
+    rt: &HostRuntime,
+    place: Place<'_>,
+    value: &Value,
+    asked: Asked<'_>,
+) -> Result<(), RunFault> {
+    if !asked.demands.has_contents {
+        return Ok(());
+    }
+    let (table, contents) = (&asked.messages.ty.table, &asked.messages.ty.outer.contents);
+    let broken = match asked.rules {
+        RuleName::Per => judge_contents::<Per>(rt.alloc(), table, contents, value)?,
+        RuleName::Oer => judge_contents::<Oer>(rt.alloc(), table, contents, value)?,
+    };
+    if let Some(broken) = broken {
+        let messages = asked.messages;
+        let refusal = messages.contents_refusal(rt.alloc(), &broken, asked.rules, None)?;
+        let words = text_behind_mark(refusal.as_str());
+        let told = format!(in rt.alloc(); "a newer version may allow this: {words}")?;
+        tell(rt, place, told.as_str())?;
+    }
+    Ok(())
+}
+
+/// What a refusal has behind its mark.
+fn text_behind_mark(refusal: &str) -> &str {
+    match refusal.strip_prefix("! ") {
+        Some(words) => words,
+        None => refusal,
     }
 }
 

@@ -1,11 +1,10 @@
 //! Jobs on standard input and output.
 use crate::answering::{Answers, Asked};
-use crate::demands::Demands;
+use crate::demands::{Demands, messages_of};
 use crate::messages::answer_input;
-use asn_constrained::ConstrainedType;
 use asn_convert::{Job, Order, RunFault, Status, cut_input, read_all, run, run_on_lines};
 use asn_jobs::{Piped, Progress, ending};
-use asn_look::Counts;
+use asn_look::{Counts, MessageType};
 use asn_module::Module;
 use asn_module_files::{
     Input, Published, Stop, input_given, input_of_files, module_of, tell_text, tells_of_module,
@@ -123,9 +122,8 @@ fn run_asked<'a, R: BufRead>(
     };
     match type_for(job, &module) {
         Some(ty) => {
-            let constraint = published.constraint.copy(rt.alloc())?;
-            let constrained = ConstrainedType::new(rt.alloc(), ty.copy()?, constraint)?;
-            run_for(rt, job, &constrained, asking, demands, lines)
+            let messages = messages_of(rt.alloc(), &module, ty, published)?;
+            run_for(rt, job, &messages, asking, demands, lines)
         }
         None => Ok(None),
     }
@@ -147,12 +145,12 @@ fn is_plain(job: &Job, asking: &Asking<'_>) -> bool {
 fn run_for<'a, R: BufRead>(
     rt: &HostRuntime,
     job: &Job,
-    constrained: &ConstrainedType,
+    messages: &MessageType,
     asking: &Asking<'a>,
     demands: Demands<'_>,
     lines: &mut R,
 ) -> Result<Option<u8>, Stop<'a>> {
-    match Asked::of(asking, job, constrained, demands) {
+    match Asked::of(asking, job, messages, demands) {
         Some(asked) => Ok(Some(answer_all(rt, asking, asked, lines)?)),
         None => Ok(None),
     }

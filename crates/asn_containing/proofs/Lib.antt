@@ -1,0 +1,4 @@
+pub mod Meeting
+pub mod Breaking
+pub mod Encodings
+pub mod Answering

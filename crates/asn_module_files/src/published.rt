@@ -1,6 +1,7 @@
 //! What the type of a job has in addition to the type of the profile.
 use crate::contained::{ContainedType, Containing, containing_flattened, containing_own};
 use crate::kept::{Lines, constraint_in, has_lines, lines_of_flattened, lines_of_own};
+use crate::terminal::printable;
 use asn_constraint_text::{ConstrainedFault, ConstraintTextFault, read_constrained};
 use asn_constraints::Constraint;
 use asn_contents::{Contents, is_nowhere};
@@ -74,8 +75,8 @@ impl Published {
         })
     }
 
-    /// What the text of a module of the profile has for the type of a job, on lines that begin with `--:`, or for all types
-    /// where the job is to print the module.
+    /// What the text of a module of the profile has for the type of a job, on lines that begin with `--:` or `--!`, or for all
+    /// types where the job is to print the module. Of a type that differs so, no value is looked at in full.
     ///
     /// # Errors
     /// `Text` with the first such line that is no constraint of a name, `TooLarge` if the constraint is too large, and
@@ -97,9 +98,10 @@ impl Published {
         };
         let name = type_name.as_str();
         let Containing { contents, types } = containing_own(alloc, &own, name)?;
+        let told = own.difference_named(alloc, name)?;
         Ok(Published {
             constraint: constraint_in(alloc, &own, name)?,
-            marks: marks_of(alloc, &contents)?,
+            marks: marks_of(alloc, told, &contents)?,
             contents,
             contained: types,
             lines: None,
@@ -107,8 +109,17 @@ impl Published {
     }
 }
 
-/// The marks of a type of the profile with these contents.
-fn marks_of(alloc: Global, contents: &Contents) -> Result<Option<Marks>, AllocError> {
+/// The marks of a type of the profile with these contents, of which its text tells this.
+fn marks_of(
+    alloc: Global,
+    told: Option<&str>,
+    contents: &Contents,
+) -> Result<Option<Marks>, AllocError> {
+    if let Some(words) = told {
+        if let Some(marks) = Marks::of_told(alloc, printable(alloc, words)?.as_str())? {
+            return Ok(Some(marks));
+        }
+    }
     if is_nowhere(contents) {
         Ok(None)
     } else {

@@ -11,6 +11,7 @@ mod naming;
 mod reaching;
 mod refusing;
 mod reports;
+mod told;
 
 pub use asn_published_read::passing::{NotText, text_of_octets};
 pub use asn_published_report::json::report_json;
@@ -26,3 +27,4 @@ pub use flattening::{
     Flattened, flatten, flatten_alone_within, flatten_type_within, flatten_within,
 };
 pub use marks::{Looked, Marks, Place};
+pub use told::Said;

@@ -1,6 +1,7 @@
 //! Walks a value together with its type, and visits only the parts that may have something to report.
 use crate::marks::{Looked, Place};
 use crate::met::{is_met, is_spelt};
+use crate::told::Said;
 use asn_published_types::report::Remark;
 use asn_published_types::steps::{Marked, Step};
 use asn_values::{Alt, AsnType, Field, Value};
@@ -155,7 +156,8 @@ impl<'v> Search<'v> {
             return Ok(());
         }
         let path = self.path(alloc)?;
-        self.looked.first = Some(Place { path, remark });
+        let said = Said::Remark(remark);
+        self.looked.first = Some(Place { path, said });
         Ok(())
     }
 

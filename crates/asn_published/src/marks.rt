@@ -1,5 +1,9 @@
 //! What of a value is not looked at as the published type has it.
+ghost use Rattle.std.specs.Prelude.{◌≡◌, Some, IfOk, IfSome, MatchOption};
+ghost use Rattle.asn_published.specs.Told.{IsNarrower, IsSaidOfAll, told_of};
+
 use crate::looking::Search;
+use crate::told::{Said, is_narrower, said_of_all};
 use asn_published_types::report::{ARE_CONTENTS_JUDGED, Remark};
 use asn_published_types::steps::{Marked, Trail};
 use asn_values::{Checked, Value};
@@ -13,13 +17,15 @@ pub struct Marks {
     /// The index of the type.
     start: usize,
     levels: u32,
+    /// How the type differs, where a text tells that and nothing is known of its parts: each value has this mark.
+    told: Option<String>,
 }
 
-/// A part of a value that is not looked at: its path, as `$.list[3].x`, and the remark on its type.
+/// A part of a value that is not looked at: its path, as `$.list[3].x`, and what is said of it.
 #[derive(Drop)]
 pub struct Place {
     pub path: String,
-    pub remark: Remark,
+    pub said: Said,
 }
 
 /// What of a value is not looked at.
@@ -43,7 +49,28 @@ impl Marks {
             types,
             start,
             levels,
+            told: None,
         })
+    }
+
+    /// The mark of each value of a type of which a text tells how it differs from the published one, as
+    /// `wider: a.b: a constraint is not looked at`; `None` where it is narrower, so that its values are those of the
+    /// published type.
+    ///
+    /// # Errors
+    /// `AllocError` where an allocation failed.
+    pub fn of_told(alloc: Global, words: &str) -> Result<Option<Marks>, AllocError>
+        ensures { IfOk result (λ m. MatchOption m (IsNarrower words.now) (λ m. told_of m ≡ Some words.now)) }
+    {
+        if is_narrower(words) {
+            return Ok(None);
+        }
+        Ok(Some(Marks {
+            types: Vec::new(alloc),
+            start: 0,
+            levels: 0,
+            told: Some(String::from_str(alloc, words)?),
+        }))
     }
 
     /// The mark of a type of the profile of whose values some octets are encodings; `None` if these are judged.
@@ -72,7 +99,7 @@ impl Marks {
     }
 
     /// What is not looked at of a value of the type, which was read of an encoding of PER, or of OER. A component that is
-    /// its DEFAULT has no encoding, and is passed over.
+    /// its DEFAULT has no encoding, and is passed over. Where a text tells how the type differs, each value has this mark.
     ///
     /// # Errors
     /// `AllocError` where an allocation failed.
@@ -82,7 +109,12 @@ impl Marks {
         ty: &'v Checked,
         value: &'v Value,
         is_oer: bool,
-    ) -> Result<Looked, AllocError> {
+    ) -> Result<Looked, AllocError>
+        ensures { IfOk result (λ l. IfSome (told_of self.now) (λ words. IsSaidOfAll words l)) }
+    {
+        if let Some(words) = &self.told {
+            return said_of_all(alloc, words.as_str());
+        }
         let mut search = Search::new(alloc, self.types.as_slice(), is_oer);
         search.arrive(alloc, ty.get(), value, self.start, 0)?;
         search.go_on(alloc)?;

@@ -5,7 +5,7 @@ use Rattle.asn_jobs.specs.declared.job.Order.{Order}
 use Rattle.asn_jobs.specs.declared.job.Order.TheVariants as order
 use Rattle.asn_published.specs.declared.marks.Looked.{Looked}
 use Rattle.asn_published.specs.declared.marks.Place.{Place}
-use Rattle.asn_published_types.specs.Words.{words_of}
+use Rattle.asn_published.specs.Told.{said_words}
 
 -- how many other parts there are, where there are some
 abbrev pub more_words : ℕ → List ℕ
@@ -14,7 +14,7 @@ more_words n = if n == 0 then [] else codes ", and " ++ (decimal n ++ codes " mo
 -- what is said of a part that is not looked at, and of so many others
 abbrev pub place_words : Place → ℕ → List ℕ
 place_words p n = codes "not looked at: "
-    ++ (string_bytes p.path ++ (codes " (" ++ (words_of p.remark ++ (codes ")" ++ more_words n))))
+    ++ (string_bytes p.path ++ (codes " (" ++ (said_words p.said ++ (codes ")" ++ more_words n))))
 
 -- what is said of a value, if something is
 abbrev pub unlooked_words : Looked → Option (List ℕ)

@@ -23,12 +23,11 @@ fn more_words(alloc: Global, others: usize) -> Result<String, AllocError>
 fn place_words(alloc: Global, place: &Place, others: usize) -> Result<String, AllocError>
     ensures { IfOk result (λ words. string_bytes words ≡ place_words place.now others) }
 {
-    let Place { path, remark } = place;
-    let remark = *remark;
+    let Place { path, said } = place;
     let path = path.as_str();
     let more = more_words(alloc, others)?;
     let more = more.as_str();
-    format!(in alloc; "not looked at: {path} ({remark}){more}")
+    format!(in alloc; "not looked at: {path} ({said}){more}")
 }
 
 /// What is said of a value of which a part is not looked at: the path of the first, the remark on it, and how many others

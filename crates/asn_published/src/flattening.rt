@@ -308,8 +308,7 @@ pub fn flatten_alone_within(
     flatten_at_most(alloc, texts, options, Extent::Alone(name), most)
 }
 
-/// The module of these types, which is no larger than the bound. Where the profile does not take the one that is wanted,
-/// it is written again with those that it leads to, to find the one that is not taken.
+/// The module of these types, which is no larger than the bound.
 #[tactic(auto, using(crate::proofs::TextFaults::of_no_text))]
 fn flatten_at_most(
     alloc: Global,
@@ -323,23 +322,39 @@ fn flatten_at_most(
     ensures within { IfOk result (λ f. types_size (types_view f.module).types ≤ most) }
 {
     let (sources, wanted) = sources_of(alloc, texts, extent, most)?;
+    attempts(alloc, &sources, options, wanted, most)
+}
+
+/// The module of these types. Where the profile does not take the one that is wanted, it is written again with those that it
+/// leads to, to find the one that is not taken.
+fn attempts(
+    alloc: Global,
+    sources: &Sources<'_>,
+    options: Options,
+    wanted: Option<Wanted>,
+    most: u32,
+) -> Result<Flattened, PublishedFault>
+    ensures fault { IfErr result (IsOneOf 0) }
+    ensures accepted { IfOk result (λ f. Accepted (string_bytes f.text) (types_view f.module)) }
+    ensures within { IfOk result (λ f. types_size (types_view f.module).types ≤ most) }
+{
     let mut refused = vec![in alloc; false; sources.names.len()]?;
     if wanted.is_some() {
-        match attempt(alloc, &sources, options, refused.as_slice(), wanted, most) {
+        match attempt(alloc, sources, options, refused.as_slice(), wanted, most) {
             Err(PublishedFault::Unread(_) | PublishedFault::TooLarge { .. }) => {}
             answer => return answer,
         }
     }
     for _ in 1..MOST_TRIES {
-        match attempt(alloc, &sources, options, refused.as_slice(), None, most) {
+        match attempt(alloc, sources, options, refused.as_slice(), None, most) {
             Err(PublishedFault::Unread(fault)) => {
-                refuse(alloc, &sources, options, &mut refused, fault)?;
+                refuse(alloc, sources, options, &mut refused, fault)?;
             }
             Err(PublishedFault::TooLarge { most, name }) => {
-                refuse_large(&sources, &mut refused, most, name)?;
+                refuse_large(sources, &mut refused, most, name)?;
             }
             answer => return answer,
         }
     }
-    attempt(alloc, &sources, options, refused.as_slice(), None, most)
+    attempt(alloc, sources, options, refused.as_slice(), None, most)
 }

@@ -1,4 +1,4 @@
--- What a text tells of how a type differs from the published one.
+-- What a text says of how a type differs from the published one.
 use Rattle.std.specs.Prelude.{◌≡◌, ◌++◌, ℕ, List, Option, Some, false, codes, option_map, string_bytes}
 use Rattle.asn_published_types.specs.Words.{words_of}
 use Rattle.asn_published.specs.declared.marks.Looked.{Looked}
@@ -12,7 +12,7 @@ abbrev pub said_words : Said → List ℕ
 said_words (said.Remark remark) = words_of remark
 said_words (said.Told words) = string_bytes words
 
--- what a text tells of how the type differs, if it does
+-- what a text says of how the type differs, if it does
 abbrev pub told_of : Marks → Option (List ℕ)
 told_of m = option_map string_bytes m.told
 

@@ -17,7 +17,7 @@ pub struct Marks {
     /// The index of the type.
     start: usize,
     levels: u32,
-    /// How the type differs, where a text tells that and nothing is known of its parts: each value has this mark.
+    /// How the type differs, where a text says that and nothing is known of its parts: each value has this mark.
     told: Option<String>,
 }
 
@@ -53,7 +53,7 @@ impl Marks {
         })
     }
 
-    /// The mark of each value of a type of which a text tells how it differs from the published one, as
+    /// The mark of each value of a type of which a text says how it differs from the published one, as
     /// `wider: a.b: a constraint is not looked at`; `None` where it is narrower, so that its values are those of the
     /// published type.
     ///
@@ -99,7 +99,7 @@ impl Marks {
     }
 
     /// What is not looked at of a value of the type, which was read of an encoding of PER, or of OER. A component that is
-    /// its DEFAULT has no encoding, and is passed over. Where a text tells how the type differs, each value has this mark.
+    /// its DEFAULT has no encoding, and is passed over. Where a text says how the type differs, each value has this mark.
     ///
     /// # Errors
     /// `AllocError` where an allocation failed.

@@ -1,4 +1,4 @@
-//! What a text tells of how a type differs from the published one.
+//! What a text says of how a type differs from the published one.
 ghost use Rattle.std.specs.Prelude.{◌≡◌, true, IfOk};
 ghost use Rattle.asn_published.specs.Told.{IsNarrower, IsSaidOfAll};
 
@@ -10,7 +10,7 @@ use std::fmt;
 /// What the words of a type begin with whose values are all values of the published type.
 const NARROWER: &str = "narrower";
 
-/// What is said of a part of a value: the remark on its type, or what a text tells of the whole type.
+/// What is said of a part of a value: the remark on its type, or what a text says of the whole type.
 #[derive(Drop)]
 pub enum Said {
     Remark(Remark),

@@ -10,7 +10,9 @@ use Rattle.asn_values.proofs.value.Value.TheLaws.TheKnot as inside_values
 use Rattle.asn_rules.specs.contracts.newer.Skipped as fields
 use Rattle.asn_constraints.specs.contracts.constraint.Constraint as constraints
 use Rattle.asn_constraints.proofs.constraint.Constraint.TheLaws.TheKnot as inside_constraints
+use Rattle.asn_contents.proofs.contents.Contents.TheLaws.TheKnot as inside_contents
 use Rattle.asn_constraint_text.specs.contracts.module.ConstrainedModule as modules
+use Rattle.asn_constraint_text.specs.contracts.references.Named as names
 use Rattle.asn_constraint_text.proofs.references.References.TheLaws.TheKnot as inside_references
 use Rattle.asn_per.specs.contracts.rules.Per as per
 use Rattle.asn_per.specs.contracts.session.PerSession as per_sessions
@@ -34,8 +36,11 @@ constraint_send = search (crosses, inside_constraints.crosses_both, inside_value
 held_send : IsSend held.the_row
 held_send = search (crosses, inside_constraints.crosses_both, inside_values.crosses_both, type_send, sendable) depth 60 fits 20000
 
+named_send : IsSend names.the_row
+named_send = search (crosses, inside_references.crosses, inside_contents.crosses, constraint_send, sendable) depth 60 fits 20000
+
 module_send : IsSend modules.the_row
-module_send = search (maps.crosses, crosses, inside_references.crosses, type_send, constraint_send, sendable) depth 60 fits 20000
+module_send = search (maps.crosses, crosses, named_send, type_send, sendable) depth 60 fits 20000
 
 field_send : IsSend fields.the_row
 field_send = search (crosses, sendable) depth 60 fits 20000
@@ -89,8 +94,11 @@ constraint_sync = search (crosses, inside_constraints.crosses_both, inside_value
 held_sync : IsSync held.the_row
 held_sync = search (crosses, inside_constraints.crosses_both, inside_values.crosses_both, type_sync, sendable) depth 60 fits 20000
 
+named_sync : IsSync names.the_row
+named_sync = search (crosses, inside_references.crosses, inside_contents.crosses, constraint_sync, sendable) depth 60 fits 20000
+
 module_sync : IsSync modules.the_row
-module_sync = search (maps.crosses, crosses, inside_references.crosses, type_sync, constraint_sync, sendable) depth 60 fits 20000
+module_sync = search (maps.crosses, crosses, named_sync, type_sync, sendable) depth 60 fits 20000
 
 field_sync : IsSync fields.the_row
 field_sync = search (crosses, sendable) depth 60 fits 20000

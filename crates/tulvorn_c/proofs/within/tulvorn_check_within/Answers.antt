@@ -4,7 +4,7 @@ use Rattle.tulvorn_c.proofs.within.tulvorn_check_within.Goals.{in-Checked+in-0, 
 use Rattle.tulvorn_c.proofs.within.tulvorn_check_within.Goals as goal
 
 pub returns-clause-told : goal.returns-clause-told
-returns-clause-told g c =
+returns-clause-told c =
     elim c.match-it.branch [
       | in-Checked+in-0 w ↦ rw (c.in-Some.ensures, w.in-Checked.is, w.in-0.is, w.fault-is) w.check_by.ensures
       | in-Checked+in-1 w ↦ rw (c.in-Some.ensures, w.in-Checked.is, w.in-1.is, w.fault-is) w.check_by-in-1.ensures

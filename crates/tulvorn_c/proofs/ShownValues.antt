@@ -6,7 +6,7 @@ use mir.Val.{Val, vstruct, vcons, vnil, has_ty, WT}
 use base.Fml.{Fml, feq}
 use base.Logic.{ent, sep, via, fst∗, never}
 use types.Logic.{Logic, sem}
-use types.Kit.{Item, Goal, Seq, ‵, ◌⊛◌, ◌$◌, ◌∵◌, !, qed, move, drop, use1, split, fsplit, fjoin, fpick, feq_l, done}
+use types.Kit.{Item, Goal, Seq, ‵, ◌⊛◌, ◌$◌, !, qed, move, drop, use1, split, fsplit, fjoin, fpick, feq_l, done}
 use denote.RattleType.{RattleType}
 use denote.Laws.{Copy}
 use denote.Copied.{whole-copied}
@@ -14,7 +14,7 @@ use denote.Opens.{Opens}
 use denote.Param.{layout}
 use denote.Memory.{shared_of}
 use denote.RawPtr.{Ptr, block_ptr, null_ptr, ptr_val, in_a_block, Testable, rawptr_copy}
-use denote.Sharing.{ShrLaws, said, beside, held}
+use denote.Sharing.{ShrLaws, said, held}
 use denote.SharingLaws.{contraction, said_shr_laws, beside_shr_laws, held_shr_laws}
 use denote.Struct.Lending.{lent_at, lent_at_shr_laws}
 use denote.Struct.Owning.{shape, to}

@@ -1,5 +1,5 @@
 -- What is held tells what the decoder answered.
-use Rattle.std.proofs.Common.{◌≡◌, ◌⊎◌, inl, inr, Result, Ok, Err, IfOk, Some, string_bytes}
+use Rattle.std.proofs.Common.{◌≡◌, inl, inr, Result, Ok, Err, IfOk, Some, string_bytes}
 use Rattle.asn_rules.specs.Reasons.{name_of_unit}
 use Rattle.asn_explain.specs.Texts.{text_in}
 use Rattle.tulvorn_c.specs.Held.{constrained_of, held_octets}

@@ -216,11 +216,16 @@ static int differences(void) {
         "--: E (2 | 4)\n"
         "--! E narrower\n"
         "E ::= INTEGER\n"
+        "G ::= OCTET STRING\n"
+        "--: G (CONTAINING D)\n"
+        "H ::= SEQUENCE { g G }\n"
         "END\n";
     static const struct {
         const char *name, *words;
     } types[] = {
-        {"B", "wider: a constraint is not looked at"}, {"C", "narrower"}, {"D", ""}, {"E", "narrower"}, {NULL, NULL},
+        {"B", "wider: a constraint is not looked at"}, {"C", "narrower"}, {"D", ""}, {"E", "narrower"},
+        {"G", "wider: the contents of octets are not looked at"},
+        {"H", "wider: the contents of octets are not looked at"}, {NULL, NULL},
     };
     tulvorn_handle module = TULVORN_NONE, words = TULVORN_NONE;
     tulvorn_fault fault;
@@ -239,6 +244,7 @@ static int differences(void) {
     EACH_FAILS(words, tulvorn_difference(&module, TEXT("A"), &words));
     CHECK(refused > 0);
     EACH_FAILS(words, tulvorn_difference(&module, TEXT("D"), &words));
+    EACH_FAILS(words, tulvorn_difference(&module, TEXT("H"), &words));
     tulvorn_close(&words);
     tulvorn_close(&module);
     return 0;

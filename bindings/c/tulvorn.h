@@ -173,8 +173,9 @@ uint32_t tulvorn_type_levels(const tulvorn_handle *module, const uint8_t *name, 
    messages are then others than those of the published type: a caller that wants these alone refuses the type. It is what
    a line `--! NAME WORDS` of the text says of the name, or of one that its type refers to. `asn_tool flatten` writes such a
    line for each type that is not the same: its status, and the first reason, as `wider: a.b: a constraint is not looked
-   at`. No octets if the text has no such line. Answers MISUSE where `module` holds no module, NOT_TEXT, NO_NAME,
-   NO_MEMORY. */
+   at`. Octets of a type that a line with `CONTAINING` names are not judged. If the text says nothing else of such a type,
+   the words are `wider: the contents of octets are not looked at`. Else no octets. Answers MISUSE where `module` holds no
+   module, NOT_TEXT, NO_NAME, NO_MEMORY. */
 uint32_t tulvorn_difference(const tulvorn_handle *module, const uint8_t *name, size_t len, tulvorn_handle *words);
 
 /* Puts another handle of the same type into `other`, for another thread, say. Both share one tree and constraint.

@@ -10,11 +10,16 @@ use crate::fault::{DONE, MISUSE, NO_MEMORY, NO_NAME, NOT_TEXT};
 use crate::handle::Handle;
 use crate::object::Object;
 use crate::shown::Shown;
+use asn_contents::is_nowhere;
 use std::alloc::{AllocError, Global};
-use tulvorn::ConstrainedModule;
+use tulvorn::{ConstrainedModule, WholeFault};
+
+/// How a type differs of whose values some octets are encodings.
+const CONTENTS: &str = "wider: the contents of octets are not looked at";
 
 /// Puts into `words` how the type that the module assigns to a name differs from the published one, as the text of the
-/// module says; no octets where it says nothing: see `ConstrainedModule::difference_named`.
+/// module says: see `ConstrainedModule::difference_named`. Where it says nothing, but that octets of the values are
+/// encodings of other types, the words are that these are not looked at. Else no octets.
 #[unsafe(no_mangle)]
 pub extern "C" fn tulvorn_difference(
     alloc: Global,
@@ -70,7 +75,26 @@ fn difference_held(
 {
     let octets = match types.difference_named(alloc, name)? {
         Some(words) => Vec::from_slice(alloc, words.as_bytes())?,
-        None => Vec::new(alloc),
+        None => words_of_contents(alloc, types, name)?,
     };
     Handle::holding(alloc, Object::Octets(octets))
+}
+
+/// The words for a type of whose values some octets are encodings, which are not judged; no octets for another type.
+fn words_of_contents(
+    alloc: Global,
+    types: &ConstrainedModule,
+    name: &str,
+) -> Result<Vec<u8>, AllocError> {
+    let has_some = match types.contents_named(alloc, name) {
+        Ok(Some(contents)) => !is_nowhere(&contents),
+        Ok(None) => false,
+        Err(WholeFault::TooLarge) => true,
+        Err(WholeFault::Memory) => return Err(AllocError),
+    };
+    if has_some {
+        Vec::from_slice(alloc, CONTENTS.as_bytes())
+    } else {
+        Ok(Vec::new(alloc))
+    }
 }

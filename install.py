@@ -6,10 +6,10 @@ usage: python3 install.py [--program FILE] FOLDER
 It leaves FOLDER/bin/asn_tool, FOLDER/share/man/man1/asn_tool.1, FOLDER/share/bash-completion/completions/asn_tool and
 FOLDER/share/zsh/site-functions/_asn_tool. The last three are made from what the program's own `--help` says.
 
-The program is compiled from the sources of the crates without a proof, which takes some three minutes on four
-processors, and `asn_tool --version` says `unproved build`. Standard error has a line for each step, and one every ten
-seconds. With --program it is FILE: crates/asn_tool/out/asn_tool, say, where `rt run` or `rt ci` leaves the program that
-is proved.
+The program is compiled from the sources of the crates without a proof, which takes one and a half to three minutes on
+four processors, and `asn_tool --version` says `unproved build`. Standard error has a line for each step, and one every
+ten seconds. With --program it is FILE: crates/asn_tool/out/asn_tool, say, where `rt run` or `rt ci` leaves the program
+that is proved.
 """
 import os
 import re

@@ -152,3 +152,8 @@ NodeHasRead {F} c f ahead between x (frame.Octets q) old new =
     (all : List ℕ) → NodeGoesOn c f ahead between x all (c.to_units old)
     → Spells c.ruling.fielding (OctetsOf f) q.elements.items all (c.to_units new)
 NodeHasRead c f ahead between x y old new = ⊥
+
+-- why there are none, read on from this node
+abbrev pub StopsNode : {F : Type 0} → Coding → OctetCoding → (F → Ahead) → (F → Type 0) → Frame F → List ℕ → Stop → Type 0
+StopsNode c f ahead between x old why =
+    (all : List ℕ) → NodeGoesOn c f ahead between x all (c.to_units old) → Stops c.ruling.fielding (OctetsOf f) all why

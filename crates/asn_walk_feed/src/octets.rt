@@ -6,7 +6,7 @@ ghost use Rattle.asn_rules.specs.Stops.{Stops};
 ghost use Rattle.asn_rules.specs.declared.stop.Stop.TheVariants.{Short, Memory};
 ghost use Rattle.asn_walk_feed.specs.Feeding.{Waits, Ticked, StandsAfter};
 ghost use Rattle.asn_walk_feed.specs.Nodes.{nodes, HaveOctets};
-ghost use Rattle.asn_walk_feed.specs.Octets.{OctetsOf, OctetsGoOn, ReadsOctetsOn, StopsOctetsOn, OctetsGoOnTo, OctetsTook, KeepsOctets, ReadsOctetsFrom, StopsOctetsFrom, KeepsOctetsFrom, HasRead, NodeGoesOn, NodeHasRead, first_octets};
+ghost use Rattle.asn_walk_feed.specs.Octets.{OctetsOf, OctetsGoOn, ReadsOctetsOn, StopsOctetsOn, OctetsGoOnTo, OctetsTook, KeepsOctets, ReadsOctetsFrom, StopsOctetsFrom, KeepsOctetsFrom, HasRead, NodeGoesOn, NodeHasRead, StopsNode, first_octets};
 ghost use Rattle.asn_walk_feed.specs.Taken.{with_node};
 
 use crate::begun::Begun;
@@ -138,9 +138,8 @@ fn feed_node<R: FeedLeaves, K: InFragments<R>>(
     ensures at_unit { R.rules.at_unit units.new }
     ensures done { OnOk result (NodeHasRead R.rules (K.coding kind.now) R.ahead R.is_between node.old node.new
         units.old units.new) }
-    ensures stop { IfErr result (λ why. (all : List ℕ) → NodeGoesOn R.rules (K.coding kind.now) R.ahead R.is_between
-        node.old all (R.rules.to_units units.old)
-        → Stops R.rules.ruling.fielding (OctetsOf (K.coding kind.now)) all why) }
+    ensures stop { IfErr result (λ why. StopsNode R.rules (K.coding kind.now) R.ahead R.is_between node.old
+        units.old why) }
     ensures kept { result ≡ Err Short → ((all : List ℕ) → NodeGoesOn R.rules (K.coding kind.now) R.ahead
         R.is_between node.old all (R.rules.to_units units.old)
         → NodeGoesOn R.rules (K.coding kind.now) R.ahead R.is_between node.new all (R.rules.to_units units.new)) }

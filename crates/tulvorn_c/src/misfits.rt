@@ -38,7 +38,8 @@ pub extern "C" fn tulvorn_misfit(
     value: &Shown,
     words: &mut Handle,
 ) -> u32
-    ensures told { AskedOf (held_constrained ty.now.kept) (held_value value.now.kept) (words.new.kept ≡ words.old.kept)
+    ensures told { AskedOf (held_constrained ty.now.kept) (held_value value.now.kept)
+        (words.new.kept ≡ words.old.kept)
         (λ t v. TellsMisfit words.old.kept words.new.kept t v.datum) (plain result) }
 {
     let Some(it) = ty.object() else {
